@@ -1,6 +1,6 @@
 -- A request for one bit below place 21: it is granted where nothing is missing of it.
 use Rattle.std.proofs.Common.{◌≡◌, ℕ, ◌^◌, ◌<◌, Bool, true, false, ◌&&◌, not, ◌==◌, cond, inl, inr, sym, ◌∙◌, ap, arith}
-use Rattle.std.proofs.lemmas.Bool.{cases_eq, cond-false, false≢true, ne_eqb, true_from_ne_false}
+use Rattle.std.proofs.lemmas.Bool.{cases_eq, cond-false, ne_eqb, true_from_ne_false}
 use Rattle.std.proofs.lemmas.Nat.{pow_below}
 use Rattle.std.proofs.lemmas.Nat.Bits.{bit_at-pow_same, bit_at-pow_other, bit_at-zero}
 use Rattle.std.proofs.Math.Bool.{and-false}
@@ -19,14 +19,10 @@ none_missing p b given = mask_of-alike _ (λ k. false) 32 (λ k h. elim (cases_e
 ]) ∙ no_places
 
 one_missing : (p : ℕ → Bool) (b : ℕ) → b < 32 → p b ≡ false → (missing_of p (2 ^ b) == 0) ≡ false
-one_missing p b low refused = ne_eqb _ 0 (λ none.
-    let held : holds (missing_of p (2 ^ b)) b ≡ true =
-    holds_place (λ k. holds (2 ^ b) k && not (p k)) b low ∙ ap (λ n. n == 1 && not (p b)) (bit_at-pow_same b) ∙ ap not refused in
-    false≢true (sym (ap (λ n. n == 1) (bit_at-zero b)) ∙ sym (ap (λ n. holds n b) none) ∙ held))
+one_missing p b low refused = grind (arith, holds_place (λ k. holds (2 ^ b) k && not (p k)) b low, bit_at-pow_same b, bit_at-zero b)
 
 denied_not : (n m : ℕ) (b : Bool) (q : ℕ) → b ≡ false → cond b (Granted q) (Denied n) ≡ Granted m → ⊥
-denied_not n m true q e h = cc
-denied_not n m false q e h = cc
+denied_not n m b q h j = grind arith
 
 pub bit_is_its_check : BitIsItsCheck
 bit_is_its_check owner dacl g t b low =

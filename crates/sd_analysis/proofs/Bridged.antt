@@ -1,10 +1,9 @@
 -- What a token is granted, pass by pass; and which demands on its passes make a gain.
-use Rattle.std.proofs.Common.{◌≡◌, ℕ, Bool, true, false, not, ◌&&◌, ◌||◌, ◌==◌, cond, List, ◌∷◌, Option, Some, None, ◌⊎◌, inl, inr, refl, sym, ◌∙◌, ap}
+use Rattle.std.proofs.Common.{arith, ◌≡◌, ℕ, Bool, true, false, not, ◌&&◌, ◌||◌, ◌==◌, cond, List, ◌∷◌, Option, Some, None, ◌⊎◌, inl, inr, refl, sym, ◌∙◌, ap}
 use Rattle.std.specs.List.{list_any}
 use Rattle.std.specs.Option.{option_to_list}
-use Rattle.std.proofs.lemmas.Bool.{and_parts, and_from, or_cases, or_left, or_right, or_parts, or_from, and_left, and_right, false≢true, not-true, not_from_false}
-use Rattle.std.proofs.Math.Bool.{or-false, or_assoc}
-use Rattle.std.proofs.Math.Dec.{eqb-suc-zero}
+use Rattle.std.proofs.lemmas.Bool.{cases_Bool, and_parts, and_from, or_cases, and_left, false≢true, not-true}
+use Rattle.std.proofs.Math.Bool.{or_assoc}
 use Rattle.sd_sid.specs.Mapping.{MappingValue}
 use Rattle.sd_sid.specs.Sid.{SidValue, same_sid}
 use Rattle.sd_acl.specs.declared.ace.AceKind.{AceKind}
@@ -17,7 +16,6 @@ use Rattle.sd_analysis.specs.Sufficient.{Parts, gains, token_of, has_sid}
 use Rattle.sd_analysis.specs.Passes.{about, lists, owns, meets, stands_in, sids_stand}
 use Rattle.sd_analysis.specs.declared.witness.Demand.{Demand}
 use Rattle.sd_analysis.specs.declared.witness.PassSids.{PassSids}
-use Rattle.sd_analysis.specs.declared.witness.Witness.{Witness}
 
 -- ---- a token in its passes
 
@@ -43,16 +41,7 @@ abbrev pub in_passes : Bool → Bool → Bool → Bool
 in_passes restricted first second = first && (not restricted || second)
 
 owner_in_passes : (o p r limited place : Bool) → ((in_passes r o p && not limited) && place) ≡ in_passes r ((o && not limited) && place) ((p && not limited) && place)
-owner_in_passes false p r limited place = refl
-owner_in_passes true true true true place = refl
-owner_in_passes true false true true place = refl
-owner_in_passes true true true false true = refl
-owner_in_passes true false true false true = refl
-owner_in_passes true true true false false = refl
-owner_in_passes true false true false false = refl
-owner_in_passes true p false true place = refl
-owner_in_passes true p false false true = refl
-owner_in_passes true p false false false = refl
+owner_in_passes o p r limited place = grind arith
 
 pub granted_in_passes : (g : MappingValue) (parts : Parts) (t : TokenValue) (b : ℕ)
     → is_granted parts.owner parts.dacl g t b
@@ -77,21 +66,6 @@ granted_in_passes g parts t b =
 abbrev pub asks : Demand → Bool → Bool → Bool → Bool → Bool
 asks demand l n m q = cond demand.by_owner n l && (not (demand.unlisted && m) && not (demand.unowned && q))
 
--- where the old descriptor fails in a pass
-pick : (r m1 m2 : Bool) → in_passes r m1 m2 ≡ false → (here : Bool) × ((not (here && m1) ≡ true) × ((here ≡ true) ⊎ ((r ≡ true) × (not (not here && m2) ≡ true))))
-pick r false m2 h = (true, (refl, inl refl))
-pick false true m2 h = absurd (false≢true (sym h))
-pick true true false h = (false, (refl, inr (refl, refl)))
-pick true true true h = absurd (false≢true (sym h))
-
-there : (here m2 : Bool) → here ≡ true → not (not here && m2) ≡ true
-there true m2 h = refl
-there false m2 h = absurd (false≢true h)
-
-second_too : (r first second : Bool) → in_passes r first second ≡ true → r ≡ true → second ≡ true
-second_too true first second h is = (and_parts first second h).1
-second_too false first second h is = absurd (false≢true is)
-
 -- the old descriptor fails in the first pass alone, or the second pass shows the rest
 abbrev pub IsShown : (Demand → Bool) → (Demand → Bool) → Type 0
 IsShown first second =
@@ -103,36 +77,27 @@ IsShown first second =
 shown : (r l1 l2 n1 n2 m1 m2 q1 q2 by_owner : Bool) → in_passes r (cond by_owner n1 l1) (cond by_owner n2 l2) ≡ true
     → in_passes r m1 m2 ≡ false → in_passes r q1 q2 ≡ false
     → IsShown (λ demand. asks demand l1 n1 m1 q1) (λ demand. asks demand l2 n2 m2 q2)
-shown r l1 l2 n1 n2 m1 m2 q1 q2 by_owner granted not_listed not_owned =
-    let i = pick r m1 m2 not_listed in
-    let j = pick r q1 q2 not_owned in
-    let both : r ≡ true → cond by_owner n2 l2 ≡ true = second_too r (cond by_owner n1 l1) (cond by_owner n2 l2) granted in (
-      by_owner,
+shown r l1 l2 n1 n2 m1 m2 q1 q2 by_owner granted not_listed not_owned = (
+  by_owner,
+  (
+    not m1,
+    (
+      not q1,
       (
-        i.0,
-        (
-          j.0,
-          (
-            and_from _ _ (and_parts (cond by_owner n1 l1) _ granted).0 (and_from _ _ i.1.0 j.1.0),
-            elim i.1.1 [
-              | inl i_here ↦ elim j.1.1 [
-                | inl j_here ↦ inl (i_here, j_here)
-                | inr j_there ↦ inr (and_from _ _ (both j_there.0) (and_from _ _ (there i.0 m2 i_here) j_there.1))
-              ]
-              | inr i_there ↦ inr (and_from _ _ (both i_there.0) (and_from _ _ i_there.1 (elim j.1.1 [
-                | inl j_here ↦ there j.0 q2 j_here
-                | inr j_there ↦ j_there.1
-              ])))
-            ],
-          ),
-        ),
+        grind arith,
+        elim (cases_Bool (m1 || q1)) [
+          | inl second ↦ inr (grind arith)
+          | inr first ↦ inl (grind arith, grind arith)
+        ],
       ),
-    )
+    ),
+  ),
+)
 
 -- ---- gains
 
 neither : (x y z : Bool) → (x || (y || z)) ≡ false → (x ≡ false) × ((y ≡ false) × (z ≡ false))
-neither x y z h = let outer = or_parts x (y || z) h in let inner = or_parts y z outer.1 in (outer.0, (inner.0, inner.1))
+neither x y z h = grind arith
 
 module _ (g : MappingValue) (old new : Parts) (b : ℕ) where
   abbrev shows : (AceKind → SidValue → Bool) → Demand → Bool
@@ -164,21 +129,15 @@ module _ (g : MappingValue) (old new : Parts) (b : ℕ) where
 -- ---- and back: what the passes of a witness show, it gains
 
 refuse : (here m1 m2 : Bool) → not (here && m1) ≡ true → not (not here && m2) ≡ true → (m1 && m2) ≡ false
-refuse true m1 m2 first second = and_left m1 m2 (not-true m1 first)
-refuse false m1 m2 first second = and_right m1 m2 (not-true m2 second)
+refuse here m1 m2 h j = grind arith
 
 either : (by_owner l1 l2 n1 n2 r : Bool) → in_passes r (cond by_owner n1 l1) (cond by_owner n2 l2) ≡ true
     → (in_passes r l1 l2 || (in_passes r n1 n2 || false)) ≡ true
-either true l1 l2 n1 n2 r h = or_right (in_passes r l1 l2) _ (or_left (in_passes r n1 n2) false h)
-either false l1 l2 n1 n2 r h = or_left (in_passes r l1 l2) _ h
-
-unprivileged : (w : Witness) (base : List (SidValue × GroupState)) (b : ℕ) → privileged (token_of base w) b ≡ false
-unprivileged w base b = refl
+either by_owner l1 l2 n1 n2 r h = grind arith
 
 restricting_is : (allowed : SidValue) (denied : Option SidValue) (s : SidValue)
     → list_any (λ one. same_sid one s) (allowed ∷ option_to_list denied) ≡ (same_sid allowed s || has_sid denied s)
-restricting_is allowed None s = refl
-restricting_is allowed (Some d) s = ap (λ x. same_sid allowed s || x) (or-false (same_sid d s))
+restricting_is allowed denied s = grind arith
 
 module _ (g : MappingValue) (old new : Parts) (base : List (SidValue × GroupState)) (b : ℕ) where
   gain_of : (t : TokenValue) (by_owner : Bool) → privileged t b ≡ false
@@ -188,12 +147,7 @@ module _ (g : MappingValue) (old new : Parts) (base : List (SidValue × GroupSta
       → in_passes (is_restricted t) (lists g old (stands_in First t) b) (lists g old (stands_in Second t) b) ≡ false
       → in_passes (is_restricted t) (owns old (stands_in First t) b) (owns old (stands_in Second t) b) ≡ false
       → gains g old new t b ≡ true
-  gain_of t by_owner none granted not_listed not_owned = and_from _ _
-      (granted_in_passes g new t b
-      ∙ ap (λ x. in_passes (is_restricted t) (lists g new (stands_in First t) b) (lists g new (stands_in Second t) b)
-      || (in_passes (is_restricted t) (owns new (stands_in First t) b) (owns new (stands_in Second t) b) || x)) none
-      ∙ either by_owner _ _ _ _ (is_restricted t) granted)
-      (not_from_false _ (granted_in_passes g old t b ∙ or_from _ _ not_listed (or_from _ _ not_owned none)))
+  gain_of t by_owner h j k l = grind (arith, granted_in_passes g new t b, granted_in_passes g old t b)
 
   -- by its first pass alone
   pub unrestricted_gains : (by_owner : Bool) (sids : PassSids)
@@ -210,7 +164,7 @@ module _ (g : MappingValue) (old new : Parts) (base : List (SidValue × GroupSta
   again_is sids more = λ i kind s. restricting_is more.allowed more.denied s i
 
   restricted_is : (sids more : PassSids) → is_restricted (token_of base (record { first = sids; second = Some more })) ≡ true
-  restricted_is sids more = ap not (eqb-suc-zero _)
+  restricted_is sids more = grind arith
 
   -- and by both
   pub restricted_gains : (by_owner unlisted unowned : Bool) (sids more : PassSids)

@@ -1,8 +1,7 @@
 -- Verdicts on all requests are the same just where the same bits are granted.
-use Rattle.std.proofs.Common.{subst, suc, length, [], ◌∷◌, ◌++◌, take, drop, append-nil, ◌≡◌, ℕ, ◌^◌, ◌<◌, ◌≤◌, Bool, true, false, not, ◌&&◌, ◌||◌, ◌==◌, nat_lt, List, Option, Some, None, inl, inr, refl, sym, ◌∙◌, ap, arith, remove}
-use Rattle.std.proofs.Math.Bool.{and-false}
+use Rattle.std.proofs.Common.{subst, suc, length, [], ◌∷◌, ◌++◌, take, drop, append-nil, ◌≡◌, ℕ, ◌^◌, ◌<◌, ◌≤◌, Bool, true, false, not, ◌&&◌, ◌||◌, ◌==◌, nat_lt, List, Option, Some, refl, sym, ◌∙◌, ap, arith, remove}
 use Rattle.std.proofs.Math.Dec.{eqb-suc-zero}
-use Rattle.std.proofs.lemmas.Bool.{and_parts, cases_lt, false≢true, le-ltb, ne_eqb, not-true, or_right}
+use Rattle.std.proofs.lemmas.Bool.{false≢true, le-ltb, or_right}
 use Rattle.std.proofs.lemmas.List.{take_all, drop_all}
 use Rattle.std.proofs.lemmas.List.Elements.{All-head}
 use Rattle.sd_sid.specs.Mask.{holds, mask_of}
@@ -18,7 +17,7 @@ use Rattle.sd_check.specs.declared.verdict.Verdict.TheVariants.{Granted}
 use Rattle.sd_check.proofs.LawProofs.{one_test}
 use Rattle.sd_analysis.specs.Base.{HasBase}
 use Rattle.sd_analysis.specs.Compare.{AreGains, HasABit}
-use Rattle.sd_analysis.specs.Effect.{HasEffect, HasNoEffect}
+use Rattle.sd_analysis.specs.Effect.{HasEffect, HasNoEffect, parts_with}
 use Rattle.sd_analysis.specs.Sufficient.{Parts, gains, token_of, with_denied}
 use Rattle.sd_analysis.specs.declared.compare_report.Change.{Change}
 use Rattle.sd_analysis.proofs.BitChecks.{bit_is_its_check}
@@ -34,9 +33,7 @@ unfolding judged_list
 same_verdicts owner es fewer g t same r = ap (λ p. judged_list g p r) (one_test _ _ same)
 
 both_or_neither : (a b : Bool) → (a ≡ true → b ≡ true) → (b ≡ true → a ≡ true) → a ≡ b
-both_or_neither true b there back = sym (there refl)
-both_or_neither false true there back = back refl
-both_or_neither false false there back = refl
+both_or_neither a b h j = grind arith
 
 -- neither list grants a token more than the other
 pub no_effect : (owner : Option SidValue) (es : List Ace) (g : MappingValue) (base : List (SidValue × GroupState)) (place : ℕ)
@@ -49,9 +46,7 @@ no_effect owner es g base place none_gained none_lost t r has =
 -- from place 21 on no list grants anything, and the owner has nothing
 high_bit : (low first again restricted own limited take security : Bool) (b : ℕ) → low ≡ false → 21 ≤ b
     → (((low && first) && (not restricted || (low && again))) || is_implied (own && not limited) take security b) ≡ is_implied false take security b
-high_bit low first again restricted own limited take security b is high =
-    let owners : (b == 17 || b == 18) ≡ false = rw (ne_eqb b 17 (λ e. absurd (omega arith)), ne_eqb b 18 (λ e. absurd (omega arith))) refl in
-    rw (is, owners, and-false (own && not limited)) refl
+high_bit low first again restricted own limited take security b h j = grind arith
 
 same_high : (owner : Option SidValue) (es others : List Ace) (g : MappingValue) (t : TokenValue) (b : ℕ) → 21 ≤ b
     → is_granted owner (Some es) g t b ≡ is_granted owner (Some others) g t b
@@ -62,10 +57,7 @@ same_high owner es others g t b high = privileged es ∙ sym (privileged others)
 -- a bit that one list grants a token and the other doesn't is below place 21
 low_bit : (owner : Option SidValue) (es others : List Ace) (g : MappingValue) (t : TokenValue) (b : ℕ)
     → is_granted owner (Some es) g t b ≡ true → is_granted owner (Some others) g t b ≡ false → b < 21
-low_bit owner es others g t b granted refused = elim (cases_lt b 21) [
-  | inl low ↦ low
-  | inr high ↦ absurd (false≢true (sym refused ∙ (sym (same_high owner es others g t b high) ∙ granted)))
-]
+low_bit owner es others g t b granted refused = grind (arith, same_high owner es others g t b)
 
 -- and a request for it has two verdicts
 two_verdicts : (owner : Option SidValue) (es others : List Ace) (g : MappingValue) (t : TokenValue) (b : ℕ)
@@ -77,39 +69,13 @@ two_verdicts owner es others g t b granted refused same =
     false≢true (sym refused ∙ (bit_is_its_check owner (Some others) g t b low).0 (sym same ∙ here))
 
 gained_parts : (now before : Bool) → (now && not before) ≡ true → (now ≡ true) × (before ≡ false)
-gained_parts now before h = let parts = and_parts now (not before) h in (parts.0, not-true before parts.1)
-
--- a token that gains a bit without the entry, or loses one
-pub effect_gains : (owner : Option SidValue) (es : List Ace) (g : MappingValue) (base : List (SidValue × GroupState)) (place : ℕ) (t : TokenValue) (b : ℕ)
-    → HasBase base t → (is_granted owner (Some (remove es place)) g t b && not (is_granted owner (Some es) g t b)) ≡ true
-    → HasEffect owner es g base place
-effect_gains owner es g base place t b has gained = record {
-  token = t;
-  has_base = has;
-  request = 2 ^ b;
-  differs = let parts = gained_parts _ _ gained in two_verdicts owner (remove es place) es g t b parts.0 parts.1;
-}
-
-pub effect_loses : (owner : Option SidValue) (es : List Ace) (g : MappingValue) (base : List (SidValue × GroupState)) (place : ℕ) (t : TokenValue) (b : ℕ)
-    → HasBase base t → (is_granted owner (Some es) g t b && not (is_granted owner (Some (remove es place)) g t b)) ≡ true
-    → HasEffect owner es g base place
-effect_loses owner es g base place t b has lost = record {
-  token = t;
-  has_base = has;
-  request = 2 ^ b;
-  differs = λ same. let parts = gained_parts _ _ lost in two_verdicts owner es (remove es place) g t b parts.0 parts.1 (sym same);
-}
+gained_parts now before h = grind arith
 
 -- ---- what a comparison with the list without the entry comes to
 
--- the list, and the same without the entry
-abbrev whole : Option SidValue → List Ace → Parts
-whole owner es = record { owner = owner; dacl = Some es }
-
 still_there : (base : List (SidValue × GroupState)) (denied : Option SidValue) (kind : AceKind) (s : SidValue)
     → a_group_stands_for base kind s ≡ true → a_group_stands_for (with_denied base denied) kind s ≡ true
-still_there base None kind s h = h
-still_there base (Some d) kind s h = or_right _ _ h
+still_there base denied kind s h = grind arith
 
 -- a token has the base where its groups are the base, or that and one more
 pub has_base_with : (base : List (SidValue × GroupState)) (denied : Option SidValue) (t : TokenValue) → t.groups ≡ with_denied base denied → HasBase base t
@@ -135,28 +101,40 @@ none_gains g base old new (c ∷ cs) are none t b has granted = absurd (false≢
 
 module _ (owner : Option SidValue) (es others : List Ace) (g : MappingValue) (base : List (SidValue × GroupState)) (place : ℕ) (is : others ≡ remove es place) where
   -- a token that gains a bit, or loses one
-  pub effect_by_gain : (changes : List Change) → AreGains g base (whole owner es) (whole owner others) changes → (length changes == 0) ≡ false
+  pub effect_by_gain : (changes : List Change) → AreGains g base (parts_with owner es) (parts_with owner others) changes → (length changes == 0) ≡ false
       → HasEffect owner es g base place
   effect_by_gain changes are some =
-      let shown = gains_show g base (whole owner es) (whole owner others) changes are some in
-      effect_gains owner es g base place shown.0 shown.1 shown.2.0
-      (subst (λ (list : List Ace). gains g (whole owner es) (whole owner list) shown.0 shown.1 ≡ true) is shown.2.1)
+      let shown = gains_show g base (parts_with owner es) (parts_with owner others) changes are some in
+      record {
+        token = shown.0;
+        has_base = shown.2.0;
+        request = 2 ^ shown.1;
+        differs =
+            let parts = gained_parts _ _ (subst (λ (list : List Ace). gains g (parts_with owner es) (parts_with owner list) shown.0 shown.1 ≡ true) is shown.2.1) in
+            two_verdicts owner (remove es place) es g shown.0 shown.1 parts.0 parts.1;
+      }
 
-  pub effect_by_loss : (changes : List Change) → AreGains g base (whole owner others) (whole owner es) changes → (length changes == 0) ≡ false
+  pub effect_by_loss : (changes : List Change) → AreGains g base (parts_with owner others) (parts_with owner es) changes → (length changes == 0) ≡ false
       → HasEffect owner es g base place
   effect_by_loss changes are some =
-      let shown = gains_show g base (whole owner others) (whole owner es) changes are some in
-      effect_loses owner es g base place shown.0 shown.1 shown.2.0
-      (subst (λ (list : List Ace). gains g (whole owner list) (whole owner es) shown.0 shown.1 ≡ true) is shown.2.1)
+      let shown = gains_show g base (parts_with owner others) (parts_with owner es) changes are some in
+      record {
+        token = shown.0;
+        has_base = shown.2.0;
+        request = 2 ^ shown.1;
+        differs = λ same.
+            let parts = gained_parts _ _ (subst (λ (list : List Ace). gains g (parts_with owner list) (parts_with owner es) shown.0 shown.1 ≡ true) is shown.2.1) in
+            two_verdicts owner es (remove es place) g shown.0 shown.1 parts.0 parts.1 (sym same);
+      }
 
-  pub no_effect_by_none : (gained lost : List Change) → AreGains g base (whole owner es) (whole owner others) gained → AreGains g base (whole owner others) (whole owner es) lost
+  pub no_effect_by_none : (gained lost : List Change) → AreGains g base (parts_with owner es) (parts_with owner others) gained → AreGains g base (parts_with owner others) (parts_with owner es) lost
       → (length gained == 0) ≡ true → (length lost == 0) ≡ true → HasNoEffect owner es g base place
   no_effect_by_none gained lost are_gained are_lost none nothing =
       no_effect owner es g base place
-      (λ t b has granted. none_gains g base (whole owner es) (whole owner others) gained are_gained none t b has
+      (λ t b has granted. none_gains g base (parts_with owner es) (parts_with owner others) gained are_gained none t b has
       (subst (λ (list : List Ace). is_granted owner (Some list) g t b ≡ true) (sym is) granted))
       (λ t b has granted. subst (λ (list : List Ace). is_granted owner (Some list) g t b ≡ true) is
-      (none_gains g base (whole owner others) (whole owner es) lost are_lost nothing t b has granted))
+      (none_gains g base (parts_with owner others) (parts_with owner es) lost are_lost nothing t b has granted))
 
 -- there is no entry at a place beyond the list
 pub no_effect_beyond : (owner : Option SidValue) (es : List Ace) (g : MappingValue) (base : List (SidValue × GroupState)) (place : ℕ)

@@ -35,26 +35,11 @@ found_more fs i f b low is h =
     ]
 
 pub still_gone : (before now : Report) (b : ℕ) → IsLess before now → holds before.wanted b ≡ false → holds now.wanted b ≡ false
-still_gone before now b less gone = false_from_ne_true _ (λ still. false≢true (sym gone ∙ less b still))
-
-pub at_item : {X : Type 0} (P : X → Type 0) (xs : List X) (i : ℕ) (x : X) → i < length xs → x ≡ get_or xs i x → All P xs → P x
-at_item P xs i x low is all = subst P (sym is) (all i x low)
+still_gone before now b less gone = grind (arith, less b)
 
 -- at the item of a step
-pub at_each : (shows : Witness → ℕ → Bool) (fs : List Finding) (i : ℕ) (f : Finding) → i < length fs → f ≡ get_or fs i f
-    → All (λ (x : Finding). (b : ℕ) → holds x.mask b ≡ true → shows (record { first = x.sids; second = None }) b ≡ true) fs
-    → (b : ℕ) → holds f.mask b ≡ true → shows (record { first = f.sids; second = None }) b ≡ true
-at_each shows fs i f low is all = at_item (λ (x : Finding). (b : ℕ) → holds x.mask b ≡ true → shows (record { first = x.sids; second = None }) b ≡ true) fs i f low is all
-
-pub at_second : (shows : Witness → ℕ → Bool) (first : Finding) (fs : List Finding) (i : ℕ) (f : Finding) → i < length fs → f ≡ get_or fs i f
-    → All (λ (x : Finding). (b : ℕ) → holds first.mask b ≡ true → holds x.mask b ≡ true → shows (record { first = first.sids; second = Some x.sids }) b ≡ true) fs
-    → (b : ℕ) → holds first.mask b ≡ true → holds f.mask b ≡ true → shows (record { first = first.sids; second = Some f.sids }) b ≡ true
-at_second shows first fs i f low is all = at_item (λ (x : Finding). (b : ℕ) → holds first.mask b ≡ true → holds x.mask b ≡ true → shows (record { first = first.sids; second = Some x.sids }) b ≡ true) fs i f low is all
-
-pub at_first : (shows : Witness → ℕ → Bool) (ss fs : List Finding) (i : ℕ) (f : Finding) → i < length fs → f ≡ get_or fs i f
-    → All (λ (x : Finding). All (λ (s : Finding). (b : ℕ) → holds x.mask b ≡ true → holds s.mask b ≡ true → shows (record { first = x.sids; second = Some s.sids }) b ≡ true) ss) fs
-    → All (λ (s : Finding). (b : ℕ) → holds f.mask b ≡ true → holds s.mask b ≡ true → shows (record { first = f.sids; second = Some s.sids }) b ≡ true) ss
-at_first shows ss fs i f low is all = at_item (λ (x : Finding). All (λ (s : Finding). (b : ℕ) → holds x.mask b ≡ true → holds s.mask b ≡ true → shows (record { first = x.sids; second = Some s.sids }) b ≡ true) ss) fs i f low is all
+pub at_item : {X : Type 0} (P : X → Type 0) (xs : List X) (i : ℕ) (x : X) → i < length xs → x ≡ get_or xs i x → All P xs → P x
+at_item P xs i x low is all = subst P (sym is) (all i x low)
 
 pub none_found : (fs : List Finding) (b : ℕ) → length fs ≡ 0 → is_found fs b ≡ false
 none_found [] b h = refl
@@ -127,22 +112,12 @@ module _ (case : Case) where
       (t : TokenValue) (b : ℕ) → b < 21 → HasBase case.base.now t → holds report.wanted b ≡ true
       → (token_meets case First (record { by_owner = by_owner; unlisted = true; unowned = true }) t b ≡ false) × IsRefusedAgain case t by_owner b
 
-  refuted : {P Q : Bool} → (P ≡ false) ⊎ (Q ≡ false) → P ≡ true → Q ≡ true → ⊥
-  refuted (inl p) h k = false≢true (sym p ∙ h)
-  refuted (inr q) h k = false≢true (sym q ∙ k)
-
   not_shown : (t : TokenValue) (b : ℕ) (by_owner unlisted unowned : Bool)
       → (token_meets case First (record { by_owner = by_owner; unlisted = true; unowned = true }) t b ≡ false) × IsRefusedAgain case t by_owner b
       → token_meets case First (record { by_owner = by_owner; unlisted = unlisted; unowned = unowned }) t b ≡ true
       → ((unlisted ≡ true) × (unowned ≡ true)) ⊎ (token_meets case Second (record { by_owner = by_owner; unlisted = not unlisted; unowned = not unowned }) t b ≡ true)
       → ⊥
-  not_shown t b by_owner true true none first rest = false≢true (sym none.0 ∙ first)
-  not_shown t b by_owner true false none first (inl both) = false≢true both.1
-  not_shown t b by_owner true false none first (inr second) = refuted none.1.owner_second first second
-  not_shown t b by_owner false true none first (inl both) = false≢true both.0
-  not_shown t b by_owner false true none first (inr second) = refuted none.1.list_second first second
-  not_shown t b by_owner false false none first (inl both) = false≢true both.0
-  not_shown t b by_owner false false none first (inr second) = refuted none.1.both_second first second
+  not_shown t b by_owner unlisted unowned none first rest = grind arith
 
   at_either : (P : Bool → Type 0) (x : Bool) → P false → P true → P x
   at_either P false f t = f

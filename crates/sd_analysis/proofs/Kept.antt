@@ -1,28 +1,26 @@
 -- The SIDs of a pass that decide: with these alone it shows what it showed.
-use Rattle.std.proofs.Common.{◌≡◌, ℕ, Bool, true, false, not, ◌&&◌, ◌||◌, nat_lt, cond, List, [], ◌∷◌, Option, Some, None, ◌⊎◌, inl, inr, refl, sym, ◌∙◌, ap}
+use Rattle.std.proofs.Common.{arith, ◌≡◌, ℕ, Bool, true, false, not, ◌&&◌, ◌||◌, nat_lt, cond, List, [], ◌∷◌, Option, Some, None, ◌⊎◌, inl, inr, refl, sym, ◌∙◌, ap}
 use Rattle.std.specs.List.{AllByRecursion, list_any, filter_map, cons_option}
 use Rattle.std.specs.Option.{option_to_list}
-use Rattle.std.proofs.lemmas.Bool.{and_parts, and_from, or_left, or_right, cases_Bool, false≢true, not_from_false}
+use Rattle.std.proofs.lemmas.Bool.{and_parts, and_from, or_left, or_right, false≢true, not_from_false}
 use Rattle.std.proofs.lemmas.List.Folds.{list_any-append}
 use Rattle.sd_sid.specs.Mapping.{MappingValue}
-use Rattle.sd_sid.specs.Sid.{SidValue, same_sid, owner_rights}
+use Rattle.sd_sid.specs.Sid.{SidValue, same_sid}
 use Rattle.sd_sid.proofs.Compared.{same_sid-itself}
 use Rattle.sd_acl.specs.Ace.{is_allow, is_inherit_only}
 use Rattle.sd_acl.specs.declared.ace.Ace.{Ace}
 use Rattle.sd_acl.specs.declared.ace.AceKind.{AceKind}
 use Rattle.sd_acl.specs.declared.ace.AceKind.TheVariants.{Allow, Deny}
 use Rattle.sd_check.specs.Check.{first, is_allowed_by, subject}
-use Rattle.sd_analysis.specs.Sufficient.{Parts, is_of_kind, subject_if, is_named, has_sid, allowed_sids, denied_sids, is_among}
+use Rattle.sd_analysis.specs.Sufficient.{Parts, is_of_kind, subject_if, is_named, allowed_sids, denied_sids, is_among}
 use Rattle.sd_analysis.specs.Passes.{about, lists}
 use Rattle.sd_analysis.proofs.Narrowed.{IsLess, IsIn, allow_decides, none_allowed}
 
 is_allow-Allow : (kind : AceKind) → is_allow kind ≡ true → kind ≡ Allow
-is_allow-Allow Allow h = refl
-is_allow-Allow Deny h = absurd (false≢true h)
+is_allow-Allow kind h = grind arith
 
 is_allow-Deny : (kind : AceKind) → is_allow kind ≡ false → kind ≡ Deny
-is_allow-Deny Allow h = absurd (false≢true (sym h))
-is_allow-Deny Deny h = refl
+is_allow-Deny kind h = grind arith
 
 pub about_some : (stands : AceKind → SidValue → Bool) (kind : AceKind) (who : Option SidValue) → about stands kind who ≡ true
     → (s : SidValue) × ((who ≡ Some s) × (stands kind s ≡ true))
@@ -64,23 +62,15 @@ IsWithin parts before now = (kind : AceKind) (s : SidValue) → is_named parts s
 pub about_less : (before now : AceKind → SidValue → Bool) (kind : AceKind) (who : Option SidValue)
     → ((s : SidValue) → who ≡ Some s → now kind s ≡ true → before kind s ≡ true)
     → about now kind who ≡ true → about before kind who ≡ true
-about_less before now kind None h is = is
-about_less before now kind (Some s) h is = h s refl is
+about_less before now kind who h j = grind arith
 
 pub owner_named : (owner : Option SidValue) (dacl : Option (List Ace)) (s : SidValue) → owner ≡ Some s → is_named (record { owner = owner; dacl = dacl }) s ≡ true
-owner_named None dacl s is = absurd cc
-owner_named (Some o) dacl s is = let same : o ≡ s = cc in or_left _ _ (ap (λ x. same_sid o x) (sym same) ∙ same_sid-itself o)
+owner_named owner dacl s h = grind (arith, same_sid-itself)
 
 -- of whom an entry speaks, the descriptor names
 pub subject_named : (owner : Option SidValue) (es : List Ace) (e : Ace) (s : SidValue) → IsIn e es → subject owner e.sid ≡ Some s
     → is_named (record { owner = owner; dacl = Some es }) s ≡ true
-subject_named owner es e s is_in is = elim (cases_Bool (same_sid e.sid owner_rights)) [
-  | inl special ↦ owner_named owner (Some es) s (sym (ap (λ c. cond c owner (Some e.sid)) special) ∙ is)
-  | inr plain ↦
-      let same : Some e.sid ≡ Some s = sym (ap (λ c. cond c owner (Some e.sid)) plain) ∙ is in
-      let eq : e.sid ≡ s = cc in
-      or_right (has_sid owner s) _ (is_in (λ x. same_sid x.sid s) (ap (λ x. same_sid x s) eq ∙ same_sid-itself s))
-]
+subject_named owner es e s is_in is = grind (arith, same_sid-itself, is_in (λ x. same_sid x.sid s))
 
 all_less : (before now : AceKind → SidValue → Bool) (es : List Ace) → ((e : Ace) → IsIn e es → IsLess before now e) → AllByRecursion (IsLess before now) es
 all_less before now [] h = tt

@@ -1,7 +1,7 @@
 -- A pass with fewer SIDs: what decided still decides where its SID is kept.
-use Rattle.std.proofs.Common.{◌≡◌, ℕ, Bool, true, false, not, ◌&&◌, List, [], ◌∷◌, Option, Some, None, ◌⊎◌, inl, inr, refl, sym, ◌∙◌, ap, find}
+use Rattle.std.proofs.Common.{arith, ◌≡◌, ℕ, Bool, true, false, not, ◌&&◌, List, [], ◌∷◌, Option, Some, None, ◌⊎◌, inl, inr, refl, sym, ◌∙◌, ap, find}
 use Rattle.std.specs.List.{AllByRecursion, list_any}
-use Rattle.std.proofs.lemmas.Bool.{and_parts, and_from, or_left, or_right, cases_Bool, false≢true}
+use Rattle.std.proofs.lemmas.Bool.{and_parts, or_left, or_right, cases_Bool, false≢true}
 use Rattle.sd_sid.specs.Mask.{holds}
 use Rattle.sd_sid.specs.Mapping.{MappingValue, mapped}
 use Rattle.sd_sid.specs.Sid.{SidValue}
@@ -15,15 +15,10 @@ abbrev pub IsLess : (AceKind → SidValue → Bool) → (AceKind → SidValue �
 IsLess before now e = now e.kind e.sid ≡ true → before e.kind e.sid ≡ true
 
 less : (effective before now held : Bool) → (now ≡ true → before ≡ true) → ((effective && before) && held) ≡ false → ((effective && now) && held) ≡ false
-less false before now held more h = refl
-less true before false held more h = refl
-less true before true held more h = sym (ap (λ x. x && held) (more refl)) ∙ h
+less effective before now held h j = grind arith
 
 kept : (effective before now held : Bool) → now ≡ true → ((effective && before) && held) ≡ true → ((effective && now) && held) ≡ true
-kept effective before now held is h =
-    let outer = and_parts (effective && before) held h in
-    let inner = and_parts effective before outer.0 in
-    and_from (effective && now) held (and_from effective now inner.0 is) outer.1
+kept effective before now held h j = grind arith
 
 find_here : {X : Type 0} (p : X → Bool) (x : X) (xs : List X) → p x ≡ true → find p (x ∷ xs) ≡ Some x
 find_here p x xs h = rw h refl

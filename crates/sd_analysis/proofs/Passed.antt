@@ -1,7 +1,6 @@
 -- What a pass shows of two descriptors, two SIDs show.
-use Rattle.std.proofs.Common.{◌≡◌, ℕ, Bool, true, false, not, ◌&&◌, ◌||◌, ◌==◌, nat_lt, cond, List, [], ◌∷◌, Option, Some, None, ◌⊎◌, inl, inr, refl, sym, ◌∙◌, ap, arith}
-use Rattle.std.specs.List.{list_any}
-use Rattle.std.proofs.lemmas.Bool.{and_parts, and_from, or_cases, or_left, or_right, false≢true, not-true, eqb-true, lt-ltb, and_right, not_from_false, false_from_ne_true}
+use Rattle.std.proofs.Common.{◌≡◌, ℕ, Bool, true, false, not, ◌&&◌, ◌||◌, ◌==◌, nat_lt, cond, List, [], Option, Some, None, ◌⊎◌, inl, inr, refl, sym, ◌∙◌, ap, arith}
+use Rattle.std.proofs.lemmas.Bool.{and_parts, and_from, or_cases, or_left, or_right, false≢true, not-true, and_right, not_from_false}
 use Rattle.sd_sid.specs.Mapping.{MappingValue}
 use Rattle.sd_sid.specs.Sid.{SidValue, same_sid}
 use Rattle.sd_sid.proofs.Compared.{same_sid-true, same_sid-itself}
@@ -9,25 +8,22 @@ use Rattle.sd_acl.specs.declared.ace.Ace.{Ace}
 use Rattle.sd_acl.specs.declared.ace.AceKind.{AceKind}
 use Rattle.sd_acl.specs.declared.ace.AceKind.TheVariants.{Allow, Deny}
 use Rattle.sd_check.specs.Check.{limits_owner}
-use Rattle.sd_check.specs.Token.{TokenValue, counts, a_group_stands_for, stands_for}
+use Rattle.sd_check.specs.Token.{TokenValue, a_group_stands_for, stands_for}
 use Rattle.sd_check.specs.declared.grounds.Pass.{Pass}
 use Rattle.sd_check.specs.declared.grounds.Pass.TheVariants.{First, Second}
 use Rattle.sd_check.specs.declared.token.GroupState.{GroupState}
-use Rattle.sd_check.specs.declared.token.GroupState.TheVariants.{Enabled, DenyOnly, Disabled}
 use Rattle.sd_analysis.specs.Base.{HasBase}
 use Rattle.sd_analysis.specs.Sufficient.{Parts, with_denied, is_named, has_sid, allowed_sids, denied_sids, is_among, MayDecide}
-use Rattle.sd_analysis.specs.Passes.{about, lists, owns, meets, stands_in, sids_stand}
+use Rattle.sd_analysis.specs.Passes.{lists, owns, meets, stands_in, sids_stand}
 use Rattle.sd_analysis.specs.declared.witness.Demand.{Demand}
 use Rattle.sd_analysis.specs.declared.witness.PassSids.{PassSids}
+use Rattle.sd_analysis.proofs.Walks.{stands_for_deny}
 use Rattle.sd_analysis.proofs.Kept.{about_less, owner_named, IsWithin, keeps_listed, keeps_unlisted}
 
 -- ---- the owner
 
 low_places : (b : ℕ) → (b == 17 || b == 18) ≡ true → nat_lt b 21 ≡ true
-low_places b h = elim (or_cases (b == 17) (b == 18) h) [
-  | inl is ↦ let e : b ≡ 17 = eqb-true b 17 is in lt-ltb b 21 (omega arith)
-  | inr is ↦ let e : b ≡ 18 = eqb-true b 18 is in lt-ltb b 21 (omega arith)
-]
+low_places b h = grind arith
 
 -- the owner's SID, through which the descriptor grants the bit as the owner's
 keeps_owned : (owner : Option SidValue) (dacl : Option (List Ace)) (other : SidValue) (stands : AceKind → SidValue → Bool) (b : ℕ)
@@ -51,11 +47,7 @@ keeps_owned (Some o) dacl other stands b h =
 keeps_unowned : (owner : Option SidValue) (dacl : Option (List Ace)) (stands now : AceKind → SidValue → Bool) (b : ℕ)
     → IsWithin (record { owner = owner; dacl = dacl }) stands now
     → owns (record { owner = owner; dacl = dacl }) stands b ≡ false → owns (record { owner = owner; dacl = dacl }) now b ≡ false
-keeps_unowned owner dacl stands now b within h = false_from_ne_true _ (λ is.
-    let outer = and_parts (about now Allow owner && not (limits_owner dacl)) (b == 17 || b == 18) is in
-    let inner = and_parts (about now Allow owner) (not (limits_owner dacl)) outer.0 in
-    let before = about_less stands now Allow owner (λ s eq. within Allow s (owner_named owner dacl s eq)) inner.0 in
-    false≢true (sym h ∙ and_from _ _ (and_from _ _ before inner.1) outer.1))
+keeps_unowned owner dacl stands now b within h = grind (arith, about_less, owner_named)
 
 -- ---- all that is demanded
 
@@ -73,16 +65,13 @@ pub record Kept (g : MappingValue) (old new : Parts) (demand : Demand) (other : 
 
 lists_low : (g : MappingValue) (owner : Option SidValue) (dacl : Option (List Ace)) (stands : AceKind → SidValue → Bool) (b : ℕ)
     → lists g (record { owner = owner; dacl = dacl }) stands b ≡ true → nat_lt b 21 ≡ true
-lists_low g owner None stands b h = h
-lists_low g owner (Some es) stands b h = (and_parts (nat_lt b 21) _ h).0
+lists_low g owner dacl stands b h = grind arith
 
 pub not_and : (x y : Bool) → not (x && y) ≡ true → x ≡ true → y ≡ false
-not_and true y h is = not-true y h
-not_and false y h is = absurd (false≢true is)
+not_and x y h j = grind arith
 
 not_and_from : (x y : Bool) → (x ≡ true → y ≡ false) → not (x && y) ≡ true
-not_and_from true y h = not_from_false y (h refl)
-not_and_from false y h = refl
+not_and_from x y h = grind arith
 
 module _ (g : MappingValue) (old new : Parts) (other : SidValue) (stands : AceKind → SidValue → Bool) (b : ℕ) where
   keeps_granted : (by_owner : Bool) → cond by_owner (owns new stands b) (lists g new stands b) ≡ true
@@ -97,8 +86,7 @@ module _ (g : MappingValue) (old new : Parts) (other : SidValue) (stands : AceKi
   keeps_granted false h = keeps_listed g new.owner stands b other new.dacl h
 
   granted_low : (by_owner : Bool) → cond by_owner (owns new stands b) (lists g new stands b) ≡ true → nat_lt b 21 ≡ true
-  granted_low true h = low_places b (and_parts (about stands Allow new.owner && not (limits_owner new.dacl)) (b == 17 || b == 18) h).1
-  granted_low false h = lists_low g new.owner new.dacl stands b h
+  granted_low by_owner h = grind (arith, low_places, lists_low)
 
   keeps_refused : (unlisted : Bool) → nat_lt b 21 ≡ true → not (unlisted && lists g old stands b) ≡ true
       → (denied : Option SidValue)
@@ -133,26 +121,10 @@ module _ (g : MappingValue) (old new : Parts) (other : SidValue) (stands : AceKi
 
 -- ---- a base with two SIDs
 
-any_more : {X : Type 0} (p q : X → Bool) → ((x : X) → p x ≡ true → q x ≡ true) → (xs : List X) → list_any p xs ≡ true → list_any q xs ≡ true
-any_more p q h [] is = is
-any_more p q h (x ∷ xs) is = elim (or_cases (p x) (list_any p xs) is) [
-  | inl here ↦ or_left _ _ (h x here)
-  | inr later ↦ or_right _ _ (any_more p q h xs later)
-]
-
-counts_more : (same : Bool) (state : GroupState) → (same && counts Allow state) ≡ true → (same && counts Deny state) ≡ true
-counts_more same Enabled h = h
-counts_more true DenyOnly h = refl
-counts_more false DenyOnly h = h
-counts_more same Disabled h = h
-
 -- who stands for a SID in allows does in denies
 stands_more : (pass : Pass) (t : TokenValue) (kind : AceKind) (s : SidValue) → stands_in pass t Allow s ≡ true → stands_in pass t kind s ≡ true
 stands_more First t Allow s h = h
-stands_more First t Deny s h = elim (or_cases (same_sid t.user s) (a_group_stands_for t.groups Allow s) h) [
-  | inl user ↦ or_left _ _ user
-  | inr group ↦ or_right _ _ (any_more _ _ (λ (x : SidValue × GroupState). counts_more (same_sid x.0 s) x.1) t.groups group)
-]
+stands_more First t Deny s h = stands_for_deny t s h
 stands_more Second t kind s h = h
 
 module _ (base : List (SidValue × GroupState)) (t : TokenValue) (has : HasBase base t) where
@@ -197,13 +169,10 @@ module _ (base : List (SidValue × GroupState)) (t : TokenValue) (has : HasBase 
     ]
 
 allowed_stands : (pass : Pass) (base : List (SidValue × GroupState)) (sids : PassSids) → sids_stand pass base sids Allow sids.allowed ≡ true
-allowed_stands First base sids = or_left _ _ (same_sid-itself sids.allowed)
-allowed_stands Second base sids = or_left _ _ (same_sid-itself sids.allowed)
+allowed_stands pass base sids = grind (arith, same_sid-itself)
 
 denied_stands : (pass : Pass) (base : List (SidValue × GroupState)) (sids : PassSids) (s : SidValue) → sids.denied ≡ Some s → sids_stand pass base sids Deny s ≡ true
-denied_stands First base sids s is =
-    or_right (same_sid sids.allowed s) _ (ap (λ d. a_group_stands_for (with_denied base d) Deny s) is ∙ or_left _ _ (and_from _ _ (same_sid-itself s) refl))
-denied_stands Second base sids s is = or_right (same_sid sids.allowed s) _ (ap (λ d. has_sid d s) is ∙ same_sid-itself s)
+denied_stands pass base sids s h = grind (arith, same_sid-itself)
 
 -- what a token shows in a pass, the base shows with two SIDs of those that may decide
 pub two_suffice : (g : MappingValue) (old new : Parts) (base : List (SidValue × GroupState)) (t : TokenValue) (other : SidValue) (b : ℕ) (pass : Pass) (demand : Demand)

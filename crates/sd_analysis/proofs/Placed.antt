@@ -1,20 +1,15 @@
 -- The SIDs of a search, their places in its table, and what the table's walks say of them.
-use Rattle.std.proofs.Common.{◌≡◌, ℕ, ◌<◌, ◌+◌, Bool, true, false, not, ◌&&◌, cond, List, [], ◌∷◌, length, get_or, take, Option, Some, None, inl, inr, refl, sym, ◌∙◌, ap, subst, arith}
-use Rattle.std.proofs.lemmas.Bool.{agree_below_at, and_from, and_parts, false≢true, not_from_false}
+use Rattle.std.proofs.Common.{◌≡◌, ℕ, ◌<◌, ◌+◌, true, List, [], ◌∷◌, length, get_or, take, Option, Some, inl, inr, sym, ◌∙◌, ap, subst, arith}
+use Rattle.std.proofs.lemmas.Bool.{false≢true}
 use Rattle.std.proofs.lemmas.List.{get_or-append-add, get_or-map, get_or_append_left, get_or_read, length-append, length-map, take-append-le}
-use Rattle.sd_sid.specs.Mask.{holds, mask_of}
+use Rattle.sd_sid.specs.Mask.{holds}
 use Rattle.sd_sid.specs.Sid.{SidValue}
-use Rattle.sd_sid.proofs.Masks.{holds_place}
-use Rattle.sd_acl.specs.declared.ace.AceKind.{AceKind}
 use Rattle.sd_check.specs.declared.grounds.Pass.{Pass}
 use Rattle.sd_analysis.specs.Sufficient.{is_among}
-use Rattle.sd_analysis.specs.Passes.{lists, owns, sids_stand}
-use Rattle.sd_analysis.specs.Report.{granted_at, HasRoom, IsCase, IsPlace, new_of, old_of, sids_in, sids_meet}
-use Rattle.sd_analysis.specs.Table.{AreBoth, IsBeside, listed_of, place_in, point_at}
+use Rattle.sd_analysis.specs.Report.{ArePlaced, HasRoom, IsCase, IsPlace, new_of, old_of, sids_in}
+use Rattle.sd_analysis.specs.Table.{AreBoth, IsBeside, listed_of, place_in, point_at, sids_of}
 use Rattle.sd_analysis.specs.declared.compare_search.Case.{Case}
 use Rattle.sd_analysis.specs.declared.compare_table.Both.{Both}
-use Rattle.sd_analysis.specs.declared.witness.Demand.{Demand}
-use Rattle.sd_analysis.proofs.Passed.{not_and}
 use Rattle.sd_analysis.proofs.Tables.{among_at, among_left, among_right, first_or_before, place_low}
 
 module _ (case : Case) (is : IsCase case) where
@@ -73,7 +68,7 @@ module _ (case : Case) (is : IsCase case) where
       denied_place case is i at s inside (here ∙ ap (λ xs. get_or xs i s) same)
       (get_or_read case.table.places.items n at (omega (arith, inside, is_n, long, places)) read 0 ∙ ap (λ k. get_or case.table.places.items k 0) is_n)
 
-pub place_inside : (case : Case) (s : SidValue) (place : ℕ) → IsPlace case s place → place < length (sids_in case)
+place_inside : (case : Case) (s : SidValue) (place : ℕ) → IsPlace case s place → place < length (sids_in case)
 place_inside case s place is = subst (λ n. n < length (sids_in case)) is.at (place_low (sids_in case) s is.among)
 
 pub is_beside : (case : Case) (s : SidValue) (place : ℕ) → IsPlace case s place → IsBeside (sids_in case) (Some s) (Some place)
@@ -88,49 +83,19 @@ is_beside case s place is = record {
 -- what the walks say of a SID at its place
 module _ (case : Case) (pass : Pass) (beside : Option SidValue) (both : Both)
     (are : AreBoth case.mapping.now case.base.now (sids_in case) (old_of case) (new_of case) pass beside both) where
-  pub old_room : (s : SidValue) (place : ℕ) → IsPlace case s place → place < length both.before.own.items
-  old_room s place is = let inside = place_inside case s place is in let room = are.before.room in omega (arith, inside, room)
-
-  pub new_room : (s : SidValue) (place : ℕ) → IsPlace case s place → place < length both.after.own.items
-  new_room s place is = let inside = place_inside case s place is in let room = are.after.room in omega (arith, inside, room)
-
   pub both_room : HasRoom case both
   both_room = record { before = are.before.room; after = are.after.room }
 
-module _ (case : Case) (pass : Pass) (both : Both)
-    (are : AreBoth case.mapping.now case.base.now (sids_in case) (old_of case) (new_of case) pass None both) (s : SidValue) (place : ℕ) (is : IsPlace case s place) where
-  pub old_alone : (m : ℕ) → m ≡ listed_of (point_at both.before place) → (b : ℕ) → b < 21
-      → holds m b ≡ lists case.mapping.now (old_of case) (sids_stand pass case.base.now (record { allowed = s; denied = None })) b
-  old_alone m is_m b low =
-      ap (λ n. holds n b) is_m ∙ ap (λ n. holds (listed_of (point_at both.before n)) b) (sym is.at) ∙ are.before.listed s b is.among low
-
-  pub new_alone : (m : ℕ) → m ≡ listed_of (point_at both.after place) → (b : ℕ) → b < 21
-      → holds m b ≡ lists case.mapping.now (new_of case) (sids_stand pass case.base.now (record { allowed = s; denied = None })) b
-  new_alone m is_m b low =
-      ap (λ n. holds n b) is_m ∙ ap (λ n. holds (listed_of (point_at both.after n)) b) (sym is.at) ∙ are.after.listed s b is.among low
-
--- a pair that meets the demand is worth trying
-module _ (case : Case) (pass : Pass) (allowed : SidValue) (both : Both)
-    (are : AreBoth case.mapping.now case.base.now (sids_in case) (old_of case) (new_of case) pass (Some allowed) both) (s : SidValue) (place : ℕ) (is : IsPlace case s place) where
-  abbrev stands : AceKind → SidValue → Bool
-  stands = sids_stand pass case.base.now (record { allowed = allowed; denied = Some s })
-
-  granted_worth : (by_owner : Bool) (b : ℕ) → b < 21 → cond by_owner (owns (new_of case) stands b) (lists case.mapping.now (new_of case) stands b) ≡ true
-      → holds (granted_at both by_owner place) b ≡ true
-  granted_worth true b low h = agree_below_at (holds 0x001FFFFF) (λ k. true) 21 b refl low
-  granted_worth false b low h = ap (λ n. holds (listed_of (point_at both.after n)) b) (sym is.at) ∙ are.after.listed s b is.among low ∙ h
-
-  pub pair_worth : (demand : Demand) → demand.unlisted ≡ true → (worth : ℕ)
-      → worth ≡ mask_of (λ k. holds (granted_at both demand.by_owner place) k && not (holds (listed_of (point_at both.before place)) k)) 32
-      → (b : ℕ) → b < 21 → sids_meet case pass demand (record { allowed = allowed; denied = Some s }) b ≡ true → holds worth b ≡ true
-  pair_worth demand unlisted worth is_worth b low met =
-      let outer = and_parts (cond demand.by_owner (owns (new_of case) stands b) (lists case.mapping.now (new_of case) stands b)) _ met in
-      let inner = and_parts (not (demand.unlisted && lists case.mapping.now (old_of case) stands b)) (not (demand.unowned && owns (old_of case) stands b)) outer.1 in
-      let refused = not_and demand.unlisted (lists case.mapping.now (old_of case) stands b) inner.0 unlisted in
-      ap (λ m. holds m b) is_worth
-      ∙ holds_place (λ k. holds (granted_at both demand.by_owner place) k && not (holds (listed_of (point_at both.before place)) k)) b (omega arith)
-      ∙ and_from _ _ (granted_worth demand.by_owner b low outer.0)
-      (not_from_false _ (ap (λ n. holds (listed_of (point_at both.before n)) b) (sym is.at) ∙ are.before.listed s b is.among low ∙ refused))
+  pub are_placed : (s : SidValue) (place : ℕ) → IsPlace case s place → ArePlaced case pass (sids_of beside s) both place
+  are_placed s place is =
+      let inside = place_inside case s place is in
+      let before = are.before.room in
+      let after = are.after.room in record {
+        room_before = omega (arith, inside, before);
+        room_after = omega (arith, inside, after);
+        before = λ b low. ap (λ n. holds (listed_of (point_at both.before n)) b) (sym is.at) ∙ are.before.listed s b is.among low;
+        after = λ b low. ap (λ n. holds (listed_of (point_at both.after n)) b) (sym is.at) ∙ are.after.listed s b is.among low;
+      }
 
 -- no SID is among none
 pub among_none : (sids : List SidValue) (s : SidValue) → length sids ≡ 0 → is_among sids s ≡ true → ⊥

@@ -1,10 +1,9 @@
 -- What a report keeps as changes come to it.
 use Rattle.std.proofs.Common.{◌≡◌, ℕ, suc, zero, ◌<◌, ◌+◌, ◌*◌, ◌^◌, cond, inl, inr, Bool, true, false, not, ◌&&◌, ◌||◌, ◌==◌, List, [], ◌∷◌, length, get_or, set, refl, sym, ◌∙◌, ap, arith}
 use Rattle.std.specs.List.{list_any, All}
-use Rattle.std.proofs.lemmas.Bool.{and_parts, and_from, or_parts, or_right, or_cases, false≢true, cases_Bool, eqb-true, eq-eqb, not-true, false_from_ne_true, not_from_false}
+use Rattle.std.proofs.lemmas.Bool.{and_parts, and_from, or_parts, or_right, or_cases, false≢true, cases_Bool, eqb-true, eq-eqb, not_from_false}
 use Rattle.std.proofs.lemmas.Nat.Bits.{bit_at-zero}
 use Rattle.std.proofs.lemmas.List.Elements.{All-set}
-use Rattle.std.proofs.Math.Bool.{or_assoc}
 use Rattle.sd_sid.specs.Mask.{holds, mask_of}
 use Rattle.sd_sid.proofs.Masks.{holds-mask_of, holds_place}
 use Rattle.sd_analysis.specs.Compare.{HasABit, is_reported}
@@ -14,36 +13,27 @@ use Rattle.sd_analysis.specs.declared.compare_report.Report.{Report}
 use Rattle.sd_analysis.specs.declared.witness.Witness.{Witness}
 
 swap_last : (a q r : Bool) → ((a || q) || r) ≡ ((a || r) || q)
-swap_last true q r = refl
-swap_last false true true = refl
-swap_last false true false = refl
-swap_last false false true = refl
-swap_last false false false = refl
+swap_last a q r = grind arith
 
 -- where an element is written that passes as it did, or where q does
 any_set : {X : Type 0} (p : X → Bool) (q : Bool) (xs : List X) (i : ℕ) (y d : X) → i < length xs → p y ≡ (p (get_or xs i d) || q)
     → list_any p (set xs i y) ≡ (list_any p xs || q)
 any_set p q [] i y d low is = absurd (omega arith)
 any_set p q (x ∷ xs) zero y d low is = ap (λ a. a || list_any p xs) is ∙ swap_last (p x) q (list_any p xs)
-any_set p q (x ∷ xs) (suc i) y d low is =
-    ap (λ a. p x || a) (any_set p q xs i y d (omega arith) is) ∙ sym (or_assoc (p x) (list_any p xs) q)
+any_set p q (x ∷ xs) (suc i) y d low is = grind (arith, any_set p q xs i y d)
 
 -- of a mask that is made of two
 pub joined_holds : (m n b : ℕ) → b < 32 → holds (mask_of (λ k. holds m k || holds n k) 32) b ≡ (holds m b || holds n b)
 joined_holds m n b low = holds_place (λ k. holds m k || holds n k) b low
 
 pub in_both : (m n b : ℕ) → holds (mask_of (λ k. holds m k && holds n k) 32) b ≡ true → (holds m b ≡ true) × (holds n b ≡ true)
-in_both m n b h =
-    let outer = and_parts _ (holds m b && holds n b) (sym (holds-mask_of (λ k. holds m k && holds n k) 32 b) ∙ h) in
-    and_parts (holds m b) (holds n b) outer.1
+in_both m n b h = grind (arith, holds-mask_of (λ k. holds m k && holds n k) 32 b)
 
 pub both_in : (m n b : ℕ) → b < 32 → holds m b ≡ true → holds n b ≡ true → holds (mask_of (λ k. holds m k && holds n k) 32) b ≡ true
 both_in m n b low hm hn = holds_place (λ k. holds m k && holds n k) b low ∙ and_from _ _ hm hn
 
 pub in_difference : (m n b : ℕ) → holds (mask_of (λ k. holds m k && not (holds n k)) 32) b ≡ true → (holds m b ≡ true) × (not (holds n b) ≡ true)
-in_difference m n b h =
-    let outer = and_parts _ (holds m b && not (holds n b)) (sym (holds-mask_of (λ k. holds m k && not (holds n k)) 32 b) ∙ h) in
-    and_parts (holds m b) (not (holds n b)) outer.1
+in_difference m n b h = grind (arith, holds-mask_of (λ k. holds m k && not (holds n k)) 32 b)
 
 pub none_held : (m b : ℕ) → (m == 0) ≡ true → holds m b ≡ false
 none_held m b h = ap (λ n. holds n b) (eqb-true m 0 h) ∙ ap (λ n. n == 1) (bit_at-zero b)
@@ -123,11 +113,8 @@ wanted_less wanted bits now b is h = (in_difference wanted bits b (sym (ap (λ m
 
 pub wanted_gone : (mask wanted bits now b : ℕ) → bits ≡ mask_of (λ k. holds mask k && holds wanted k) 32
     → now ≡ mask_of (λ k. holds wanted k && not (holds bits k)) 32 → b < 21 → holds mask b ≡ true → holds now b ≡ false
-wanted_gone mask wanted bits now b is is_now low h = false_from_ne_true _ (λ still.
-    let parts = in_difference wanted bits b (sym (ap (λ m. holds m b) is_now) ∙ still) in
-    false≢true (sym (not-true _ parts.1) ∙ ap (λ m. holds m b) is ∙ both_in mask wanted b (omega arith) h parts.0))
+wanted_gone mask wanted bits now b is is_now low h = grind (arith, holds_place (λ k. holds mask k && holds wanted k) b (omega arith), holds_place (λ k. holds wanted k && not (holds bits k)) b (omega arith))
 
 pub none_wanted : (mask wanted bits b : ℕ) → bits ≡ mask_of (λ k. holds mask k && holds wanted k) 32 → (bits == 0) ≡ true
     → b < 21 → holds mask b ≡ true → holds wanted b ≡ false
-none_wanted mask wanted bits b is none low h = false_from_ne_true _ (λ still.
-    false≢true (sym (none_held bits b none) ∙ ap (λ m. holds m b) is ∙ both_in mask wanted b (omega arith) h still))
+none_wanted mask wanted bits b is none low h = grind (arith, none_held bits b none, both_in mask wanted b (omega arith))

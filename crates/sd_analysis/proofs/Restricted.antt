@@ -1,6 +1,6 @@
 -- What is left to restricted tokens where no unrestricted one gains the bit.
-use Rattle.std.proofs.Common.{◌≡◌, ℕ, ◌<◌, Bool, true, false, not, ◌&&◌, ◌||◌, ◌==◌, cond, List, [], ◌∷◌, Option, Some, None, inl, inr, refl, sym, ◌∙◌, ap, arith}
-use Rattle.std.proofs.lemmas.Bool.{and_parts, and_from, false≢true, false_from_ne_true, true_from_ne_false, not_from_false, not-true}
+use Rattle.std.proofs.Common.{◌≡◌, ℕ, ◌<◌, Bool, true, false, not, ◌&&◌, ◌||◌, ◌==◌, List, [], ◌∷◌, Option, Some, None, inl, inr, refl, sym, ◌∙◌, ap, arith}
+use Rattle.std.proofs.lemmas.Bool.{and_parts, and_from, false≢true, false_from_ne_true, not-true}
 use Rattle.sd_sid.specs.Mask.{holds, mask_of}
 use Rattle.sd_sid.specs.Sid.{SidValue, same_sid}
 use Rattle.sd_sid.proofs.Compared.{same_sid-true}
@@ -20,7 +20,7 @@ use Rattle.sd_analysis.specs.declared.compare_search.Case.{Case}
 use Rattle.sd_analysis.specs.declared.witness.Demand.{Demand}
 use Rattle.sd_analysis.specs.declared.witness.PassSids.{PassSids}
 use Rattle.sd_analysis.proofs.Effects.{has_base_with}
-use Rattle.sd_analysis.proofs.Passed.{not_and, two_suffice}
+use Rattle.sd_analysis.proofs.Passed.{two_suffice}
 use Rattle.sd_analysis.proofs.Reports.{both_in}
 
 -- ---- an owner that both descriptors have
@@ -31,10 +31,7 @@ owner_stands stands None s is h = absurd (false≢true is)
 owner_stands stands (Some o) s is h = ap (stands Allow) (same_sid-true o s is) ∙ h
 
 never_owned : (new : Parts) (stands : AceKind → SidValue → Bool) (b : ℕ) → new.owner ≡ None → owns new stands b ≡ true → ⊥
-never_owned new stands b none h =
-    let outer = and_parts (about stands Allow new.owner && not (limits_owner new.dacl)) (b == 17 || b == 18) h in
-    let inner = and_parts (about stands Allow new.owner) (not (limits_owner new.dacl)) outer.0 in
-    false≢true (ap (about stands Allow) (sym none) ∙ inner.0)
+never_owned new stands b h j = grind arith
 
 still_owned : (old new : Parts) (s : SidValue) (stands : AceKind → SidValue → Bool) (b : ℕ) → new.owner ≡ Some s
     → (has_sid old.owner s && not (limits_owner old.dacl)) ≡ true → owns new stands b ≡ true → owns old stands b ≡ true
@@ -67,33 +64,18 @@ module _ (case : Case) where
     both_second = inr (never Second true t b);
   }
 
--- what isn't met even where the old descriptor may grant as the owner's
-weaker : (granted listed owned : Bool) → (granted && (not listed && true)) ≡ false → (granted && (not listed && not owned)) ≡ false
-weaker false listed owned h = refl
-weaker true true owned h = refl
-weaker true false owned h = absurd (false≢true (sym h))
-
 pub less_asked : (case : Case) (by_owner : Bool) (t : TokenValue) (b : ℕ)
     → token_meets case Second (record { by_owner = by_owner; unlisted = true; unowned = false }) t b ≡ false
     → token_meets case Second (record { by_owner = by_owner; unlisted = true; unowned = true }) t b ≡ false
-less_asked case by_owner t b h =
-    let stands = stands_in Second t in
-    weaker (cond by_owner (owns (new_of case) stands b) (lists case.mapping.now (new_of case) stands b))
-    (lists case.mapping.now (old_of case) stands b) (owns (old_of case) stands b) h
+less_asked case by_owner t b h = grind arith
 
 -- ---- the rest of the first pass
-
-no_more : (same other based : Bool) → (same || ((other && false) || based)) ≡ (same || based)
-no_more same true based = refl
-no_more same false based = refl
 
 -- a group for denies alone doesn't make anybody the owner
 owner_alone : (base : List (SidValue × GroupState)) (s : SidValue) (denied who : Option SidValue)
     → about (sids_stand First base (record { allowed = s; denied = denied })) Allow who
     ≡ about (sids_stand First base (record { allowed = s; denied = None })) Allow who
-owner_alone base s None who = refl
-owner_alone base s (Some d) None = refl
-owner_alone base s (Some d) (Some o) = no_more (same_sid s o) (same_sid d o) (a_group_stands_for base Allow o)
+owner_alone base s denied who = grind arith
 
 owned_alone : (parts : Parts) (base : List (SidValue × GroupState)) (s : SidValue) (denied : Option SidValue) (b : ℕ)
     → owns parts (sids_stand First base (record { allowed = s; denied = None })) b
@@ -101,29 +83,26 @@ owned_alone : (parts : Parts) (base : List (SidValue × GroupState)) (s : SidVal
 owned_alone parts base s denied b =
     ap (λ x. (x && not (limits_owner parts.dacl)) && (b == 17 || b == 18)) (sym (owner_alone base s denied parts.owner))
 
-pub worth_rest : (case : Case) (pass : Pass) (demand : Demand) (granted owned worth : ℕ) (s : SidValue) (denied : Option SidValue) (b : ℕ) → b < 21
-    → worth ≡ mask_of (λ k. holds granted k && holds owned k) 32
-    → holds owned b ≡ owns (old_of case) (sids_stand pass case.base.now (record { allowed = s; denied = None })) b
+pub worth_rest : (case : Case) (pass : Pass) (demand : Demand) (granted owned worth : ℕ) (alone : PassSids) (denied : Option SidValue) (b : ℕ) → b < 21
+    → alone.denied ≡ None → worth ≡ mask_of (λ k. holds granted k && holds owned k) 32
+    → holds owned b ≡ owns (old_of case) (sids_stand pass case.base.now alone) b
     → is_rest pass demand ≡ true → holds granted b ≡ true
-    → IsSought case pass demand (record { allowed = s; denied = denied }) b
+    → IsSought case pass demand (record { allowed = alone.allowed; denied = denied }) b
     → holds worth b ≡ true
-worth_rest case First demand granted owned worth s denied b low is is_owned rest h sought =
+worth_rest case First demand granted owned worth alone denied b low none is is_owned rest h sought =
     ap (λ m. holds m b) is
-    ∙ both_in granted owned b (omega (arith, low)) h (is_owned ∙ owned_alone (old_of case) case.base.now s denied b ∙ sought rest)
-worth_rest case Second demand granted owned worth s denied b low is is_owned rest h sought = absurd (false≢true rest)
+    ∙ both_in granted owned b (omega (arith, low)) h
+    (is_owned ∙ ap (λ d. owns (old_of case) (sids_stand First case.base.now (record { allowed = alone.allowed; denied = d })) b) none
+    ∙ owned_alone (old_of case) case.base.now alone.allowed denied b ∙ sought rest)
+worth_rest case Second demand granted owned worth alone denied b low none is is_owned rest h sought = absurd (false≢true rest)
 
 -- where no unrestricted token gains the bit, the old descriptor grants it as the owner's to whoever meets the rest
 pub sought : (case : Case) (pass : Pass) (demand : Demand) (sids : PassSids) (b : ℕ)
     → (is_rest pass demand ≡ true → IsNotGained case demand.by_owner b)
     → sids_meet case pass demand sids b ≡ true → IsSought case pass demand sids b
-sought case First demand sids b not_gained met rest = true_from_ne_false _ (λ not_owned.
-    let stands = sids_stand First case.base.now sids in
+sought case First demand sids b not_gained met rest =
     let t = token_of case.base.now (record { first = sids; second = None }) in
-    let asked = and_parts demand.unlisted (not demand.unowned) rest in
-    let outer = and_parts (cond demand.by_owner (owns (new_of case) stands b) (lists case.mapping.now (new_of case) stands b)) _ met in
-    let inner = and_parts (not (demand.unlisted && lists case.mapping.now (old_of case) stands b)) (not (demand.unowned && owns (old_of case) stands b)) outer.1 in
-    false≢true (sym (not_gained rest t (has_base_with case.base.now sids.denied t refl))
-    ∙ and_from _ _ outer.0 (and_from _ _ (not_from_false _ (not_and demand.unlisted _ inner.0 asked.0)) (not_from_false _ not_owned))))
+    grind (arith, not_gained rest t (has_base_with case.base.now sids.denied t refl))
 sought case Second demand sids b not_gained met rest = absurd (false≢true rest)
 
 -- ---- without a base
@@ -136,13 +115,8 @@ enabled (Some s) = (s, Enabled) ∷ []
 abbrev unrestricted : PassSids → TokenValue
 unrestricted sids = record { user = sids.allowed; groups = enabled sids.denied; restricting = []; privileges = no_privileges }
 
-one_group : (x : Bool) → ((x && true) || false) ≡ x
-one_group true = refl
-one_group false = refl
-
 enabled_stands : (denied : Option SidValue) (kind : AceKind) (s : SidValue) → a_group_stands_for (enabled denied) kind s ≡ has_sid denied s
-enabled_stands None kind s = refl
-enabled_stands (Some d) kind s = one_group (same_sid d s)
+enabled_stands denied kind s = grind arith
 
 stands_so : (base : List (SidValue × GroupState)) (sids : PassSids) → stands_in First (unrestricted sids) ≡ sids_stand Second base sids
 stands_so base sids = λ i kind s. same_sid sids.allowed s || enabled_stands sids.denied kind s i

@@ -1,9 +1,8 @@
 -- Rights that a list decides alike.
-use Rattle.std.proofs.Common.{add-zero, count_by, ◌≡◌, ℕ, ◌+◌, ◌<◌, Bool, true, false, not, ◌&&◌, ◌||◌, ◌==◌, nat_lt, cond, List, [], ◌∷◌, ◌++◌, length, get_or, take, Option, Some, None, inl, inr, sym, refl, ◌∙◌, ap, arith, Bor}
+use Rattle.std.proofs.Common.{count_by, ◌≡◌, ℕ, ◌+◌, ◌<◌, Bool, true, false, not, ◌&&◌, ◌||◌, ◌==◌, nat_lt, cond, List, [], ◌∷◌, ◌++◌, length, get_or, take, Option, Some, None, sym, refl, ◌∙◌, ap, arith, Bor}
 use Rattle.std.specs.Bool.{beq}
 use Rattle.std.specs.List.{list_all, list_any}
-use Rattle.std.proofs.Math.Bool.{and-false, and-true, or-false}
-use Rattle.std.proofs.lemmas.Bool.{agree_below_at, and_from, and_parts, cases_lt, lt-ltb, ltb-true}
+use Rattle.std.proofs.lemmas.Bool.{agree_below_at, and_from, and_parts, lt-ltb, ltb-true}
 use Rattle.std.proofs.lemmas.List.Elements.{All-push}
 use Rattle.std.proofs.lemmas.List.Folds.{list_all_more, list_any-append}
 use Rattle.std.proofs.lemmas.List.Sums.{sum_by-append}
@@ -14,10 +13,10 @@ use Rattle.sd_sid.proofs.Masks.{holds_place, holds_when}
 use Rattle.sd_acl.specs.Ace.{is_inherit_only}
 use Rattle.sd_acl.specs.declared.ace.Ace.{Ace}
 use Rattle.sd_acl.specs.declared.ace.AceKind.TheVariants.{Allow}
-use Rattle.sd_check.specs.Check.{DaclRef, applies, applies_again, acl_grants, decides, first, is_allowed_by, is_given, is_granted, is_restricting_subject, entries_of, limits_owner, stands_for_subject}
+use Rattle.sd_check.specs.Check.{DaclRef, applies, decides, first, is_granted, entries_of, stands_for_subject}
 use Rattle.sd_check.specs.Laws.{restricted_to}
 use Rattle.sd_acl.specs.declared.descriptor.DaclOf.TheVariants as dacls
-use Rattle.sd_check.specs.Token.{TokenValue, is_restricted}
+use Rattle.sd_check.specs.Token.{TokenValue}
 use Rattle.sd_check.specs.declared.token.GroupState.{GroupState}
 use Rattle.sd_check.proofs.RestrictionProofs.{restriction_grants_no_bit}
 use Rattle.sd_analysis.specs.Base.{HasBase, IsPlain}
@@ -36,36 +35,15 @@ rights_place b low = agree_below_at (holds 0x001FFFFF) (λ k. nat_lt k 21) 32 b 
 -- ---- the side of a right
 
 same_itself : (x : Bool) → beq x x ≡ true
-same_itself true = refl
-same_itself false = refl
-
-same_is : (x y : Bool) → beq x y ≡ true → x ≡ y
-same_is true true h = refl
-same_is true false h = absurd cc
-same_is false true h = absurd cc
-same_is false false h = refl
-
-with_it : (x y : Bool) → y ≡ true → x ≡ beq x y
-with_it true true h = refl
-with_it false true h = refl
-with_it x false h = absurd cc
-
-without_it : (x y : Bool) → y ≡ false → not x ≡ beq x y
-without_it true false h = refl
-without_it false false h = refl
-without_it x true h = absurd cc
+same_itself x = grind arith
 
 pub side_with : (rights named place r b : ℕ) → r ≡ mask_of (λ k. holds rights k && holds named k) 32 → holds named place ≡ true → b < 32
     → holds r b ≡ (holds rights b && beq (holds named b) (holds named place))
-side_with rights named place r b is side low =
-    ap (λ n. holds n b) is ∙ holds_place (λ k. holds rights k && holds named k) b low
-    ∙ ap (λ x. holds rights b && x) (with_it (holds named b) (holds named place) side)
+side_with rights named place r b h j k2 = grind (arith, holds_place)
 
 pub side_without : (rights named place r b : ℕ) → r ≡ mask_of (λ k. holds rights k && not (holds named k)) 32 → holds named place ≡ false → b < 32
     → holds r b ≡ (holds rights b && beq (holds named b) (holds named place))
-side_without rights named place r b is side low =
-    ap (λ n. holds n b) is ∙ holds_place (λ k. holds rights k && not (holds named k)) b low
-    ∙ ap (λ x. holds rights b && x) (without_it (holds named b) (holds named place) side)
+side_without rights named place r b is side low = grind (arith, holds_place)
 
 -- ---- rights that each entry names together
 
@@ -74,33 +52,17 @@ alike g b place e = beq (names g b e) (names g place e)
 
 pub alike_first : (among place r b : ℕ) → place < 32 → b < 32 → holds r b ≡ (holds among b && beq (holds 0x00060000 b) (holds 0x00060000 place))
     → holds r b ≡ (holds among b && (beq (b == 17 || b == 18) (place == 17 || place == 18) && true))
-alike_first among place r b low_place low is =
-    is ∙ ap (λ x. holds among b && beq x (holds 0x00060000 place)) (owners_place b low)
-    ∙ ap (λ x. holds among b && beq (b == 17 || b == 18) x) (owners_place place low_place) ∙ ap (λ x. holds among b && x) (sym (and-true _))
+alike_first among place r b place_low low is = grind (arith, owners_place)
 
 named_places : (g : MappingValue) (e : Ace) (waits : Bool) (mask named k : ℕ) → waits ≡ is_inherit_only e → mask ≡ mapped g e.mask → named ≡ cond (not waits) mask 0
     → holds named k ≡ names g k e
-named_places g e waits mask named k is_waiting is_mask is =
-    ap (λ n. holds n k) is ∙ holds_when (not waits) mask k ∙ ap (λ x. not x && holds mask k) is_waiting ∙ ap (λ n. not (is_inherit_only e) && holds n k) is_mask
-
-and_then : (a b c d : Bool) → ((a && (b && c)) && d) ≡ (a && (b && (c && d)))
-and_then true true c d = refl
-and_then true false c d = refl
-and_then false b c d = refl
+named_places g e waits mask named k h j k2 = grind (arith, holds_when)
 
 pub alike_next : (g : MappingValue) (es : List Ace) (i : ℕ) (e : Ace) (among front waits : Bool) (mask named place old r b : ℕ) → i < length es → e ≡ get_or es i e
     → waits ≡ is_inherit_only e → mask ≡ mapped g e.mask → named ≡ cond (not waits) mask 0
     → holds r b ≡ (holds old b && beq (holds named b) (holds named place)) → holds old b ≡ (among && (front && list_all (alike g b place) (take i es)))
     → holds r b ≡ (among && (front && list_all (alike g b place) (take (i + 1) es)))
-alike_next g es i e among front waits mask named place old r b inside here is_waiting is_mask is_named next so_far =
-    let name : (k : ℕ) → holds named k ≡ names g k e = λ k. named_places g e waits mask named k is_waiting is_mask is_named in
-    let before = list_all (alike g b place) (take i es) in
-    next ∙ ap (λ x. x && beq (holds named b) (holds named place)) so_far
-    ∙ ap (λ x. (among && (front && before)) && beq x (holds named place)) (name b)
-    ∙ ap (λ x. (among && (front && before)) && beq (names g b e) x) (name place)
-    ∙ and_then among front before (alike g b place e)
-    ∙ ap (λ (one : Ace). among && (front && (before && alike g b place one))) here
-    ∙ ap (λ x. among && (front && x)) (sym (list_all_more (alike g b place) es i e inside))
+alike_next g es i e among front waits mask named place old r b inside here is_waiting is_mask is_named next so_far = grind (arith, named_places, list_all_more (alike g b place) es i e inside)
 
 pub alike_itself : (g : MappingValue) (place : ℕ) (es : List Ace) → list_all (alike g place place) es ≡ true
 alike_itself g place [] = refl
@@ -110,14 +72,7 @@ alike_itself g place (e ∷ es) = and_from _ _ (same_itself (names g place e)) (
 
 module _ (owner : Option SidValue) (g : MappingValue) (b place : ℕ) (t : TokenValue) where
   decided_alike : (e : Ace) → alike g b place e ≡ true → decides g (applies t owner) b e ≡ decides g (applies t owner) place e
-  decided_alike e h =
-      regrouped (not (is_inherit_only e)) (applies t owner e.kind e.sid) (holds (mapped g e.mask) b)
-      ∙ ap (λ x. x && applies t owner e.kind e.sid) (same_is (names g b e) (names g place e) h)
-      ∙ sym (regrouped (not (is_inherit_only e)) (applies t owner e.kind e.sid) (holds (mapped g e.mask) place)) where
-        regrouped : (a who c : Bool) → ((a && who) && c) ≡ ((a && c) && who)
-        regrouped true true c = sym (and-true c)
-        regrouped true false c = sym (and-false c)
-        regrouped false who c = refl
+  decided_alike e h = grind arith
 
   first_alike : (es : List Ace) → list_all (alike g b place) es ≡ true → first g (applies t owner) es b ≡ first g (applies t owner) es place
   first_alike [] h = refl
@@ -128,63 +83,32 @@ module _ (owner : Option SidValue) (g : MappingValue) (b place : ℕ) (t : Token
 
   pub granted_alike : (es : List Ace) → beq (b == 17 || b == 18) (place == 17 || place == 18) ≡ true → list_all (alike g b place) es ≡ true
       → granted_by (implied_holder owner es b) owner g es b t ≡ granted_by (implied_holder owner es place) owner g es place t
-  granted_alike es owners each =
-      ap (λ x. stands_for_subject t Allow (cond (x && not (limits_owner (Some es))) owner None) || is_allowed_by (first g (applies t owner) es b)) (same_is _ _ owners)
-      ∙ ap (λ (o : Option Ace). stands_for_subject t Allow (implied_holder owner es place) || is_allowed_by o) (first_alike es each)
+  granted_alike es h each = grind (arith, first_alike)
 
 -- ---- what a token without restriction and privileges is granted
 
 stands_where : (t : TokenValue) (owner : Option SidValue) (x : Bool) → stands_for_subject t Allow (cond x owner None) ≡ (stands_for_subject t Allow owner && x)
-stands_where t owner true = sym (and-true _)
-stands_where t owner false = sym (and-false _)
-
-plain_bits : (low allowed again restricted own own_again limited place take security nineteen twenty_four : Bool) → low ≡ true → restricted ≡ false → take ≡ false → security ≡ false
-    → (((low && allowed) && (not restricted || again)) || (((((own && (not restricted || own_again)) && not limited) && place) || (take && nineteen)) || (security && twenty_four)))
-    ≡ ((own && (place && not limited)) || allowed)
-plain_bits low allowed again restricted own own_again limited place take security nineteen twenty_four is_low free untaking insecure =
-    simp (is_low, free, untaking, insecure, and-true, or-false) (settled allowed own limited place) where
-      settled : (allowed own limited place : Bool) → (allowed || ((own && not limited) && place)) ≡ ((own && (place && not limited)) || allowed)
-      settled true true true true = refl
-      settled true true true false = refl
-      settled true true false true = refl
-      settled true true false false = refl
-      settled true false limited place = refl
-      settled false true true true = refl
-      settled false true true false = refl
-      settled false true false true = refl
-      settled false true false false = refl
-      settled false false limited place = refl
+stands_where t owner x = grind arith
 
 pub plain_granted : (owner : Option SidValue) (es : List Ace) (g : MappingValue) (t : TokenValue) (b : ℕ) → IsPlain t → b < 21
     → is_granted owner (Some es) g t b ≡ granted_by (implied_holder owner es b) owner g es b t
-plain_granted owner es g t b plain low =
-    plain_bits (nat_lt b 21) (is_allowed_by (first g (applies t owner) es b)) (acl_grants g (applies_again t owner) (Some es) b) _ (stands_for_subject t Allow owner)
-    (is_restricting_subject t owner) (limits_owner (Some es)) (b == 17 || b == 18) t.privileges.take_ownership t.privileges.security (b == 19) (b == 24)
-    (lt-ltb b 21 low) plain.unrestricted (ap (λ p. p.take_ownership) plain.unprivileged) (ap (λ p. p.security) plain.unprivileged)
-    ∙ ap (λ x. x || is_allowed_by (first g (applies t owner) es b)) (sym (stands_where t owner ((b == 17 || b == 18) && not (limits_owner (Some es)))))
+plain_granted owner es g t b plain low = grind (arith, stands_where, plain.unrestricted, plain.unprivileged)
 
 -- ---- one more `Access`
 
 -- the bit of a right that was left, and is no longer where the new one takes it
 pushed : (asked left taken granted holds_now : Bool) → (taken ≡ true → (left ≡ true) × (asked ≡ true) × (holds_now ≡ granted))
     → (((asked && not left) && granted) || ((taken && holds_now) || false)) ≡ ((asked && not (left && not taken)) && granted)
-pushed asked left true granted holds_now is =
-    let known = is refl in simp (known.0, known.1, known.2, or-false) refl
-pushed asked left false granted holds_now is = simp (and-true, or-false) refl
+pushed asked left taken granted holds_now h = grind arith
 
 taken_bits : (asked left same all granted holds_now taken : Bool) → taken ≡ (left && (same && all)) → (left ≡ true → asked ≡ true)
     → (asked ≡ true → same ≡ true → all ≡ true → holds_now ≡ granted)
     → taken ≡ true → (left ≡ true) × (asked ≡ true) × (holds_now ≡ granted)
-taken_bits asked left same all granted holds_now taken is among exact h =
-    let outer = and_parts left (same && all) (sym is ∙ h) in
-    let inner = and_parts same all outer.1 in
-    (outer.0, among outer.0, exact (among outer.0) inner.0 inner.1)
+taken_bits asked left same all granted holds_now taken h j k2 h2 = grind arith
 
 counted : (asked left taken : Bool) → (taken ≡ true → (left ≡ true) × (asked ≡ true))
     → cond (asked && not left) 1 0 + (0 + cond taken 1 0) ≡ cond (asked && not (left && not taken)) 1 0
-counted asked left true is = let known = is refl in rw (known.0, known.1) refl
-counted asked true false is = add-zero _
-counted asked false false is = add-zero _
+counted asked left taken h = grind arith
 
 module _ (owner : Option SidValue) (es : List Ace) (g : MappingValue) (base : List (SidValue × GroupState)) (rights left taken rest place : ℕ) (before : List Access) (access : Access)
     (low_rights : (b : ℕ) → b < 32 → holds rights b ≡ true → b < 21)
@@ -211,34 +135,17 @@ module _ (owner : Option SidValue) (es : List Ace) (g : MappingValue) (base : Li
   pub each_next : access.mask ≡ taken
       → ((b : ℕ) → b < 32 → count_by (λ (one : Access). holds one.mask b) before ≡ cond (holds rights b && not (holds left b)) 1 0)
       → (b : ℕ) → b < 32 → count_by (λ (one : Access). holds one.mask b) (before ++ access ∷ []) ≡ cond (holds rights b && not (holds rest b)) 1 0
-  each_next is_mask so_far b low =
-      sum_by-append (λ (one : Access). cond (holds one.mask b) 1 0) before (access ∷ [])
-      ∙ ap (λ n. n + (0 + cond (holds access.mask b) 1 0)) (so_far b low)
-      ∙ ap (λ n. cond (holds rights b && not (holds left b)) 1 0 + (0 + cond (holds n b) 1 0)) is_mask
-      ∙ counted (holds rights b) (holds left b) (holds taken b) (λ h. let there = (and_parts (holds left b) _ (sym (is_taken b low) ∙ h)).0 in (there, among b low there))
-      ∙ ap (λ x. cond (holds rights b && not x) 1 0) (sym (ap (λ n. holds n b) is_rest ∙ holds_place (λ k. holds left k && not (holds taken k)) b low))
+  each_next is_mask so_far b low = grind (arith, sum_by-append (λ (one : Access). cond (holds one.mask b) 1 0) before (access ∷ []), so_far b low, is_taken b low, among b low, holds_place (λ k. holds left k && not (holds taken k)) b low)
 
   pub among_next : (b : ℕ) → b < 32 → holds rest b ≡ true → holds rights b ≡ true
-  among_next b low h = among b low (and_parts (holds left b) (not (holds taken b)) (sym (ap (λ n. holds n b) is_rest ∙ holds_place (λ k. holds left k && not (holds taken k)) b low) ∙ h)).0
+  among_next b low h = grind (arith, among b low, holds_place (λ k. holds left k && not (holds taken k)) b low)
 
   pub below_next : holds left place ≡ true → ((b : ℕ) → b < place → holds left b ≡ false) → (b : ℕ) → b < place + 1 → holds rest b ≡ false
-  below_next there below b low =
-      let small : b < 32 = omega arith in
-      ap (λ n. holds n b) is_rest ∙ holds_place (λ k. holds left k && not (holds taken k)) b small
-      ∙ elim (cases_lt b place) [
-        | inl before_it ↦ ap (λ x. x && not (holds taken b)) (below b before_it)
-        | inr not_before ↦
-            let here : b ≡ place = omega arith in
-            let gone : holds taken place ≡ true = is_taken place (omega arith) ∙ and_from _ _ there (and_from _ _ (same_itself (place == 17 || place == 18)) (alike_itself g place es)) in
-            ap (λ k. holds left k && not (holds taken k)) here ∙ ap (λ x. holds left place && not x) gone ∙ and-false (holds left place)
-      ]
+  below_next there below b low = grind (arith, below, is_taken place (omega arith), alike_itself g place es, holds_place (λ k. holds left k && not (holds taken k)) b (omega arith))
 
 -- no right was left at the place
 pub below_kept : (left place : ℕ) → holds left place ≡ false → ((b : ℕ) → b < place → holds left b ≡ false) → (b : ℕ) → b < place + 1 → holds left b ≡ false
-below_kept left place none below b low = elim (cases_lt b place) [
-  | inl before_it ↦ below b before_it
-  | inr not_before ↦ let here : b ≡ place = omega arith in ap (holds left) here ∙ none
-]
+below_kept left place b h j k2 = grind arith
 
 pub beyond_next : (base : List (SidValue × GroupState)) (before : List Access) (access : Access)
     → AllBeyond base before → IsBeyond base access.denied.items access.alternatives.items → AllBeyond base (before ++ access ∷ [])
@@ -248,25 +155,16 @@ beyond_next base before access so_far is = All-push (λ (one : Access). IsBeyond
 
 -- those of the asked rights that a list can grant
 pub asked_place : (rights r b : ℕ) → r ≡ mask_of (λ k. holds rights k && holds 0x001FFFFF k) 32 → b < 32 → holds r b ≡ (holds rights b && nat_lt b 21)
-asked_place rights r b is low =
-    ap (λ n. holds n b) is ∙ holds_place (λ k. holds rights k && holds 0x001FFFFF k) b low ∙ ap (λ x. holds rights b && x) (rights_place b low)
+asked_place rights r b is low = grind (arith, holds_place, rights_place)
 
 pub asked_low : (rights r : ℕ) → r ≡ mask_of (λ k. holds rights k && holds 0x001FFFFF k) 32 → (b : ℕ) → b < 32 → holds r b ≡ true → b < 21
 asked_low rights r is b low h = ltb-true b 21 (and_parts (holds rights b) (nat_lt b 21) (sym (asked_place rights r b is low) ∙ h)).1
-
-without_list : (low asked again restricted given : Bool) → restricted ≡ false → (asked && low) ≡ ((asked && low) && ((low && (not restricted || again)) || given))
-without_list true true again restricted given free = rw free refl
-without_list true false again restricted given free = refl
-without_list false true again restricted given free = refl
-without_list false false again restricted given free = refl
 
 no_list_is_who : (owner : Option SidValue) (g : MappingValue) (base : List (SidValue × GroupState)) (rights r : ℕ) (accesses : List Access)
     → r ≡ mask_of (λ k. holds rights k && holds 0x001FFFFF k) 32
     → ((t : TokenValue) (b : ℕ) → b < 32 → list_any (has_right t b) accesses ≡ holds r b)
     → IsWho owner None g base rights accesses
-no_list_is_who owner g base rights r accesses is exact t b plain has low =
-    exact t b low ∙ asked_place rights r b is low
-    ∙ without_list (nat_lt b 21) (holds rights b) (nat_lt b 21) (is_restricted t) (is_given owner None t b) plain.unrestricted
+no_list_is_who owner g base rights r accesses is exact t b plain has low = grind (arith, exact t b low, asked_place, plain.unrestricted)
 
 pub everyone_is_who : (owner : Option SidValue) (dacl : DaclRef) (g : MappingValue) (base : List (SidValue × GroupState)) (rights r : ℕ) (accesses : List Access)
     → ((es : Bor (List Ace)) → dacl ≡ dacls.List es → ⊥)
@@ -285,8 +183,7 @@ pub list_is_who : (owner : Option SidValue) (es : List Ace) (g : MappingValue) (
     → r ≡ mask_of (λ k. holds rights k && holds 0x001FFFFF k) 32
     → ((t : TokenValue) (b : ℕ) → IsPlain t → HasBase base t → b < 32 → list_any (has_right t b) accesses ≡ (holds r b && is_granted owner (Some es) g t b))
     → IsWho owner (Some es) g base rights accesses
-list_is_who owner es g base rights r accesses is exact t b plain has low =
-    exact t b plain has low ∙ ap (λ x. x && is_granted owner (Some es) g t b) (asked_place rights r b is low)
+list_is_who owner es g base rights r accesses is exact t b plain has low = grind (arith, exact t b plain has low, asked_place)
 
 -- a restricted token is granted nothing beyond what it is without the restriction
 pub who_is_most : (owner : Option SidValue) (dacl : Option (List Ace)) (g : MappingValue) (base : List (SidValue × GroupState)) (rights : ℕ) (accesses : List Access)

@@ -1,10 +1,9 @@
 -- How a search goes on: what it found stays found, and what is left is less.
-use Rattle.std.proofs.Common.{◌≡◌, ℕ, ◌<◌, ◌+◌, true, false, not, ◌&&◌, ◌||◌, List, [], ◌∷◌, ◌++◌, length, get_or, take, Option, Some, None, ◌⊎◌, inl, inr, refl, sym, ◌∙◌, ap, arith, subst, ◌==◌}
+use Rattle.std.proofs.Common.{◌≡◌, ℕ, ◌<◌, ◌+◌, Bool, true, false, not, ◌&&◌, ◌||◌, List, [], ◌∷◌, ◌++◌, length, get_or, take, Option, Some, None, ◌⊎◌, inl, inr, refl, sym, ◌∙◌, ap, arith, subst, ◌==◌}
 use Rattle.std.specs.List.{All}
-use Rattle.std.proofs.lemmas.Bool.{and_from, or_cases, or_parts, false≢true, false_from_ne_true, not_from_false}
+use Rattle.std.proofs.lemmas.Bool.{and_from, and_parts, not-true, or_cases, or_parts, false≢true, false_from_ne_true, not_from_false}
 use Rattle.std.proofs.lemmas.List.Elements.{All-push}
 use Rattle.std.proofs.lemmas.List.Folds.{list_any_more, list_any-append}
-use Rattle.std.proofs.Math.Bool.{or-false}
 use Rattle.sd_sid.specs.Mask.{holds, mask_of}
 use Rattle.sd_sid.specs.Sid.{SidValue, same_sid}
 use Rattle.sd_sid.proofs.Compared.{same_sid-true}
@@ -18,7 +17,7 @@ use Rattle.sd_analysis.specs.declared.compare_search.Found.{Found}
 use Rattle.sd_analysis.specs.declared.witness.Demand.{Demand}
 use Rattle.sd_analysis.specs.declared.witness.PassSids.{PassSids}
 use Rattle.sd_analysis.proofs.Passed.{two_suffice}
-use Rattle.sd_analysis.proofs.Reports.{in_both, none_held}
+use Rattle.sd_analysis.proofs.Reports.{in_difference, none_held}
 use Rattle.sd_analysis.proofs.Restricted.{sought}
 
 pub among_more : (sids : List SidValue) (i : ℕ) (one s : SidValue) → i < length sids → one ≡ get_or sids i one
@@ -30,30 +29,38 @@ among_more sids i one s low is h =
     ]
 
 pub still_left : (before now : Found) (b : ℕ) → IsLessLeft before now → holds before.left b ≡ false → holds now.left b ≡ false
-still_left before now b less gone = false_from_ne_true _ (λ still. false≢true (sym gone ∙ less b still))
+still_left before now b less gone = grind (arith, less b)
 
 found_push : (fs : List Finding) (f : Finding) (b : ℕ) → is_found (fs ++ f ∷ []) b ≡ (is_found fs b || holds f.mask b)
-found_push fs f b =
-    list_any-append (λ (x : Finding). holds x.mask b) fs (f ∷ []) ∙ ap (λ x. is_found fs b || x) (or-false (holds f.mask b))
+found_push fs f b = grind (arith, list_any-append)
 
-pub found_one_more : (case : Case) (pass : Pass) (demand : Demand) (wanted : ℕ) (before now : Found) (sids : PassSids) (met mask : ℕ)
-    → ((b : ℕ) → holds met b ≡ true → b < 21)
-    → ((b : ℕ) → b < 21 → holds met b ≡ sids_meet case pass demand sids b)
-    → mask ≡ mask_of (λ k. holds met k && holds before.left k) 32
+pub found_one_more : (case : Case) (pass : Pass) (demand : Demand) (wanted : ℕ) (before now : Found) (sids : PassSids) (mask : ℕ)
+    → ((b : ℕ) → holds mask b ≡ true → b < 21)
+    → ((b : ℕ) → b < 21 → holds mask b ≡ (sids_meet case pass demand sids b && holds before.left b))
     → now.findings.items ≡ before.findings.items ++ record { mask = mask; sids = sids } ∷ []
     → now.left ≡ mask_of (λ k. holds before.left k && not (holds mask k)) 32
     → IsFound case pass demand wanted before → IsFound case pass demand wanted now
-found_one_more case pass demand wanted before now sids met mask within is_met is_mask is_items is_left found = record {
+found_one_more case pass demand wanted before now sids mask within is_met is_items is_left found = record {
   shown = subst (All (λ (f : Finding). (b : ℕ) → holds f.mask b ≡ true → sids_meet case pass demand f.sids b ≡ true)) (sym is_items)
       (All-push (λ (f : Finding). (b : ℕ) → holds f.mask b ≡ true → sids_meet case pass demand f.sids b ≡ true)
       before.findings.items (record { mask = mask; sids = sids }) found.shown
-      (λ b h. let held = (in_both met before.left b (sym (ap (λ m. holds m b) is_mask) ∙ h)).0 in sym (is_met b (within b held)) ∙ held));
+      (λ b h. (and_parts (sids_meet case pass demand sids b) (holds before.left b) (sym (is_met b (within b h)) ∙ h)).0));
   left = λ b low in_wanted none.
       let parts = or_parts (is_found before.findings.items b) (holds mask b)
       (sym (ap (λ fs. is_found fs b) is_items ∙ found_push before.findings.items (record { mask = mask; sids = sids }) b) ∙ none) in
       ap (λ m. holds m b) is_left ∙ holds_place (λ k. holds before.left k && not (holds mask k)) b (omega arith)
       ∙ and_from _ _ (found.left b low in_wanted parts.0) (not_from_false _ parts.1);
 }
+
+-- what the SIDs meet is left no more
+pub none_left : (left mask b : ℕ) (met : Bool) → holds mask b ≡ (met && holds left b) → (mask == 0) ≡ true → met ≡ true → holds left b ≡ false
+none_left left mask b met is none h = grind (arith, none_held)
+
+pub sids_gone : (left mask now b : ℕ) (met : Bool) → holds mask b ≡ (met && holds left b) → now ≡ mask_of (λ k. holds left k && not (holds mask k)) 32
+    → met ≡ true → holds now b ≡ false
+sids_gone left mask now b met is is_now h = false_from_ne_true _ (λ still.
+    let parts = in_difference left mask b (sym (ap (λ m. holds m b) is_now) ∙ still) in
+    false≢true (sym (not-true _ parts.1) ∙ is ∙ and_from _ _ h parts.0))
 
 -- a search that has tried all that may decide
 pub search_done : (case : Case) (is : IsCase case) (pass : Pass) (demand : Demand) (wanted : ℕ) (found : Found) → IsFound case pass demand wanted found

@@ -1,15 +1,10 @@
 -- The law: two SIDs per pass are enough.
-use Rattle.std.proofs.Common.{◌≡◌, not, Some, None, inl, inr, sym, ◌∙◌, subst}
-use Rattle.sd_sid.specs.Sid.{SidValue}
+use Rattle.std.proofs.Common.{not, Some, None, inl, inr, sym, ◌∙◌, subst}
 use Rattle.sd_check.specs.declared.grounds.Pass.TheVariants.{First, Second}
-use Rattle.sd_analysis.specs.Sufficient.{Parts, MayDecide, TwoSidsPerPassSuffice}
+use Rattle.sd_analysis.specs.Sufficient.{MayDecide, TwoSidsPerPassSuffice}
 use Rattle.sd_analysis.specs.Passes.{meets, sids_stand}
-use Rattle.sd_analysis.specs.declared.witness.PassSids.{PassSids}
 use Rattle.sd_analysis.proofs.Passed.{two_suffice}
 use Rattle.sd_analysis.proofs.Bridged.{gain_shown, unrestricted_gains, restricted_gains}
-
-may_decide_too : (other : SidValue) (old new : Parts) (sids more : PassSids) → sids ≡ more → MayDecide other old new sids → MayDecide other old new more
-may_decide_too other old new sids more same h = subst (MayDecide other old new) same h
 
 pub two_sids_per_pass_suffice : TwoSidsPerPassSuffice
 two_sids_per_pass_suffice g old new base t b other not_old not_new has h =
@@ -31,7 +26,7 @@ two_sids_per_pass_suffice g old new base t b other not_old not_new has h =
           let second = two_suffice g old new base t other b Second (record { by_owner = by_owner; unlisted = not unlisted; unowned = not unowned }) has not_old not_new there in (
             record { first = first.0; second = Some second.0 },
             (
-              record { first = first.1.0; second = λ sids is. may_decide_too other old new second.0 sids (cc) second.1.0 },
+              record { first = first.1.0; second = λ sids is. subst (MayDecide other old new) (cc) second.1.0 },
               restricted_gains g old new base b by_owner unlisted unowned first.0 second.0 first.1.1.0 second.1.1.0,
             ),
           )

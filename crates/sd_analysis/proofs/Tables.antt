@@ -1,10 +1,10 @@
 -- One walk over a list says of each SID what the list grants with it.
-use Rattle.std.proofs.Common.{◌≡◌, ℕ, suc, zero, ◌<◌, ◌≤◌, ◌+◌, Bool, true, false, not, ◌&&◌, ◌||◌, ◌==◌, cond, List, [], ◌∷◌, ◌++◌, length, get_or, set, take, drop, map, Option, Some, None, ◌⊎◌, inl, inr, refl, sym, ◌∙◌, ap, arith}
+use Rattle.std.proofs.Common.{◌≡◌, ℕ, suc, zero, ◌<◌, Bool, true, false, not, ◌&&◌, ◌||◌, ◌==◌, cond, List, [], ◌∷◌, ◌++◌, length, get_or, take, map, Option, Some, None, ◌⊎◌, inl, refl, sym, ◌∙◌, ap, arith}
 use Rattle.std.specs.List.{fold}
 use Rattle.std.specs.Option.{is_some}
-use Rattle.std.proofs.lemmas.Bool.{agree_below_at, and_from, and_left, and_right, cases_Bool, cases_eq, cond-false, cond-true, eq-eqb, eqb-true, false_from_ne_true, false≢true, lt-ltb, ne_eqb, or_cases, or_left, or_right}
-use Rattle.std.proofs.lemmas.List.{drop_all, drop_more, get_or-set_other, get_or_read, map-append, take_more}
-use Rattle.std.proofs.lemmas.Grind.{get_or-set_at}
+use Rattle.std.proofs.lemmas.Bool.{agree_below_at, cond-true, false≢true, lt-ltb, or_left, or_right}
+use Rattle.std.proofs.lemmas.List.{get_or_read}
+use Rattle.std.proofs.lemmas.List.Folds.{list_any-append}
 use Rattle.sd_sid.specs.Mask.{holds, mask_of}
 use Rattle.sd_sid.specs.Mapping.{MappingValue, mapped}
 use Rattle.sd_sid.specs.Sid.{SidValue, same_sid}
@@ -13,16 +13,13 @@ use Rattle.sd_sid.proofs.Masks.{holds_place, holds_when}
 use Rattle.sd_acl.specs.Ace.{is_allow, is_inherit_only}
 use Rattle.sd_acl.specs.declared.ace.Ace.{Ace}
 use Rattle.sd_acl.specs.declared.ace.AceKind.{AceKind}
-use Rattle.sd_acl.specs.declared.ace.AceKind.TheVariants.{Allow, Deny}
 use Rattle.sd_check.specs.Check.{decides, first, is_allowed_by, subject}
-use Rattle.sd_check.specs.Token.{a_group_stands_for, counts}
+use Rattle.sd_check.specs.Token.{counts}
 use Rattle.sd_check.specs.declared.grounds.Pass.{Pass}
-use Rattle.sd_check.specs.declared.grounds.Pass.TheVariants.{First, Second}
 use Rattle.sd_check.specs.declared.token.GroupState.{GroupState}
-use Rattle.sd_check.specs.declared.token.GroupState.TheVariants.{DenyOnly}
 use Rattle.sd_analysis.specs.Sufficient.{Parts, entries_or_none, is_among}
-use Rattle.sd_analysis.specs.Passes.{about, lists}
-use Rattle.sd_analysis.specs.Table.{AreShares, IsBeside, IsListing, Point, applies_in, common_of, counts_in, first_point, listed_of, nothing_decided, place_in, point_after, point_at, point_moved, row_for, row_of, share_after, stand_with}
+use Rattle.sd_analysis.specs.Passes.{about, lists, sids_stand}
+use Rattle.sd_analysis.specs.Table.{AreShares, IsBeside, IsListing, Point, applies_in, common_of, counts_in, first_point, listed_of, nothing_decided, place_in, point_after, point_at, point_moved, row_for, row_of, share_after, sids_of}
 use Rattle.sd_analysis.specs.declared.compare_table.Listing.{Listing}
 use Rattle.sd_analysis.specs.declared.compare_table.Role.{Role}
 use Rattle.sd_analysis.specs.declared.compare_table.Row.{Row}
@@ -35,96 +32,21 @@ use Rattle.sd_analysis.proofs.Reports.{none_held}
 pub place_here : (one s : SidValue) (sids : List SidValue) → same_sid one s ≡ true → place_in (one ∷ sids) s ≡ 0
 place_here one s sids h = cond-true (same_sid one s) 0 (suc (place_in sids s)) h
 
-pub place_next : (one s : SidValue) (sids : List SidValue) → same_sid one s ≡ false → place_in (one ∷ sids) s ≡ suc (place_in sids s)
-place_next one s sids h = cond-false (same_sid one s) 0 (suc (place_in sids s)) h
-
-at_index : (sids : List SidValue) (i : ℕ) (one s : SidValue) → i < length sids → one ≡ get_or sids i one
-    → place_in (drop i sids) s ≡ place_in (one ∷ drop (i + 1) sids) s
-at_index sids i one s low is =
-    ap (λ xs. place_in xs s) (drop_more sids i one low ∙ ap (λ (x : SidValue). x ∷ drop (i + 1) sids) (sym is))
-
-pub place_found : (sids : List SidValue) (i : ℕ) (one s : SidValue) → i < length sids → one ≡ get_or sids i one → same_sid one s ≡ true
-    → place_in sids s ≡ i + place_in (drop i sids) s → i ≡ place_in sids s
-place_found sids i one s low is h so_far =
-    let none : place_in (drop i sids) s ≡ 0 = at_index sids i one s low is ∙ place_here one s (drop (i + 1) sids) h in
-    omega (arith, so_far, none)
-
-pub place_more : (sids : List SidValue) (i : ℕ) (one s : SidValue) → i < length sids → one ≡ get_or sids i one → same_sid one s ≡ false
-    → place_in sids s ≡ i + place_in (drop i sids) s → place_in sids s ≡ (i + 1) + place_in (drop (i + 1) sids) s
-place_more sids i one s low is h so_far =
-    let next : place_in (drop i sids) s ≡ suc (place_in (drop (i + 1) sids) s) = at_index sids i one s low is ∙ place_next one s (drop (i + 1) sids) h in
-    omega (arith, so_far, next)
-
-pub place_end : (sids : List SidValue) (i : ℕ) (s : SidValue) → length sids ≤ i → i ≤ length sids
-    → place_in sids s ≡ i + place_in (drop i sids) s → length sids ≡ place_in sids s
-place_end sids i s past within so_far =
-    let none : place_in (drop i sids) s ≡ 0 = ap (λ xs. place_in xs s) (drop_all i sids past) in
-    omega (arith, so_far, none, past, within)
-
 pub place_low : (sids : List SidValue) (s : SidValue) → is_among sids s ≡ true → place_in sids s < length sids
 place_low [] s h = absurd (false≢true h)
-place_low (one ∷ sids) s h = elim (cases_Bool (same_sid one s)) [
-  | inl here ↦ let is : place_in (one ∷ sids) s ≡ 0 = place_here one s sids here in omega (arith, is)
-  | inr not_here ↦ elim (or_cases (same_sid one s) (is_among sids s) h) [
-    | inl here ↦ absurd (false≢true (sym not_here ∙ here))
-    | inr later ↦
-        let is : place_in (one ∷ sids) s ≡ suc (place_in sids s) = place_next one s sids not_here in
-        let low : place_in sids s < length sids = place_low sids s later in
-        omega (arith, is, low)
-  ]
-]
-
-different : (a b : ℕ) → (a ≡ b → ⊥) → (t : Bool) → t ≡ false → (a == b) ≡ t
-different a b ne t is = ne_eqb a b ne ∙ sym is
+place_low (one ∷ sids) s h = grind (arith, place_low sids s)
 
 -- two SIDs have one place if they are the same, where one of them has a place at all
 pub place_same : (sids : List SidValue) (x s : SidValue) → is_among sids s ≡ true → (place_in sids x == place_in sids s) ≡ same_sid s x
 place_same [] x s h = absurd (false≢true h)
-place_same (one ∷ sids) x s h = elim (cases_Bool (same_sid one s)) [
-  | inl here ↦
-      let is : place_in (one ∷ sids) s ≡ 0 = place_here one s sids here in
-      let same : one ≡ s = same_sid-true one s here in
-      elim (cases_Bool (same_sid one x)) [
-        | inl both ↦
-            let is_x : place_in (one ∷ sids) x ≡ 0 = place_here one x sids both in
-            eq-eqb _ _ (is_x ∙ sym is) ∙ sym (ap (λ y. same_sid y x) (sym same) ∙ both)
-        | inr other ↦
-            let is_x : place_in (one ∷ sids) x ≡ suc (place_in sids x) = place_next one x sids other in
-            different _ _ (λ e. omega (arith, e, is, is_x)) _ (ap (λ y. same_sid y x) (sym same) ∙ other)
-      ]
-  | inr not_here ↦
-      let is : place_in (one ∷ sids) s ≡ suc (place_in sids s) = place_next one s sids not_here in
-      elim (or_cases (same_sid one s) (is_among sids s) h) [
-        | inl here ↦ absurd (false≢true (sym not_here ∙ here))
-        | inr later ↦ elim (cases_Bool (same_sid one x)) [
-          | inl at_x ↦
-              let is_x : place_in (one ∷ sids) x ≡ 0 = place_here one x sids at_x in
-              different _ _ (λ e. omega (arith, e, is, is_x)) _
-              (false_from_ne_true _ (λ same. false≢true (sym not_here ∙ ap (same_sid one) (same_sid-true s x same) ∙ at_x)))
-          | inr not_x ↦
-              let is_x : place_in (one ∷ sids) x ≡ suc (place_in sids x) = place_next one x sids not_x in
-              let rest = place_same sids x s later in
-              elim (cases_Bool (same_sid s x)) [
-                | inl same ↦ eq-eqb _ _ (omega (arith, is, is_x, eqb-true _ _ (rest ∙ same))) ∙ sym same
-                | inr other ↦ different _ _
-                    (λ e. false≢true (sym (rest ∙ other) ∙ eq-eqb _ _ (omega (arith, e, is, is_x)))) _ other
-              ]
-        ]
-      ]
-]
+place_same (one ∷ sids) x s h = grind (arith, same_sid-true one s, same_sid-true s x, place_same sids x s)
 
 -- a SID is at its own place, or one before is the same
 pub first_or_before : (sids : List SidValue) (i : ℕ) (d : SidValue) → i < length sids
     → (place_in sids (get_or sids i d) ≡ i) ⊎ (is_among (take i sids) (get_or sids i d) ≡ true)
 first_or_before [] i d low = absurd (omega arith)
 first_or_before (one ∷ sids) zero d low = inl (place_here one one sids (same_sid-itself one))
-first_or_before (one ∷ sids) (suc i) d low = elim (cases_Bool (same_sid one (get_or sids i d))) [
-  | inl here ↦ inr (or_left _ _ here)
-  | inr not_here ↦ elim (first_or_before sids i d (omega arith)) [
-    | inl is ↦ inl (place_next one (get_or sids i d) sids not_here ∙ ap suc is)
-    | inr before ↦ inr (or_right _ _ before)
-  ]
-]
+first_or_before (one ∷ sids) (suc i) d low = grind (arith, first_or_before sids i d)
 
 pub among_at : (sids : List SidValue) (i : ℕ) (d : SidValue) → i < length sids → is_among sids (get_or sids i d) ≡ true
 among_at [] i d low = absurd (omega arith)
@@ -132,92 +54,27 @@ among_at (one ∷ sids) zero d low = or_left _ _ (same_sid-itself one)
 among_at (one ∷ sids) (suc i) d low = or_right _ _ (among_at sids i d (omega arith))
 
 pub among_left : (xs ys : List SidValue) (s : SidValue) → is_among xs s ≡ true → is_among (xs ++ ys) s ≡ true
-among_left [] ys s h = absurd (false≢true h)
-among_left (x ∷ xs) ys s h = elim (or_cases (same_sid x s) (is_among xs s) h) [
-  | inl here ↦ or_left _ _ here
-  | inr later ↦ or_right _ _ (among_left xs ys s later)
-]
+among_left xs ys s h = list_any-append (λ one. same_sid one s) xs ys ∙ or_left _ _ h
 
 pub among_right : (xs ys : List SidValue) (s : SidValue) → is_among ys s ≡ true → is_among (xs ++ ys) s ≡ true
-among_right [] ys s h = h
-among_right (x ∷ xs) ys s h = or_right _ _ (among_right xs ys s h)
-
--- ---- a list that is made element by element
-
-pub mapped_more : {X Y : Type 0} (f : X → Y) (xs : List X) (i : ℕ) (x : X) (ys zs : List Y) → i < length xs → x ≡ get_or xs i x
-    → ys ≡ map f (take i xs) → zs ≡ ys ++ f x ∷ [] → zs ≡ map f (take (i + 1) xs)
-mapped_more f xs i x ys zs low is so_far one_more =
-    one_more ∙ ap (λ ws. ws ++ f x ∷ []) so_far ∙ sym (map-append f (take i xs) (x ∷ []))
-    ∙ ap (map f) (ap (λ y. take i xs ++ y ∷ []) is ∙ sym (take_more xs i x low))
+among_right xs ys s h = list_any-append (λ one. same_sid one s) xs ys ∙ or_right _ _ h
 
 -- ---- whom an entry is for
-
-shuffled : (n s m : Bool) → ((n && s) && m) ≡ ((n && m) && s)
-shuffled true true true = refl
-shuffled true true false = refl
-shuffled true false true = refl
-shuffled true false false = refl
-shuffled false s m = refl
-
-alone_first : (x based : Bool) → (x || based) ≡ ((based || false) || (true && x))
-alone_first true true = refl
-alone_first true false = refl
-alone_first false true = refl
-alone_first false false = refl
-
-alone_second : (x : Bool) → (x || false) ≡ ((false || false) || (true && x))
-alone_second true = refl
-alone_second false = refl
-
-pair_first : (p x based : Bool) (kind : AceKind) → (p || ((x && counts kind DenyOnly) || based)) ≡ ((based || p) || (not (is_allow kind) && x))
-pair_first true x true kind = refl
-pair_first true x false kind = refl
-pair_first false true true Allow = refl
-pair_first false true true Deny = refl
-pair_first false true false Allow = refl
-pair_first false true false Deny = refl
-pair_first false false true Allow = refl
-pair_first false false true Deny = refl
-pair_first false false false Allow = refl
-pair_first false false false Deny = refl
 
 module _ (g : MappingValue) (base : List (SidValue × GroupState)) (sids : List SidValue) where
   -- an entry that speaks of x counts where its place does
   stands_at : (pass : Pass) (beside : Option SidValue) (at : Option ℕ) → IsBeside sids beside at → (s : SidValue) → is_among sids s ≡ true
       → (e : Ace) (x : SidValue)
-      → stand_with pass base beside s e.kind x
+      → sids_stand pass base (sids_of beside s) e.kind x
       ≡ (applies_in pass at (row_for g base sids (Some x) e) || (counts_in pass at e.kind && (place_in sids x == place_in sids s)))
-  stands_at First None at is s among e x =
-      alone_first (same_sid s x) (a_group_stands_for base e.kind x)
-      ∙ ap (λ y. (a_group_stands_for base e.kind x || false) || (true && y)) (sym (place_same sids x s among))
-      ∙ ap (λ p. applies_in First p (row_for g base sids (Some x) e) || (counts_in First p e.kind && (place_in sids x == place_in sids s))) (sym is.at)
-  stands_at Second None at is s among e x =
-      alone_second (same_sid s x)
-      ∙ ap (λ y. (false || false) || (true && y)) (sym (place_same sids x s among))
-      ∙ ap (λ p. applies_in Second p (row_for g base sids (Some x) e) || (counts_in Second p e.kind && (place_in sids x == place_in sids s))) (sym is.at)
-  stands_at First (Some p) at is s among e x =
-      pair_first (same_sid p x) (same_sid s x) (a_group_stands_for base e.kind x) e.kind
-      ∙ ap (λ y. (a_group_stands_for base e.kind x || y) || (not (is_allow e.kind) && same_sid s x)) (sym (place_same sids x p (is.among p refl)))
-      ∙ ap (λ y. (a_group_stands_for base e.kind x || (place_in sids x == place_in sids p)) || (not (is_allow e.kind) && y)) (sym (place_same sids x s among))
-      ∙ ap (λ o. applies_in First o (row_for g base sids (Some x) e) || (counts_in First o e.kind && (place_in sids x == place_in sids s))) (sym is.at)
-  stands_at Second (Some p) at is s among e x =
-      ap (λ y. y || same_sid s x) (sym (place_same sids x p (is.among p refl)))
-      ∙ ap (λ y. (place_in sids x == place_in sids p) || y) (sym (place_same sids x s among))
-      ∙ ap (λ o. applies_in Second o (row_for g base sids (Some x) e) || (counts_in Second o e.kind && (place_in sids x == place_in sids s))) (sym is.at)
+  stands_at pass beside at is s among e x = grind (arith, place_same, is.at, is.among)
 
   row_decides_for : (pass : Pass) (beside : Option SidValue) (at : Option ℕ) → IsBeside sids beside at → (s : SidValue) → is_among sids s ≡ true
       → (e : Ace) (b : ℕ) (o : Option SidValue)
-      → ((not (is_inherit_only e) && about (stand_with pass base beside s) e.kind o) && holds (mapped g e.mask) b)
+      → ((not (is_inherit_only e) && about (sids_stand pass base (sids_of beside s)) e.kind o) && holds (mapped g e.mask) b)
       ≡ (holds (row_for g base sids o e).mask b
       && (applies_in pass at (row_for g base sids o e) || (counts_in pass at e.kind && ((row_for g base sids o e).place == place_in sids s))))
-  row_decides_for pass beside at is s among e b None =
-      ap (λ x. x && holds (mapped g e.mask) b) (and_right (not (is_inherit_only e)) false refl)
-      ∙ ap (λ x. x && (applies_in pass at (row_for g base sids None e) || (counts_in pass at e.kind && (length sids == place_in sids s)))) (sym (none_held 0 b refl))
-  row_decides_for pass beside at is s among e b (Some x) =
-      ap (λ y. (not (is_inherit_only e) && y) && holds (mapped g e.mask) b) (stands_at pass beside at is s among e x)
-      ∙ shuffled (not (is_inherit_only e)) _ (holds (mapped g e.mask) b)
-      ∙ ap (λ y. y && (applies_in pass at (row_for g base sids (Some x) e) || (counts_in pass at e.kind && (place_in sids x == place_in sids s))))
-      (sym (holds_when (not (is_inherit_only e)) (mapped g e.mask) b))
+  row_decides_for pass beside at is s among e b o = grind (arith, stands_at, none_held, holds_when)
 
 -- ---- an entry more, bit by bit
 
@@ -231,76 +88,12 @@ undecided_after undecided m = undecided && not (m && undecided)
 abbrev allowed_after : Bool → Bool → Bool → Bool → Bool
 allowed_after undecided allowed m allow = allowed || (allow && (m && undecided))
 
--- the bits after an entry that applies, or counts where it is, or neither
-turn : (applies counts m allow rest u a v w : Bool) → (a && u) ≡ false
-    → granted_with (cond applies (undecided_after u m) u) (cond applies (allowed_after u a m allow) a)
-    (cond applies v (cond counts (undecided_after v (m && u)) v)) (cond applies w (cond counts (allowed_after v w (m && u) allow) w)) rest
-    ≡ granted_with u a v w (cond (m && (applies || counts)) allow rest)
-turn true t true true rest false true v true apart = refl
-turn true t true true rest false true v false apart = refl
-turn true t true false rest false true v w apart = refl
-turn true t false true rest false true v w apart = refl
-turn true t false false rest false true v w apart = refl
-turn true t true true rest false false v w apart = refl
-turn true t true false rest false false v w apart = refl
-turn true t false true rest false false v w apart = refl
-turn true t false false rest false false v w apart = refl
-turn applies t m allow rest true true v w apart = absurd (false≢true (sym apart))
-turn true t true allow rest true false v true apart = refl
-turn true t true true rest true false true false apart = refl
-turn true t true true rest true false false false apart = refl
-turn true t true false rest true false true false apart = refl
-turn true t true false rest true false false false apart = refl
-turn true t false true rest true false v w apart = refl
-turn true t false false rest true false v w apart = refl
-turn false false true allow rest u a v w apart = refl
-turn false false false allow rest u a v w apart = refl
-turn false true true true rest false a true true apart = refl
-turn false true true true rest false a true false apart = refl
-turn false true true true rest false a false true apart = refl
-turn false true true true rest false a false false apart = refl
-turn false true true false rest false a true true apart = refl
-turn false true true false rest false a true false apart = refl
-turn false true true false rest false a false true apart = refl
-turn false true true false rest false a false false apart = refl
-turn false true false true rest u a true true apart = refl
-turn false true false true rest u a true false apart = refl
-turn false true false true rest u a false true apart = refl
-turn false true false true rest u a false false apart = refl
-turn false true false false rest u a true true apart = refl
-turn false true false false rest u a true false apart = refl
-turn false true false false rest u a false true apart = refl
-turn false true false false rest u a false false apart = refl
-turn false true true true rest true false true true apart = refl
-turn false true true true rest true false true false apart = refl
-turn false true true true rest true false false true apart = refl
-turn false true true true rest true false false false apart = refl
-turn false true true false rest true false true true apart = refl
-turn false true true false rest true false true false apart = refl
-turn false true true false rest true false false true apart = refl
-turn false true true false rest true false false false apart = refl
-
-apart_after : (applies m allow u a : Bool) → (a && u) ≡ false → (cond applies (allowed_after u a m allow) a && cond applies (undecided_after u m) u) ≡ false
-apart_after false m allow u a apart = apart
-apart_after true m allow true true apart = absurd (false≢true (sym apart))
-apart_after true m allow false true apart = refl
-apart_after true true true false false apart = refl
-apart_after true true false false false apart = refl
-apart_after true false true false false apart = refl
-apart_after true false false false false apart = refl
-apart_after true true true true false apart = refl
-apart_after true true false true false apart = refl
-apart_after true false true true false apart = refl
-apart_after true false false true false apart = refl
-
 common_held : (m n b : ℕ) → b < 32 → holds (common_of m n) b ≡ (holds m b && holds n b)
 common_held m n b low = holds_place (λ k. holds m k && holds n k) b low
 
 undecided_held : (share : Share) (mask : ℕ) (kind : AceKind) (b : ℕ) → b < 32
     → holds (share_after share mask kind).undecided b ≡ undecided_after (holds share.undecided b) (holds mask b)
-undecided_held share mask kind b low =
-    holds_place (λ k. holds share.undecided k && not (holds (common_of mask share.undecided) k)) b low
-    ∙ ap (λ x. holds share.undecided b && not x) (common_held mask share.undecided b low)
+undecided_held share mask kind b low = grind (arith, holds_place)
 
 -- what the code makes of a share
 pub shared : (share : Share) (mask : ℕ) (kind : AceKind) (decided undecided more allowed : ℕ) (allows : Bool)
@@ -318,10 +111,7 @@ shared share mask kind decided undecided more allowed allows is_decided is_undec
 
 allowed_held : (share : Share) (mask : ℕ) (kind : AceKind) (b : ℕ) → b < 32
     → holds (share_after share mask kind).allowed b ≡ allowed_after (holds share.undecided b) (holds share.allowed b) (holds mask b) (is_allow kind)
-allowed_held share mask kind b low =
-    holds_place (λ k. holds share.allowed k || holds (cond (is_allow kind) (common_of mask share.undecided) 0) k) b low
-    ∙ ap (λ x. holds share.allowed b || x)
-    (holds_when (is_allow kind) (common_of mask share.undecided) b ∙ ap (λ x. is_allow kind && x) (common_held mask share.undecided b low))
+allowed_held share mask kind b low = grind (arith, holds_place, holds_when)
 
 -- what the point grants at the bit, where the entries to come do or don't
 abbrev granted_at_point : Point → ℕ → Bool → Bool
@@ -334,54 +124,34 @@ module _ (row : Row) (p : Point) (b : ℕ) (low : b < 32) (rest : Bool) (apart :
   moved_is : (applies counts : Bool)
       → granted_at_point (point_moved applies counts row p) b rest
       ≡ granted_at_point p b (cond (holds row.mask b && (applies || counts)) (is_allow row.kind) rest)
-  moved_is true counts =
-      ap (λ u. granted_with u (holds (share_after p.common row.mask row.kind).allowed b) (holds p.own.undecided b) (holds p.own.allowed b) rest)
-      (undecided_held p.common row.mask row.kind b low)
-      ∙ ap (λ a. granted_with (undecided_after (holds p.common.undecided b) (holds row.mask b)) a (holds p.own.undecided b) (holds p.own.allowed b) rest)
-      (allowed_held p.common row.mask row.kind b low)
-      ∙ turn true counts (holds row.mask b) (is_allow row.kind) rest (holds p.common.undecided b) (holds p.common.allowed b) (holds p.own.undecided b) (holds p.own.allowed b) apart
-  moved_is false true =
-      ap (λ v. granted_with (holds p.common.undecided b) (holds p.common.allowed b) v (holds (share_after p.own (common_of row.mask p.common.undecided) row.kind).allowed b) rest)
-      (undecided_held p.own (common_of row.mask p.common.undecided) row.kind b low
-      ∙ ap (undecided_after (holds p.own.undecided b)) (common_held row.mask p.common.undecided b low))
-      ∙ ap (λ w. granted_with (holds p.common.undecided b) (holds p.common.allowed b) (undecided_after (holds p.own.undecided b) (holds row.mask b && holds p.common.undecided b)) w rest)
-      (allowed_held p.own (common_of row.mask p.common.undecided) row.kind b low
-      ∙ ap (λ m. allowed_after (holds p.own.undecided b) (holds p.own.allowed b) m (is_allow row.kind)) (common_held row.mask p.common.undecided b low))
-      ∙ turn false true (holds row.mask b) (is_allow row.kind) rest (holds p.common.undecided b) (holds p.common.allowed b) (holds p.own.undecided b) (holds p.own.allowed b) apart
-  moved_is false false =
-      turn false false (holds row.mask b) (is_allow row.kind) rest (holds p.common.undecided b) (holds p.common.allowed b) (holds p.own.undecided b) (holds p.own.allowed b) apart
+  moved_is applies counts = grind (
+    arith,
+    undecided_held p.common row.mask row.kind b low,
+    allowed_held p.common row.mask row.kind b low,
+    undecided_held p.own (common_of row.mask p.common.undecided) row.kind b low,
+    allowed_held p.own (common_of row.mask p.common.undecided) row.kind b low,
+    common_held row.mask p.common.undecided b low,
+  )
 
   moved_apart : (applies counts : Bool) → IsApart (point_moved applies counts row p) b
-  moved_apart true counts =
-      ap (λ a. a && holds (share_after p.common row.mask row.kind).undecided b) (allowed_held p.common row.mask row.kind b low)
-      ∙ ap (λ u. allowed_after (holds p.common.undecided b) (holds p.common.allowed b) (holds row.mask b) (is_allow row.kind) && u)
-      (undecided_held p.common row.mask row.kind b low)
-      ∙ apart_after true (holds row.mask b) (is_allow row.kind) (holds p.common.undecided b) (holds p.common.allowed b) apart
-  moved_apart false true = apart
-  moved_apart false false = apart
+  moved_apart applies counts = grind (arith, undecided_held p.common row.mask row.kind b low, allowed_held p.common row.mask row.kind b low)
 
 ends : (w x y : Bool) → (w || x) ≡ ((w || x) || (y && false))
-ends true x y = refl
-ends false true y = refl
-ends false false true = refl
-ends false false false = refl
+ends w x y = grind arith
 
 listed_held : (p : Point) (b : ℕ) → b < 32 → holds (listed_of p) b ≡ (holds p.own.allowed b || (holds p.common.allowed b && holds p.own.undecided b))
-listed_held p b low =
-    holds_place (λ k. holds p.own.allowed k || holds (common_of p.common.allowed p.own.undecided) k) b low
-    ∙ ap (λ x. holds p.own.allowed b || x) (common_held p.common.allowed p.own.undecided b low)
+listed_held p b low = grind (arith, holds_place)
 
 -- the first of more entries
 first_of : (here : Bool) (e : Ace) (o : Option Ace) → is_allowed_by (cond here (Some e) o) ≡ cond here (is_allow e.kind) (is_allowed_by o)
-first_of true e o = refl
-first_of false e o = refl
+first_of here e o = grind arith
 
 -- ---- a whole list
 
 module _ (g : MappingValue) (base : List (SidValue × GroupState)) (sids : List SidValue) (owner : Option SidValue) (role : Role)
     (beside : Option SidValue) (is : IsBeside sids beside role.beside) (s : SidValue) (among : is_among sids s ≡ true) (b : ℕ) (low : b < 32) where
   abbrev who : AceKind → SidValue → Bool
-  who kind x = about (stand_with role.pass base beside s) kind (subject owner x)
+  who kind x = about (sids_stand role.pass base (sids_of beside s)) kind (subject owner x)
 
   walked : (es : List Ace) (p : Point) → IsApart p b
       → holds (listed_of (fold (point_after role (place_in sids s)) p (map (row_of g base sids owner) es))) b
@@ -399,35 +169,30 @@ module _ (g : MappingValue) (base : List (SidValue × GroupState)) (sids : List 
       ∙ sym (first_of (decides g who b e) e (first g who es b)))
 
 start_apart : (is_list : Bool) (b : ℕ) → b < 21 → IsApart (first_point is_list) b
-start_apart true b low = ap (λ x. x && holds 0x001FFFFF b) (none_held 0 b refl)
-start_apart false b low = ap (λ x. holds 0x001FFFFF b && x) (none_held 0 b refl) ∙ and_right (holds 0x001FFFFF b) false refl
+start_apart is_list b h = grind (arith, none_held)
 
 all_low : (b : ℕ) → b < 21 → holds 0x001FFFFF b ≡ true
 all_low b low = agree_below_at (holds 0x001FFFFF) (λ k. true) 21 b refl low
 
 list_starts : (b : ℕ) → b < 21 → (rest : Bool) → granted_at_point (first_point true) b rest ≡ rest
-list_starts b low rest =
-    ap (λ u. granted_with u (holds 0 b) u (holds 0 b) rest) (all_low b low)
-    ∙ ap (λ n. granted_with true n true n rest) (none_held 0 b refl)
+list_starts b rest h = grind (arith, none_held, all_low)
 
 none_starts : (b : ℕ) → b < 21 → (rest : Bool) → granted_at_point (first_point false) b rest ≡ true
-none_starts b low rest =
-    ap (λ u. granted_with (holds 0 b) u u (holds 0 b) rest) (all_low b low)
-    ∙ ap (λ n. granted_with n true true n rest) (none_held 0 b refl)
+none_starts b rest h = grind (arith, none_held, all_low)
 
 -- what a walk from the start comes to at the place of a SID
 module _ (g : MappingValue) (base : List (SidValue × GroupState)) (sids : List SidValue) (role : Role)
     (beside : Option SidValue) (is : IsBeside sids beside role.beside) (s : SidValue) (among : is_among sids s ≡ true) (b : ℕ) (low : b < 21) where
   walk_lists : (owner : Option SidValue) (dacl : Option (List Ace))
       → holds (listed_of (fold (point_after role (place_in sids s)) (first_point (is_some dacl)) (map (row_of g base sids owner) (entries_or_none dacl)))) b
-      ≡ lists g (record { owner = owner; dacl = dacl }) (stand_with role.pass base beside s) b
+      ≡ lists g (record { owner = owner; dacl = dacl }) (sids_stand role.pass base (sids_of beside s)) b
   walk_lists owner None =
       walked g base sids owner role beside is s among b (omega arith) [] (first_point false) (start_apart false b low)
       ∙ none_starts b low _ ∙ sym (lt-ltb b 21 low)
   walk_lists owner (Some es) =
       walked g base sids owner role beside is s among b (omega arith) es (first_point true) (start_apart true b low)
       ∙ list_starts b low _
-      ∙ sym (ap (λ x. x && is_allowed_by (first g (λ kind x. about (stand_with role.pass base beside s) kind (subject owner x)) es b)) (lt-ltb b 21 low))
+      ∙ sym (ap (λ x. x && is_allowed_by (first g (λ kind x. about (sids_stand role.pass base (sids_of beside s)) kind (subject owner x)) es b)) (lt-ltb b 21 low))
 
 pub shares_are : (g : MappingValue) (base : List (SidValue × GroupState)) (sids : List SidValue) (parts : Parts) (listing : Listing) (role : Role)
     (beside : Option SidValue) (shares : Shares) → IsListing g base sids parts listing → IsBeside sids beside role.beside
@@ -455,56 +220,3 @@ listed_made shares place own low is common union is_common is_union =
 -- nobody beside
 pub nobody_beside : (sids : List SidValue) → IsBeside sids None None
 nobody_beside sids = record { at = refl; among = λ s is. absurd cc }
-
--- ---- one place of a walk
-
-same_parts : (a b c d : Share) → a ≡ b → c ≡ d → (let p : Point = record { common = a; own = c } in p) ≡ record { common = b; own = d }
-same_parts a b c d is_common is_own = ap (λ (x : Share). (let p : Point = record { common = x; own = c } in p)) is_common ∙ ap (λ (x : Share). (let p : Point = record { common = b; own = x } in p)) is_own
-
-module _ (role : Role) (row : Row) (old new : Shares) where
-  moved_by : (applies counts : Bool) (place : ℕ) → applies_in role.pass role.beside row ≡ applies
-      → (counts_in role.pass role.beside row.kind && (row.place == place)) ≡ counts
-      → point_moved applies counts row (point_at old place) ≡ point_after role place (point_at old place) row
-  moved_by applies counts place is is_counted =
-      ap (λ t. point_moved t counts row (point_at old place)) (sym is)
-      ∙ ap (λ t. point_moved (applies_in role.pass role.beside row) t row (point_at old place)) (sym is_counted)
-
-  -- an entry that applies to all
-  pub takes_common : applies_in role.pass role.beside row ≡ true
-      → new.common ≡ share_after old.common row.mask row.kind → new.own.items ≡ old.own.items
-      → (place : ℕ) → point_at new place ≡ point_after role place (point_at old place) row
-  takes_common applies is_common is_own place =
-      same_parts _ _ _ _ is_common (ap (λ xs. get_or xs place nothing_decided) is_own)
-      ∙ moved_by true (counts_in role.pass role.beside row.kind && (row.place == place)) place applies refl
-
-  -- one that counts where its SID is
-  pub takes_own : (one : Share) → applies_in role.pass role.beside row ≡ false → counts_in role.pass role.beside row.kind ≡ true
-      → row.place < length old.own.items → one ≡ get_or old.own.items row.place one
-      → new.common ≡ old.common → new.own.items ≡ set old.own.items row.place (share_after one (common_of row.mask old.common.undecided) row.kind)
-      → (place : ℕ) → point_at new place ≡ point_after role place (point_at old place) row
-  takes_own one applies counts low is is_common is_own place = elim (cases_eq place row.place) [
-    | inl here ↦
-        same_parts _ _ _ _ is_common
-        (ap (λ xs. get_or xs place nothing_decided) is_own
-        ∙ get_or-set_at old.own.items row.place place (share_after one (common_of row.mask old.common.undecided) row.kind) nothing_decided here low
-        ∙ ap (λ x. share_after x (common_of row.mask old.common.undecided) row.kind)
-        (get_or_read old.own.items row.place one low is nothing_decided ∙ ap (λ i. get_or old.own.items i nothing_decided) (sym here)))
-        ∙ moved_by false true place applies (and_from _ _ counts (eq-eqb row.place place (sym here)))
-    | inr elsewhere ↦
-        same_parts _ _ _ _ is_common
-        (ap (λ xs. get_or xs place nothing_decided) is_own
-        ∙ get_or-set_other old.own.items row.place place (share_after one (common_of row.mask old.common.undecided) row.kind) nothing_decided elsewhere)
-        ∙ moved_by false false place applies (and_right _ _ (ne_eqb row.place place (λ e. elsewhere (sym e))))
-  ]
-
-  -- and one that counts for nobody, or for no SID that has a place
-  pub takes_nothing : applies_in role.pass role.beside row ≡ false
-      → (counts_in role.pass role.beside row.kind ≡ false) ⊎ (length old.own.items ≤ row.place)
-      → new.common ≡ old.common → new.own.items ≡ old.own.items
-      → (place : ℕ) → place < length old.own.items → point_at new place ≡ point_after role place (point_at old place) row
-  takes_nothing applies none is_common is_own place low =
-      same_parts _ _ _ _ is_common (ap (λ xs. get_or xs place nothing_decided) is_own)
-      ∙ moved_by false false place applies (elim none [
-        | inl counts ↦ and_left _ _ counts
-        | inr beyond ↦ and_right _ _ (ne_eqb row.place place (λ e. omega (arith, e, beyond, low)))
-      ])

@@ -1,11 +1,10 @@
 -- There is always a SID that neither descriptor names: more are numbered than named.
-use Rattle.std.proofs.Common.{◌≡◌, ℕ, suc, zero, ◌<◌, ◌≤◌, ◌+◌, ◌^◌, ◌/◌, ◌%◌, Bool, true, false, ◌||◌, cond, List, [], ◌∷◌, ◌++◌, length, map, Option, Some, None, Ok, Result, inl, inr, refl, sym, ◌∙◌, ap, arith}
+use Rattle.std.proofs.Common.{◌≡◌, ℕ, suc, zero, ◌<◌, ◌≤◌, ◌+◌, ◌^◌, ◌/◌, ◌%◌, Bool, true, false, ◌||◌, cond, List, [], ◌∷◌, ◌++◌, length, map, Option, Ok, Result, inl, inr, refl, sym, ◌∙◌, ap, arith}
 use Rattle.std.specs.List.{list_any}
 use Rattle.std.specs.Option.{option_to_list}
-use Rattle.std.proofs.lemmas.Bool.{cases_Bool, cases_eq, false_from_ne_true, le-ltb, lt-ltb, ne_eqb}
+use Rattle.std.proofs.lemmas.Bool.{cases_Bool, false_from_ne_true, le-ltb, lt-ltb, ne_eqb}
 use Rattle.std.proofs.lemmas.List.Folds.{list_any-append}
 use Rattle.std.proofs.lemmas.List.{length-append, length-map}
-use Rattle.std.proofs.Math.Bool.{or-false}
 use Rattle.sd_sid.specs.Sid.{SidValue, same_sid, sid_of}
 use Rattle.sd_sid.specs.declared.sid.SidError.{SidError}
 use Rattle.sd_sid.proofs.Compared.{same_sid-true}
@@ -28,10 +27,7 @@ count p zero = 0
 count p (suc k) = cond (p k) 1 0 + count p k
 
 one_either : (x y : Bool) (a b c : ℕ) → a ≤ b + c → cond (x || y) 1 0 + a ≤ (cond x 1 0 + b) + (cond y 1 0 + c)
-one_either true true a b c h = omega arith
-one_either true false a b c h = omega arith
-one_either false true a b c h = omega arith
-one_either false false a b c h = omega arith
+one_either x y a b c h = grind arith
 
 count_either : (p q : ℕ → Bool) (n : ℕ) → count (λ k. p k || q k) n ≤ count p n + count q n
 unfolding count
@@ -85,8 +81,7 @@ entries_among [] s = refl
 entries_among (e ∷ es) s = ap (λ x. same_sid e.sid s || x) (entries_among es s)
 
 owner_among : (owner : Option SidValue) (s : SidValue) → has_sid owner s ≡ is_among (option_to_list owner) s
-owner_among None s = refl
-owner_among (Some o) s = sym (or-false (same_sid o s))
+owner_among owner s = grind arith
 
 named_among : (parts : Parts) (s : SidValue) → is_named parts s ≡ is_among (names_of parts) s
 unfolding names_of
@@ -96,8 +91,7 @@ named_among parts s =
     ∙ sym (list_any-append (λ x. same_sid x s) (option_to_list parts.owner) (map (λ (e : Ace). e.sid) (entries_or_none parts.dacl)))
 
 owner_length : (owner : Option SidValue) → length (option_to_list owner) ≤ 1
-owner_length None = omega arith
-owner_length (Some o) = omega arith
+owner_length owner = grind arith
 
 names_length : (parts : Parts) → length (names_of parts) ≤ length (entries_or_none parts.dacl) + 1
 unfolding names_of
@@ -124,7 +118,4 @@ one_unnamed old new n all es ds is_es is_ds many =
 pub named_more : (old new : Parts) (n : ℕ) → ((k : ℕ) → k < n → (is_named old (numbered k) || is_named new (numbered k)) ≡ true)
     → (is_named old (numbered n) || is_named new (numbered n)) ≡ true
     → (k : ℕ) → k < n + 1 → (is_named old (numbered k) || is_named new (numbered k)) ≡ true
-named_more old new n below here k low = elim (cases_eq k n) [
-  | inl same ↦ ap (λ i. is_named old (numbered i) || is_named new (numbered i)) same ∙ here
-  | inr other ↦ below k (omega arith)
-]
+named_more old new n k h j k2 = grind arith

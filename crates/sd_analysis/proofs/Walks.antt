@@ -2,7 +2,7 @@
 use Rattle.std.proofs.Common.{◌≡◌, ℕ, ◌≤◌, Bool, true, false, not, ◌&&◌, ◌||◌, nat_le, cond, List, [], ◌∷◌, ◌++◌, length, take, drop, Option, Some, None, inl, inr, refl, sym, ◌∙◌, ap, arith, length-append}
 use Rattle.std.specs.List.{list_all, list_any}
 use Rattle.std.specs.Option.{is_none, option_or}
-use Rattle.std.proofs.Math.Bool.{and-false, and-true, or-false, or-true}
+use Rattle.std.proofs.Math.Bool.{and-false, and-true, or-false}
 use Rattle.std.proofs.lemmas.Bool.{and_from, and_parts, false≢true, leb-true, le-leb, or_cases, or_from, or_left, or_parts, or_right}
 use Rattle.std.proofs.lemmas.List.{take-append-drop, take-append-le}
 use Rattle.std.proofs.lemmas.List.Folds.{find-append, list_any-append}
@@ -16,7 +16,6 @@ use Rattle.sd_acl.specs.declared.ace.AceKind.TheVariants.{Allow, Deny}
 use Rattle.sd_check.specs.Check.{applies, decides, first, is_allowed_by, stands_for_subject, subject}
 use Rattle.sd_check.specs.Token.{TokenValue, a_group_stands_for, counts, stands_for}
 use Rattle.sd_check.specs.declared.token.GroupState.{GroupState}
-use Rattle.sd_check.specs.declared.token.GroupState.TheVariants.{Enabled, DenyOnly, Disabled}
 use Rattle.sd_analysis.specs.Base.{HasBase}
 use Rattle.sd_analysis.specs.Who.{holds_for, is_held_by, is_in_base}
 use Rattle.sd_analysis.specs.WhoWalk.{IsWalk, granted_by, is_of, undecided_by}
@@ -41,9 +40,7 @@ none_in_front p xs n none =
 -- ---- tokens
 
 counts_more : (state : GroupState) → counts Allow state ≡ true → counts Deny state ≡ true
-counts_more Enabled h = refl
-counts_more DenyOnly h = refl
-counts_more Disabled h = absurd cc
+counts_more state h = grind arith
 
 -- a SID that a token has enabled is there for denies too
 pub stands_for_deny : (t : TokenValue) (s : SidValue) → stands_for t Allow s ≡ true → stands_for t Deny s ≡ true
@@ -76,16 +73,10 @@ walk_alike base g h u v walk same decided is = record {
 -- ---- an allow for a SID that was denied, or has an alternative
 
 skipped_exact : (g u x d l : Bool) → l ≡ g → (g ≡ false → u ≡ not d) → (x ≡ true → d ≡ false → l ≡ true) → l ≡ (g || (u && x))
-skipped_exact true u x d l is unless known = is
-skipped_exact false u false d l is unless known = is ∙ sym (and-false u)
-skipped_exact false u true true l is unless known = is ∙ sym (and-true u ∙ unless refl)
-skipped_exact false u true false l is unless known = absurd (false≢true (sym is ∙ known refl refl))
+skipped_exact g u x d l h j k2 = grind arith
 
 skipped_open : (g u x d : Bool) → (g ≡ false → u ≡ not d) → (g || (u && x)) ≡ false → (u && not x) ≡ not d
-skipped_open true u x d unless h = absurd cc
-skipped_open false u false d unless h = and-true u ∙ unless refl
-skipped_open false true true d unless h = absurd cc
-skipped_open false false true d unless h = unless refl
+skipped_open g u x d h j = grind arith
 
 pub allow_is_known : (base : List (SidValue × GroupState)) (g u : TokenValue → Bool) (walk : Walk) (s : SidValue) → walk.is_closed ≡ false
     → (list_any (λ one. same_sid one s) walk.denied.items || list_any (λ (a : Alternative). is_of s a.holder) walk.alternatives.items) ≡ true
@@ -111,8 +102,7 @@ allow_is_known base g u walk s waits known is =
 -- ---- a deny
 
 denied_again : (u x d : Bool) → u ≡ not d → (x ≡ true → d ≡ true) → (u && not x) ≡ not d
-denied_again u false d is known = and-true u ∙ is
-denied_again u true d is known = and-false u ∙ sym (ap not (known refl))
+denied_again u x d h j = grind arith
 
 pub deny_is_known : (base : List (SidValue × GroupState)) (g u : TokenValue → Bool) (walk : Walk) (s : SidValue) → walk.is_closed ≡ false
     → list_any (λ one. same_sid one s) walk.denied.items ≡ true
@@ -139,15 +129,10 @@ same_alternatives t denied s (a ∷ those) within =
 
 within_more : (n m : ℕ) (those : List Alternative) → n ≤ m → list_all (λ (a : Alternative). nat_le a.unless n) those ≡ true → list_all (λ (a : Alternative). nat_le a.unless m) those ≡ true
 within_more n m [] more h = h
-within_more n m (a ∷ those) more h =
-    let parts = and_parts (nat_le a.unless n) (list_all (λ (other : Alternative). nat_le other.unless n) those) h in
-    let here : a.unless ≤ n = leb-true _ _ parts.0 in
-    and_from _ _ (le-leb a.unless m (omega arith)) (within_more n m those more parts.1)
+within_more n m (a ∷ those) more h = grind (arith, within_more n m those more, leb-true a.unless n, le-leb a.unless m)
 
 denied_more : (u x d : Bool) → u ≡ not d → (u && not x) ≡ not (d || (x || false))
-denied_more u true d is = and-false u ∙ sym (ap not (or-true d))
-denied_more u false true is = and-true u ∙ is
-denied_more u false false is = and-true u ∙ is
+denied_more u x d h = grind arith
 
 pub deny_is_new : (base : List (SidValue × GroupState)) (g u : TokenValue → Bool) (walk next : Walk) (s : SidValue) → walk.is_closed ≡ false
     → a_group_stands_for base Deny s ≡ false
@@ -175,18 +160,13 @@ deny_is_new base g u walk next s waits new more same still is =
 
 allowed_next : (o : Option Ace) (x : Bool) (e : Ace)
     → is_allowed_by (option_or o (cond x (Some e) None)) ≡ (is_allowed_by o || ((is_none o && x) && is_allow e.kind))
-allowed_next None true e = refl
-allowed_next None false e = refl
-allowed_next (Some one) x e = sym (or-false (is_allow one.kind))
+allowed_next o x e = grind arith
 
 undecided_next : (o : Option Ace) (x : Bool) (e : Ace) → is_none (option_or o (cond x (Some e) None)) ≡ (is_none o && not x)
-undecided_next None true e = refl
-undecided_next None false e = refl
-undecided_next (Some one) x e = refl
+undecided_next o x e = grind arith
 
 or_then : (a b c : Bool) → ((a || b) || c) ≡ (a || (b || c))
-or_then true b c = refl
-or_then false b c = refl
+or_then a b c = grind arith
 
 module _ (owner : Option SidValue) (g : MappingValue) (b : ℕ) (seen : List Ace) (e : Ace) where
   first_next : (t : TokenValue) → first g (applies t owner) (seen ++ e ∷ []) b
@@ -223,20 +203,15 @@ pub waits : (owner : Option SidValue) (g : MappingValue) (b : ℕ) (e : Ace) →
 waits owner g b e h t = rw h refl
 
 pub names_not : (owner : Option SidValue) (g : MappingValue) (b : ℕ) (e : Ace) → holds (mapped g e.mask) b ≡ false → (t : TokenValue) → decides g (applies t owner) b e ≡ false
-names_not owner g b e h t = ap (λ x. (not (is_inherit_only e) && applies t owner e.kind e.sid) && x) h ∙ and-false _
+names_not owner g b e h t = grind arith
 
 pub speaks_of_nobody : (owner : Option SidValue) (g : MappingValue) (b : ℕ) (e : Ace) → None ≡ subject owner e.sid → (t : TokenValue) → decides g (applies t owner) b e ≡ false
-speaks_of_nobody owner g b e h t =
-    ap (λ who. (not (is_inherit_only e) && stands_for_subject t e.kind who) && holds (mapped g e.mask) b) (sym h)
-    ∙ ap (λ x. x && holds (mapped g e.mask) b) (and-false (not (is_inherit_only e)))
+speaks_of_nobody owner g b e t h = grind arith
 
 pub speaks_of : (owner : Option SidValue) (g : MappingValue) (b : ℕ) (e : Ace) (s : SidValue)
     → is_inherit_only e ≡ false → holds (mapped g e.mask) b ≡ true → Some s ≡ subject owner e.sid → (t : TokenValue)
     → decides g (applies t owner) b e ≡ stands_for t e.kind s
-speaks_of owner g b e s effective names h t =
-    ap (λ who. (not (is_inherit_only e) && stands_for_subject t e.kind who) && holds (mapped g e.mask) b) (sym h)
-    ∙ ap (λ x. (not x && stands_for t e.kind s) && holds (mapped g e.mask) b) effective
-    ∙ ap (λ x. stands_for t e.kind s && x) names ∙ and-true (stands_for t e.kind s)
+speaks_of owner g b e s t h j k2 = grind arith
 
 -- ---- before the first entry
 

@@ -3,7 +3,7 @@ use Rattle.std.specs.Prelude.{◌≡◌, ℕ, List, Option, Some, remove}
 use Rattle.sd_sid.specs.Mapping.{MappingValue}
 use Rattle.sd_sid.specs.Sid.{SidValue}
 use Rattle.sd_acl.specs.declared.ace.Ace.{Ace}
-use Rattle.sd_check.specs.Check.{DaclRef, entries_of, verdict}
+use Rattle.sd_check.specs.Check.{verdict}
 use Rattle.sd_check.specs.Token.{TokenValue}
 use Rattle.sd_check.specs.declared.token.GroupState.{GroupState}
 use Rattle.sd_check.specs.declared.verdict.Verdict.{Verdict}
@@ -27,9 +27,9 @@ pub record HasEffect (owner : Option SidValue) (es : List Ace) (g : MappingValue
   pub differs : verdict owner (Some (remove es place)) g token request ≡ verdict owner (Some es) g token request
       → ⊥
 
--- a descriptor with this owner and this DACL
-abbrev pub parts : Option SidValue → DaclRef → Parts
-parts owner dacl = record { owner = owner; dacl = entries_of dacl }
+-- a descriptor with this owner and this list
+abbrev pub parts_with : Option SidValue → List Ace → Parts
+parts_with owner es = record { owner = owner; dacl = Some es }
 
 -- the bits that a verdict grants
 abbrev pub granted_by : Verdict → ℕ

@@ -49,9 +49,14 @@ pub record HasRoom (case : Case) (both : Both) : Type 0 where
   pub before : length both.before.own.items ≡ length (sids_in case)
   pub after : length both.after.own.items ≡ length (sids_in case)
 
--- what the new list grants with the SID of the place; what the owner has is left to a closer look
-abbrev pub granted_at : Both → Bool → ℕ → ℕ
-granted_at both by_owner at = cond by_owner 0x001FFFFF (listed_of (point_at both.after at))
+-- at the place is what both lists grant in the pass to the base with the SIDs
+pub record ArePlaced (case : Case) (pass : Pass) (sids : PassSids) (both : Both) (place : ℕ) : Type 0 where
+  pub room_before : place < length both.before.own.items
+  pub room_after : place < length both.after.own.items
+  pub before : (b : ℕ) → b < 21 → holds (listed_of (point_at both.before place)) b
+      ≡ lists case.mapping.now (old_of case) (sids_stand pass case.base.now sids) b
+  pub after : (b : ℕ) → b < 21 → holds (listed_of (point_at both.after place)) b
+      ≡ lists case.mapping.now (new_of case) (sids_stand pass case.base.now sids) b
 
 -- a token meets the demand in the pass
 abbrev pub token_meets : Case → Pass → Demand → TokenValue → ℕ → Bool
@@ -62,11 +67,15 @@ abbrev pub sids_meet : Case → Pass → Demand → PassSids → ℕ → Bool
 sids_meet case pass demand sids b =
     meets case.mapping.now (old_of case) (new_of case) demand (sids_stand pass case.base.now sids) b
 
--- the new descriptor grants what is demanded to the base with the SID alone
+-- the new descriptor grants what is demanded to the base with the SIDs
+abbrev pub is_granted_to : Case → Pass → Demand → PassSids → ℕ → Bool
+is_granted_to case pass demand sids b =
+    cond demand.by_owner (owns (new_of case) (sids_stand pass case.base.now sids) b)
+    (lists case.mapping.now (new_of case) (sids_stand pass case.base.now sids) b)
+
+-- and with the SID alone
 abbrev pub is_granted_alone : Case → Pass → Demand → SidValue → ℕ → Bool
-is_granted_alone case pass demand s b =
-    cond demand.by_owner (owns (new_of case) (sids_stand pass case.base.now (record { allowed = s; denied = None })) b)
-    (lists case.mapping.now (new_of case) (sids_stand pass case.base.now (record { allowed = s; denied = None })) b)
+is_granted_alone case pass demand s = is_granted_to case pass demand (record { allowed = s; denied = None })
 
 -- some finding has the bit
 abbrev pub is_found : List Finding → ℕ → Bool

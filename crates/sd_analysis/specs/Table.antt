@@ -24,6 +24,7 @@ use Rattle.sd_analysis.specs.declared.compare_table.Row.{Row}
 use Rattle.sd_analysis.specs.declared.compare_table.Share.{Share}
 use Rattle.sd_analysis.specs.declared.compare_table.Shares.{Shares}
 use Rattle.sd_analysis.specs.declared.compare_table.Table.{Table}
+use Rattle.sd_analysis.specs.declared.witness.PassSids.{PassSids}
 
 -- ---- rows
 
@@ -127,10 +128,10 @@ listed_of point = mask_of (λ b. holds point.own.allowed b
 
 -- ---- what it comes to
 
--- who stands for what with the SID in the pass: the base, and the SID that it is beside
-abbrev pub stand_with : Pass → List (SidValue × GroupState) → Option SidValue → SidValue → AceKind → SidValue → Bool
-stand_with pass base None s = sids_stand pass base (record { allowed = s; denied = None })
-stand_with pass base (Some one) s = sids_stand pass base (record { allowed = one; denied = Some s })
+-- a SID by itself, and beside another
+abbrev pub sids_of : Option SidValue → SidValue → PassSids
+sids_of None s = record { allowed = s; denied = None }
+sids_of (Some one) s = record { allowed = one; denied = Some s }
 
 -- the rows are those of the descriptor's list
 pub record IsListing (g : MappingValue)
@@ -144,7 +145,8 @@ pub record AreShares (g : MappingValue)
     (beside : Option SidValue) (shares : Shares) : Type 0 where
   pub room : length shares.own.items ≡ length sids
   pub listed : (s : SidValue) (b : ℕ) → is_among sids s ≡ true → b < 21
-      → holds (listed_of (point_at shares (place_in sids s))) b ≡ lists g parts (stand_with pass base beside s) b
+      → holds (listed_of (point_at shares (place_in sids s))) b
+      ≡ lists g parts (sids_stand pass base (sids_of beside s)) b
 
 pub record AreBoth (g : MappingValue)
     (base : List (SidValue × GroupState)) (sids : List SidValue) (old new : Parts) (pass : Pass)

@@ -10,7 +10,6 @@ ghost use Rattle.sd_analysis.specs.Sufficient.{parts_of};
 ghost use Rattle.sd_analysis.specs.Compare.{AreGains};
 ghost use Rattle.sd_analysis.specs.Report.{AreFindings, IsCase, IsLess, IsNotGained, IsRefused, IsRefusedAgain};
 ghost use Rattle.sd_analysis.specs.Report.{IsReport, IsReportOf, is_found, new_of, old_of, rest_of, token_meets};
-ghost use Rattle.sd_analysis.specs.Table.{IsTable};
 ghost use Rattle.sd_analysis.specs.declared.witness.Witness.{Witness};
 
 use crate::base::Base;
@@ -20,7 +19,7 @@ use crate::compare_sides::{DescriptorRef, unnamed};
 use crate::compare_table::Table;
 use crate::witness::{Demand, Witness};
 use sd_check::Pass;
-use sd_sid::{GenericMapping, OBJECT_RIGHTS, Sid};
+use sd_sid::{GenericMapping, OBJECT_RIGHTS};
 use std::alloc::{AllocError, Global};
 
 /// What a change of a descriptor comes to: which bits tokens gain by it, and which they lose, each with a token that
@@ -66,8 +65,10 @@ fn gains<'x>(
 {
     let other = unnamed(old, new);
     let allowed = new.allowed(alloc, other)?;
-    let denied = old.denied(alloc)?;
-    let table = table_of(alloc, &allowed, &denied, old, new, mapping, base)?;
+    let denied = old.subjects(alloc, false)?;
+    let mut sids = Vec::from_slice(alloc, &allowed)?;
+    sids.extend_from_slice(&denied)?;
+    let table = Table::new(alloc, &sids, old, new, mapping, base)?;
     let case = Case {
         old,
         new,
@@ -79,24 +80,6 @@ fn gains<'x>(
         table,
     };
     case.gains(alloc)
-}
-
-/// The table of all SIDs that may decide.
-fn table_of(
-    alloc: Global,
-    allowed: &[Sid],
-    denied: &[Sid],
-    old: &DescriptorRef<'_>,
-    new: &DescriptorRef<'_>,
-    mapping: &GenericMapping,
-    base: &Base<'_>,
-) -> Result<Table, AllocError>
-    ensures { let before = parts_of old.now in let after = parts_of new.now in
-        IfOk result (IsTable mapping.now base.now (allowed.now ++ denied.now) before after) }
-{
-    let mut sids = Vec::from_slice(alloc, allowed)?;
-    sids.extend_from_slice(denied)?;
-    Table::new(alloc, &sids, old, new, mapping, base)
 }
 
 impl Case<'_> {

@@ -1,17 +1,16 @@
 //! The search for SIDs of a pass that meet a demand.
 
-ghost use Rattle.std.specs.Prelude.{◌≡◌, ◌<◌, ℕ, Option, Some, None, OnOk, IfOk, true, false, ◌⊎◌, cond};
+ghost use Rattle.std.specs.Prelude.{◌≡◌, ◌<◌, ℕ, Option, Some, None, OnOk, IfOk, true, false, ◌⊎◌, ◌&&◌};
 ghost use Rattle.std.specs.Prelude.{length, take, slice_index_or, ◌++◌, ◌∷◌, []};
 ghost use Rattle.sd_sid.specs.Mask.{holds};
 ghost use Rattle.sd_sid.specs.Sid.{SidValue};
-ghost use Rattle.sd_analysis.specs.Sufficient.{is_among, parts_of};
-ghost use Rattle.sd_analysis.specs.Passes.{lists, owns, sids_stand};
-ghost use Rattle.sd_analysis.specs.Report.{AreFindings, HasRoom, IsCase, IsPlace, IsSought, sids_in, IsFound};
-ghost use Rattle.sd_analysis.specs.Report.{IsLessLeft, is_granted_alone, new_of, old_of, sids_meet};
+ghost use Rattle.sd_analysis.specs.Sufficient.{is_among};
+ghost use Rattle.sd_analysis.specs.Report.{AreFindings, ArePlaced, HasRoom, IsCase, IsFound, IsLessLeft, IsPlace};
+ghost use Rattle.sd_analysis.specs.Report.{IsSought, is_granted_alone, is_granted_to, sids_in, sids_meet};
 
 use crate::base::Base;
 use crate::compare_sides::DescriptorRef;
-use crate::compare_table::{Both, Table};
+use crate::compare_table::{Both, Role, Table};
 use crate::witness::{Demand, PassSids};
 use sd_check::Pass;
 use sd_sid::{GenericMapping, Mask, OBJECT_RIGHTS, Sid};
@@ -145,11 +144,16 @@ impl Case<'_> {
             → sids_meet self.now pass demand (record { allowed = allowed.now; denied = denied }) b ≡ true
             → holds found.new.left b ≡ false) }
     {
-        let worth = self.worth_trying(pass, demand, allowed, place);
+        let alone = PassSids {
+            allowed: *allowed,
+            denied: None,
+        };
+        let both_alone = self.table.alone(pass);
+        let worth = self.worth_trying(both_alone, pass, demand, &alone, place);
         if worth.common(found.left).is_empty() {
             return Ok(());
         }
-        self.try_alone(found, pass, demand, allowed, place)?;
+        self.try_sids(found, both_alone, pass, demand, &alone, place)?;
         if !demand.unlisted {
             return Ok(());
         }
@@ -163,27 +167,35 @@ impl Case<'_> {
         Ok(())
     }
 
-    /// The bits for which the SID may meet the demand, by itself or with another: those that the new descriptor grants
+    /// The bits for which a SID may meet the demand, by itself or with another: those that the new descriptor grants
     /// it by itself, and of these, where only the rest is sought, what the old one grants it as the owner's.
-    fn worth_trying(&self, pass: Pass, demand: Demand, allowed: &Sid, place: usize) -> Mask
-        requires case { IsCase self.now }
-        requires place { IsPlace self.now allowed.now place }
+    fn worth_trying(
+        &self,
+        both: &Both,
+        pass: Pass,
+        demand: Demand,
+        alone: &PassSids,
+        place: usize,
+    ) -> Mask
+        requires placed { ArePlaced self.now pass alone.now both.now place }
+        requires alone { alone.now.denied ≡ None }
         ensures { (denied : Option SidValue) (b : ℕ) → b < 21
-            → is_granted_alone self.now pass demand allowed.now b ≡ true
-            → IsSought self.now pass demand (record { allowed = allowed.now; denied = denied }) b
+            → is_granted_to self.now pass demand alone.now b ≡ true
+            → IsSought self.now pass demand (record { allowed = alone.now.allowed; denied = denied }) b
             → holds result b ≡ true }
     {
-        let granted = self.granted_alone(demand.by_owner, pass, allowed, place);
+        let granted = self.granted(both, pass, demand, alone, place);
         if !demand.is_rest(pass) {
             return granted;
         }
-        granted.common(self.owned_alone(self.old, pass, allowed))
+        granted.common(self.owned(self.old, pass, alone))
     }
 
-    /// Tries the SID by itself.
-    fn try_alone(
+    /// Tries the SID with each that the old descriptor denies, where both lists grant what the demand asks for.
+    fn try_pairs(
         &self,
         found: &mut Found,
+        both: &mut Both,
         pass: Pass,
         demand: Demand,
         allowed: &Sid,
@@ -191,91 +203,42 @@ impl Case<'_> {
     ) -> Result<(), AllocError>
         requires case { IsCase self.now }
         requires place { IsPlace self.now allowed.now place }
+        requires room { HasRoom self.now both.old }
+        ensures room { OnOk result (HasRoom self.now both.new) }
         ensures found { OnOk result ((wanted : ℕ)
             → IsFound self.now pass demand wanted found.old → IsFound self.now pass demand wanted found.new) }
         ensures less { OnOk result (IsLessLeft found.old found.new) }
-        ensures gone { OnOk result ((b : ℕ) → b < 21
-            → sids_meet self.now pass demand (record { allowed = allowed.now; denied = None }) b ≡ true
+        ensures gone { OnOk result ((s : SidValue) (b : ℕ) → b < 21 → is_among self.now.denied.items s ≡ true
+            → sids_meet self.now pass demand (record { allowed = allowed.now; denied = Some s }) b ≡ true
             → holds found.new.left b ≡ false) }
     {
-        let worth = self
-            .met_alone(pass, demand, allowed, place)
-            .common(found.left);
-        if worth.is_empty() {
-            return Ok(());
-        }
-        let alone = PassSids {
-            allowed: *allowed,
-            denied: None,
+        let role = Role {
+            pass,
+            beside: Some(place),
         };
-        self.try_sids(found, pass, demand, &alone)?;
+        both.walk(&self.table.old, &self.table.new, role);
+        for (number, denied) in self.denied.iter().enumerate() {
+            let at = self.table.places[self.allowed.len() + number];
+            let pair = PassSids {
+                allowed: *allowed,
+                denied: Some(*denied),
+            };
+            self.try_sids(found, both, pass, demand, &pair, at)?;
+        }
         Ok(())
     }
 
-    /// The bits for which the SID by itself meets the demand.
-    fn met_alone(&self, pass: Pass, demand: Demand, allowed: &Sid, place: usize) -> Mask
-        requires case { IsCase self.now }
-        requires place { IsPlace self.now allowed.now place }
-        ensures { (b : ℕ) → b < 21
-            → holds result b ≡ sids_meet self.now pass demand (record { allowed = allowed.now; denied = None }) b }
-    {
-        let granted = self.granted_alone(demand.by_owner, pass, allowed, place);
-        let listed = self.listed_alone(pass, place).when(demand.unlisted);
-        let owned = self
-            .owned_alone(self.old, pass, allowed)
-            .when(demand.unowned);
-        granted.minus(listed).minus(owned).common(OBJECT_RIGHTS)
-    }
-
-    /// The bits that the new descriptor grants the SID by itself, by an entry or as the owner's.
-    fn granted_alone(&self, by_owner: bool, pass: Pass, allowed: &Sid, place: usize) -> Mask
-        requires case { IsCase self.now }
-        requires place { IsPlace self.now allowed.now place }
-        ensures { (b : ℕ) → b < 21 → holds result b
-            ≡ cond by_owner (owns (new_of self.now) (sids_stand pass self.now.base.now (record
-            { allowed = allowed.now; denied = None })) b)
-            (lists self.now.mapping.now (new_of self.now) (sids_stand pass self.now.base.now (record
-            { allowed = allowed.now; denied = None })) b) }
-    {
-        if by_owner {
-            self.owned_alone(self.new, pass, allowed)
-        } else {
-            self.table.alone(pass).after.listed(place)
-        }
-    }
-
-    /// The bits that the old descriptor's list grants it.
-    fn listed_alone(&self, pass: Pass, place: usize) -> Mask
-        requires case { IsCase self.now }
-        requires within { place < length (sids_in self.now) }
-        ensures { (allowed : SidValue) → IsPlace self.now allowed place → (b : ℕ) → b < 21 → holds result b
-            ≡ lists self.now.mapping.now (old_of self.now) (sids_stand pass self.now.base.now (record
-            { allowed = allowed; denied = None })) b }
-    {
-        self.table.alone(pass).before.listed(place)
-    }
-
-    /// The bits that one of the descriptors grants it as the owner's.
-    fn owned_alone(&self, side: &DescriptorRef<'_>, pass: Pass, allowed: &Sid) -> Mask
-        ensures { (b : ℕ) → b < 21 → holds result b
-            ≡ owns (parts_of side.now) (sids_stand pass self.now.base.now (record
-            { allowed = allowed.now; denied = None })) b }
-    {
-        let alone = PassSids {
-            allowed: *allowed,
-            denied: None,
-        };
-        self.owned(side, pass, &alone)
-    }
-
-    /// Adds the bits for which the SIDs meet the demand.
-    pub(crate) fn try_sids(
+    /// Adds the bits for which the SIDs meet the demand, by what both lists grant with them: it is at the place.
+    fn try_sids(
         &self,
         found: &mut Found,
+        both: &Both,
         pass: Pass,
         demand: Demand,
         sids: &PassSids,
+        place: usize,
     ) -> Result<(), AllocError>
+        requires { ArePlaced self.now pass sids.now both.now place }
         ensures found { OnOk result ((wanted : ℕ)
             → IsFound self.now pass demand wanted found.old → IsFound self.now pass demand wanted found.new) }
         ensures less { OnOk result (IsLessLeft found.old found.new) }
@@ -283,7 +246,7 @@ impl Case<'_> {
             → sids_meet self.now pass demand sids.now b ≡ true
             → holds found.new.left b ≡ false) }
     {
-        let mask = self.met(pass, demand, sids).common(found.left);
+        let mask = self.met(both, pass, demand, sids, place, found.left);
         if mask.is_empty() {
             return Ok(());
         }
@@ -292,28 +255,47 @@ impl Case<'_> {
         Ok(())
     }
 
-    /// The bits for which the SIDs meet the demand.
-    fn met(&self, pass: Pass, demand: Demand, sids: &PassSids) -> Mask
+    /// Those of the bits for which the SIDs meet the demand.
+    fn met(
+        &self,
+        both: &Both,
+        pass: Pass,
+        demand: Demand,
+        sids: &PassSids,
+        place: usize,
+        among: Mask,
+    ) -> Mask
+        requires { ArePlaced self.now pass sids.now both.now place }
         ensures within { (b : ℕ) → holds result b ≡ true → b < 21 }
         ensures met { (b : ℕ) → b < 21
-            → holds result b ≡ sids_meet self.now pass demand sids.now b }
+            → holds result b ≡ (sids_meet self.now pass demand sids.now b && holds among b) }
     {
-        let granted = self.granted(demand.by_owner, pass, sids);
-        let listed = self.listed(self.old, pass, sids).when(demand.unlisted);
+        let granted = self.granted(both, pass, demand, sids, place);
+        let listed = both.before.listed(place).when(demand.unlisted);
+        let worth = granted.minus(listed).common(among).common(OBJECT_RIGHTS);
+        if worth.is_empty() {
+            return worth;
+        }
         let owned = self.owned(self.old, pass, sids).when(demand.unowned);
-        granted.minus(listed).minus(owned).common(OBJECT_RIGHTS)
+        worth.minus(owned)
     }
 
     /// The bits that the new descriptor grants them, by an entry or as the owner's.
-    fn granted(&self, by_owner: bool, pass: Pass, sids: &PassSids) -> Mask
-        ensures { (b : ℕ) → b < 21 → holds result b
-            ≡ cond by_owner (owns (new_of self.now) (sids_stand pass self.now.base.now sids.now) b)
-            (lists self.now.mapping.now (new_of self.now) (sids_stand pass self.now.base.now sids.now) b) }
+    fn granted(
+        &self,
+        both: &Both,
+        pass: Pass,
+        demand: Demand,
+        sids: &PassSids,
+        place: usize,
+    ) -> Mask
+        requires { ArePlaced self.now pass sids.now both.now place }
+        ensures { (b : ℕ) → b < 21 → holds result b ≡ is_granted_to self.now pass demand sids.now b }
     {
-        if by_owner {
+        if demand.by_owner {
             self.owned(self.new, pass, sids)
         } else {
-            self.listed(self.new, pass, sids)
+            both.after.listed(place)
         }
     }
 }

@@ -1,4 +1,4 @@
-//! What a descriptor grants in a pass to a base with two SIDs more, as masks.
+//! A descriptor that is compared: whom it speaks of, and what its owner is granted in a pass.
 
 ghost use Rattle.std.specs.Prelude.{◌≡◌, ◌&&◌, ◌||◌, ◌<◌, ◌≤◌, ◌++◌, ◌^◌, ℕ, Some, IfOk, OnOk, false, length, not};
 ghost use Rattle.std.specs.List.{filter_map, list_any};
@@ -7,22 +7,21 @@ ghost use Rattle.sd_sid.specs.Mask.{holds};
 ghost use Rattle.sd_sid.specs.Sid.{same_sid};
 ghost use Rattle.sd_acl.specs.declared.ace.Ace.{Ace};
 ghost use Rattle.sd_acl.specs.declared.ace.AceKind.{AceKind};
-ghost use Rattle.sd_check.specs.Check.{entries_of, is_limit, limits_owner, subject};
-ghost use Rattle.sd_check.specs.Fold.{part_of};
-ghost use Rattle.sd_analysis.specs.Sufficient.{allowed_sids, denied_sids, entries_or_none, has_sid, is_named, parts_of};
+ghost use Rattle.sd_check.specs.Check.{entries_of, is_limit, limits_owner};
+ghost use Rattle.sd_analysis.specs.Sufficient.{allowed_sids, entries_or_none, has_sid, is_named, parts_of};
 ghost use Rattle.sd_analysis.specs.Sufficient.{subject_if, subjects_in};
-ghost use Rattle.sd_analysis.specs.Passes.{about, lists, numbered, owns, sids_stand};
+ghost use Rattle.sd_analysis.specs.Passes.{about, numbered, owns, sids_stand};
 ghost use Rattle.sd_analysis.specs.Report.{IsNeverMet};
 
 use crate::compare_search::Case;
 use crate::witness::PassSids;
 use sd_acl::{Ace, AceKind};
 use sd_check::{DaclRef, Pass, subject_of};
-use sd_sid::{Mask, OBJECT_RIGHTS, Sid};
+use sd_sid::{Mask, Sid};
 use std::alloc::{AllocError, Global};
 
 /// READ_CONTROL and WRITE_DAC, which are the owner's ([MS-DTYP] 2.5.3.2).
-const OWNERS_RIGHTS: Mask = Mask(0x0006_0000);
+pub(crate) const OWNERS_RIGHTS: Mask = Mask(0x0006_0000);
 
 /// A descriptor that is borrowed for a comparison, as far as a check looks at it: its owner, and its DACL.
 #[derive(Clone, Copy)]
@@ -57,11 +56,7 @@ impl DescriptorRef<'_> {
     fn limits_owner(&self) -> bool
         ensures { result ≡ limits_owner (entries_of self.now.dacl) }
     {
-        match self.dacl {
-            DaclRef::Absent => false,
-            DaclRef::Null => false,
-            DaclRef::List(entries) => has_limit(entries),
-        }
+        limits_owner(self.entries())
     }
 
     /// Whether READ_CONTROL and WRITE_DAC are the SID's, as the owner's ([MS-DTYP] 2.5.3.2).
@@ -79,10 +74,13 @@ impl DescriptorRef<'_> {
     }
 
     /// Whom its effective allows, or its denies, speak of.
-    fn subjects(&self, alloc: Global, allows: bool) -> Result<Vec<Sid>, AllocError>
+    pub(crate) fn subjects(&self, alloc: Global, allows: bool) -> Result<Vec<Sid>, AllocError>
         ensures { IfOk result (λ sids. sids.items ≡ subjects_in allows (parts_of self.now)) }
     {
-        subjects_of(alloc, allows, &self.owner, self.entries())
+        self.entries()
+            .iter()
+            .filter_map(|entry| subject_if(allows, &self.owner, entry))
+            .collect(alloc)
     }
 
     /// Whom it may grant a bit through, with a SID that nobody names.
@@ -95,13 +93,6 @@ impl DescriptorRef<'_> {
         let subjects = self.subjects(alloc, true)?;
         sids.extend_from_slice(&subjects)?;
         Ok(sids)
-    }
-
-    /// Whom it may deny a bit through.
-    pub(crate) fn denied(&self, alloc: Global) -> Result<Vec<Sid>, AllocError>
-        ensures { IfOk result (λ sids. sids.items ≡ denied_sids (parts_of self.now)) }
-    {
-        self.subjects(alloc, false)
     }
 }
 
@@ -148,21 +139,6 @@ pub(crate) fn made(authority: u64, subs: &[u32]) -> Sid
     Sid::new(authority, subs).unwrap()
 }
 
-fn subjects_of(
-    alloc: Global,
-    allows: bool,
-    owner: &Option<Sid>,
-    entries: &[Ace],
-) -> Result<Vec<Sid>, AllocError>
-    ensures { IfOk result (λ sids. sids.items ≡ filter_map (subject_if allows owner.now) entries.now) }
-{
-    let mut sids = Vec::new(alloc);
-    for entry in entries {
-        push_some(&mut sids, &subject_if(allows, owner, entry))?;
-    }
-    Ok(sids)
-}
-
 fn push_some(sids: &mut Vec<Sid>, sid: &Option<Sid>) -> Result<(), AllocError>
     ensures { OnOk result (sids.new.items ≡ sids.old.items ++ option_to_list sid.now) }
 {
@@ -172,16 +148,11 @@ fn push_some(sids: &mut Vec<Sid>, sid: &Option<Sid>) -> Result<(), AllocError>
     Ok(())
 }
 
-fn has_limit(entries: &[Ace]) -> bool
-    ensures { result ≡ list_any is_limit entries.now }
+/// Whether an effective entry for OWNER RIGHTS limits the owner ([MS-DTYP] 2.5.3.2).
+pub(crate) fn limits_owner(entries: &[Ace]) -> bool
+    ensures { result ≡ limits_owner (Some entries.now) }
 {
-    entries.iter().any(|entry| is_limit(entry))
-}
-
-fn is_limit(entry: &Ace) -> bool
-    ensures { result ≡ is_limit entry.now }
-{
-    !entry.is_inherit_only() && entry.sid.is_owner_rights()
+    entries.iter().any(|entry| !entry.is_inherit_only() && entry.sid.is_owner_rights())
 }
 
 fn has_entry(entries: &[Ace], sid: &Sid) -> bool
@@ -193,10 +164,7 @@ fn has_entry(entries: &[Ace], sid: &Sid) -> bool
 fn has_sid(one: &Option<Sid>, sid: &Sid) -> bool
     ensures { result ≡ has_sid one.now sid.now }
 {
-    match one {
-        None => false,
-        Some(one) => one.is(sid),
-    }
+    one.as_ref().is_some_and(|one| one.is(sid))
 }
 
 /// Whom an entry speaks of, where it is effective, and allows or denies as said.
@@ -210,51 +178,6 @@ fn subject_if(allows: bool, owner: &Option<Sid>, entry: &Ace) -> Option<Sid>
 }
 
 impl Case<'_> {
-    /// The bits that the DACL grants in the pass to the base with the SIDs.
-    pub(crate) fn listed(&self, side: &DescriptorRef<'_>, pass: Pass, sids: &PassSids) -> Mask
-        ensures { (b : ℕ) → b < 21
-            → holds result b ≡ lists self.now.mapping.now (parts_of side.now)
-            (sids_stand pass self.now.base.now sids.now) b }
-    {
-        match side.dacl {
-            DaclRef::Absent => OBJECT_RIGHTS,
-            DaclRef::Null => OBJECT_RIGHTS,
-            DaclRef::List(entries) => self.listed_by(&side.owner, entries, pass, sids),
-        }
-    }
-
-    fn listed_by(&self, owner: &Option<Sid>, entries: &[Ace], pass: Pass, sids: &PassSids) -> Mask
-        ensures { (b : ℕ) → b < 21
-            → holds result b ≡ lists self.now.mapping.now (record { owner = owner.now; dacl = Some entries.now })
-            (sids_stand pass self.now.base.now sids.now) b }
-    {
-        let mut undecided = OBJECT_RIGHTS;
-        let mut allowed = Mask(0);
-        for entry in entries {
-            let decided = self.part(owner, entry, pass, sids).common(undecided);
-            undecided = undecided.minus(decided);
-            allowed = allowed.union(decided.when(entry.kind.is_allow()));
-        }
-        allowed
-    }
-
-    /// What the entry decides where no earlier one does ([MS-DTYP] 2.5.3.2).
-    fn part(&self, owner: &Option<Sid>, entry: &Ace, pass: Pass, sids: &PassSids) -> Mask
-        ensures { result ≡ part_of self.now.mapping.now (λ kind s. about
-            (sids_stand pass self.now.base.now sids.now) kind (subject owner.now s)) entry.now }
-    {
-        if entry.is_inherit_only() {
-            return Mask(0);
-        }
-        match subject_of(owner, &entry.sid) {
-            None => Mask(0),
-            Some(subject) => self
-                .mapping
-                .map(entry.mask)
-                .when(self.stands(pass, sids, entry.kind, subject)),
-        }
-    }
-
     /// The bits that it grants as the owner's.
     pub(crate) fn owned(&self, side: &DescriptorRef<'_>, pass: Pass, sids: &PassSids) -> Mask
         ensures { (b : ℕ) → b < 21

@@ -142,13 +142,10 @@ impl Table {
 fn places_of(alloc: Global, sids: &[Sid]) -> Result<Vec<usize>, AllocError>
     ensures { IfOk result (λ places. places.items ≡ map (place_in sids.now) sids.now) }
 {
-    let mut places = Vec::with_capacity(alloc, sids.len())?;
-    for sid in sids {
-        places.push(place_of(sids, sid))?;
-    }
-    Ok(places)
+    sids.iter().map(|sid| place_of(sids, sid)).collect(alloc)
 }
 
+/// The place of the first that is the same, or their number.
 fn place_of(sids: &[Sid], sid: &Sid) -> usize
     ensures { result ≡ place_in sids.now sid.now }
 {
@@ -212,11 +209,10 @@ fn rows_of(
 ) -> Result<Vec<Row>, AllocError>
     ensures { IfOk result (λ rows. rows.items ≡ map (row_of mapping.now base.now sids.now owner.now) entries.now) }
 {
-    let mut rows = Vec::with_capacity(alloc, entries.len())?;
-    for entry in entries {
-        rows.push(row_of(owner, entry, sids, mapping, base))?;
-    }
-    Ok(rows)
+    entries
+        .iter()
+        .map(|entry| row_of(owner, entry, sids, mapping, base))
+        .collect(alloc)
 }
 
 fn row_of(

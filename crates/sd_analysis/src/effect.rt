@@ -1,13 +1,14 @@
 //! Whether an entry of a list matters to any token.
 
 ghost use Rattle.std.specs.Prelude.{◌≡◌, true, false, IfOk};
-ghost use Rattle.sd_analysis.specs.Effect.{HasEffect, HasNoEffect, parts};
+ghost use Rattle.sd_analysis.specs.Effect.{HasEffect, HasNoEffect, parts_with};
 ghost use Rattle.sd_analysis.specs.Compare.{AreGains};
 
 use crate::base::Base;
 use crate::compare_gains::{Comparison, compare};
 use crate::compare_sides::DescriptorRef;
 use crate::trial::shows_effect;
+use crate::who_case::Case;
 use sd_acl::Ace;
 use sd_check::DaclRef;
 use sd_sid::{GenericMapping, Sid};
@@ -30,46 +31,38 @@ pub fn has_effect(
     if place >= entries.len() {
         return Ok(false);
     }
-    if shows_effect(alloc, &owner, entries, place, mapping, base)? {
+    let case = Case {
+        owner: &owner,
+        entries,
+        mapping,
+        base,
+    };
+    if shows_effect(alloc, &case, place)? {
         return Ok(true);
     }
     let mut others = Vec::from_slice(alloc, entries)?;
     others.remove(place);
-    let comparison = compared(
-        alloc,
-        &owner,
-        DaclRef::List(entries),
-        DaclRef::List(&others),
-        mapping,
-        base,
-    )?;
+    let comparison = compared(alloc, &case, &others)?;
     if comparison.gained.is_empty() {
         return Ok(!comparison.lost.is_empty());
     }
     Ok(true)
 }
 
-/// What changes where the one DACL takes the place of the other.
-fn compared(
-    alloc: Global,
-    owner: &Option<Sid>,
-    old: DaclRef<'_>,
-    new: DaclRef<'_>,
-    mapping: &GenericMapping,
-    base: &Base<'_>,
-) -> Result<Comparison, AllocError>
-    ensures gained { let before = parts owner.now old.entry in let after = parts owner.now new.entry in
-        IfOk result (λ c. AreGains mapping.now base.now before after c.gained.items) }
-    ensures lost { let before = parts owner.now old.entry in let after = parts owner.now new.entry in
-        IfOk result (λ c. AreGains mapping.now base.now after before c.lost.items) }
+/// What changes where the others take the place of the entries.
+fn compared(alloc: Global, case: &Case<'_>, others: &[Ace]) -> Result<Comparison, AllocError>
+    ensures gained { let case = case.now in IfOk result (λ c. AreGains case.mapping.now case.base.now
+        (parts_with case.owner.now case.entries.now) (parts_with case.owner.now others.now) c.gained.items) }
+    ensures lost { let case = case.now in IfOk result (λ c. AreGains case.mapping.now case.base.now
+        (parts_with case.owner.now others.now) (parts_with case.owner.now case.entries.now) c.lost.items) }
 {
     let before = DescriptorRef {
-        owner: *owner,
-        dacl: old,
+        owner: *case.owner,
+        dacl: DaclRef::List(case.entries),
     };
     let after = DescriptorRef {
-        owner: *owner,
-        dacl: new,
+        owner: *case.owner,
+        dacl: DaclRef::List(others),
     };
-    compare(alloc, &before, &after, mapping, base)
+    compare(alloc, &before, &after, case.mapping, case.base)
 }

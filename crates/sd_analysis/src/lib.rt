@@ -20,7 +20,6 @@
 
 mod base;
 mod compare_gains;
-mod compare_pairs;
 mod compare_report;
 mod compare_search;
 mod compare_sides;

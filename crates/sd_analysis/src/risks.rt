@@ -3,7 +3,7 @@
 ghost use Rattle.std.specs.Prelude.{◌≡◌, ◌&&◌, ◌==◌, ◌++◌, not, IfOk, OnOk, length};
 ghost use Rattle.std.specs.List.{list_any};
 ghost use Rattle.sd_acl.specs.Descriptor.{descriptor_of};
-ghost use Rattle.sd_analysis.specs.Risks.{cannot_read, dacl_risks, entry_risks, grants, grants_to, has_all, has_delete};
+ghost use Rattle.sd_analysis.specs.Risks.{cannot_read, dacl_risks, entry_risks, grants_to, has_all, has_delete};
 ghost use Rattle.sd_analysis.specs.Risks.{has_delete_child, has_full_control, has_permissions, has_write, is_known};
 ghost use Rattle.sd_analysis.specs.Risks.{is_of_kind, known_kinds, list_risks, owner_risks, rights_of, risk_if};
 ghost use Rattle.sd_analysis.specs.Risks.{risks_of, unknown_if_any, writing};
@@ -188,25 +188,14 @@ fn add_grants(
         ++ grants_to case.owner.now case.entries.now case.mapping.now case.base.now sid) }
 {
     let granted = rights_of(alloc, case, sid)?;
-    push_grants(found, case.mapping, sid, granted)
-}
-
-fn push_grants(
-    found: &mut Vec<Risk>,
-    mapping: &GenericMapping,
-    sid: Sid,
-    granted: Mask,
-) -> Result<(), AllocError>
-    ensures { OnOk result (found.new.items ≡ found.old.items ++ grants mapping.now sid granted) }
-{
-    if has_full_control(mapping, granted) {
+    if has_full_control(case.mapping, granted) {
         found.push(Risk::Grants(sid, Right::FullControl))?;
         return Ok(());
     }
     let write = Risk::Grants(sid, Right::Write);
-    push_if(found, has_write(mapping, granted), write)?;
+    push_if(found, has_write(case.mapping, granted), write)?;
     let delete = Risk::Grants(sid, Right::Delete);
-    push_if(found, has_delete(mapping, granted), delete)?;
+    push_if(found, has_delete(case.mapping, granted), delete)?;
     let change = Risk::Grants(sid, Right::ChangePermissions);
     push_if(found, has_permissions(granted), change)
 }
@@ -294,15 +283,9 @@ fn cannot_read(mapping: &GenericMapping, granted: Mask) -> bool
 fn is_known(sid: &Sid) -> bool
     ensures { result ≡ is_known sid.now.authority sid.now.subs }
 {
-    starts_known(sid.authority(), sid.subs())
-}
-
-fn starts_known(authority: u64, subs: &[u32]) -> bool
-    ensures { result ≡ is_known authority subs.now }
-{
-    match subs {
+    match sid.subs() {
         [] => false,
-        [first, _subs @ ..] => is_of_a_kind(authority, *first),
+        [first, _subs @ ..] => is_of_a_kind(sid.authority(), *first),
     }
 }
 

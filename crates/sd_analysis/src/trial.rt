@@ -7,87 +7,63 @@ ghost use Rattle.sd_analysis.specs.Effect.{granted_by, HasEffect};
 ghost use Rattle.sd_analysis.specs.Sufficient.{token_of, with_denied};
 
 use crate::base::Base;
+use crate::who_case::Case;
 use sd_acl::{Ace, AceKind};
 use sd_check::{
     DaclRef, GroupState, MAXIMUM_ALLOWED, Privileges, Token, Verdict, check_joined, check_parts,
     subject_of,
 };
-use sd_sid::{GenericMapping, Mask, Sid};
+use sd_sid::{Mask, Sid};
 use std::alloc::{AllocError, Global};
 
 /// Whether a token shows the effect of the entry at the place: of an allow the token whose user it speaks of; of a deny
 /// the token for which it denies what the next allow that names one of its bits grants. An effect that only other
 /// tokens show is not found.
-pub(crate) fn shows_effect(
-    alloc: Global,
-    owner: &Option<Sid>,
-    entries: &[Ace],
-    place: usize,
-    mapping: &GenericMapping,
-    base: &Base<'_>,
-) -> Result<bool, AllocError>
-    requires { place < length entries.now }
-    ensures { IfOk result (λ shows. shows ≡ true → HasEffect owner.now entries.now mapping.now base.now place) }
+pub(crate) fn shows_effect(alloc: Global, case: &Case<'_>, place: usize) -> Result<bool, AllocError>
+    requires { place < length case.now.entries.now }
+    ensures { let case = case.now in IfOk result (λ shows. shows ≡ true
+        → HasEffect case.owner.now case.entries.now case.mapping.now case.base.now place) }
 {
-    let entry = &entries[place];
-    let subject = match subject_of(owner, &entry.sid) {
+    let entry = &case.entries[place];
+    let subject = match subject_of(case.owner, &entry.sid) {
         None => return Ok(false),
         Some(subject) => *subject,
     };
     if entry.kind.is_allow() {
-        return is_shown(alloc, owner, entries, place, mapping, base, subject, &None);
+        return is_shown(alloc, case, place, subject, &None);
     }
-    match next_allowed(owner, &entries[place + 1..], mapping, entry.mask) {
+    match next_allowed(case, &case.entries[place + 1..], entry.mask) {
         None => Ok(false),
-        Some(user) => is_shown(
-            alloc,
-            owner,
-            entries,
-            place,
-            mapping,
-            base,
-            user,
-            &Some(subject),
-        ),
+        Some(user) => is_shown(alloc, case, place, user, &Some(subject)),
     }
 }
 
 /// Whom the first effective allow that names one of the bits speaks of. No answer would be wrong: `is_shown` tests it.
-fn next_allowed(
-    owner: &Option<Sid>,
-    entries: &[Ace],
-    mapping: &GenericMapping,
-    mask: Mask,
-) -> Option<Sid> {
-    let bits = mapping.map(mask);
-    for entry in entries {
-        let names = entry.kind.is_allow()
+fn next_allowed(case: &Case<'_>, entries: &[Ace], mask: Mask) -> Option<Sid> {
+    let bits = case.mapping.map(mask);
+    let next = entries.iter().find(|entry| {
+        entry.kind.is_allow()
             && !entry.is_inherit_only()
-            && !mapping.map(entry.mask).common(bits).is_empty();
-        if names {
-            return subject_of(owner, &entry.sid).copied();
-        }
-    }
-    None
+            && !case.mapping.map(entry.mask).common(bits).is_empty()
+    })?;
+    subject_of(case.owner, &next.sid).copied()
 }
 
 /// Whether the token with the base shows the effect whose user is this, with one more group for denies alone.
 fn is_shown(
     alloc: Global,
-    owner: &Option<Sid>,
-    entries: &[Ace],
+    case: &Case<'_>,
     place: usize,
-    mapping: &GenericMapping,
-    base: &Base<'_>,
     user: Sid,
     denied: &Option<Sid>,
 ) -> Result<bool, AllocError>
-    requires { place < length entries.now }
-    ensures { IfOk result (λ shows. shows ≡ true → HasEffect owner.now entries.now mapping.now base.now place) }
+    requires { place < length case.now.entries.now }
+    ensures { let case = case.now in IfOk result (λ shows. shows ≡ true
+        → HasEffect case.owner.now case.entries.now case.mapping.now case.base.now place) }
 {
-    let groups = groups_with(alloc, base, denied)?;
+    let groups = groups_with(alloc, case.base, denied)?;
     let token = Token::new(user, groups, Privileges::default());
-    Ok(differs(owner, entries, place, mapping, &token))
+    Ok(differs(case, place, &token))
 }
 
 /// The base, and one more group for denies alone.
@@ -110,29 +86,30 @@ fn groups_with(
 }
 
 /// Whether the list grants the token something else without the entry.
-fn differs(
-    owner: &Option<Sid>,
-    entries: &[Ace],
-    place: usize,
-    mapping: &GenericMapping,
-    token: &Token,
-) -> bool
-    requires { place < length entries.now }
-    ensures { result ≡ true
-        → verdict owner.now (Some (remove entries.now place)) mapping.now token.now 0x02000000
-        ≡ verdict owner.now (Some entries.now) mapping.now token.now 0x02000000
+fn differs(case: &Case<'_>, place: usize, token: &Token) -> bool
+    requires { place < length case.now.entries.now }
+    ensures { let case = case.now in result ≡ true
+        → verdict case.owner.now (Some (remove case.entries.now place)) case.mapping.now token.now 0x02000000
+        ≡ verdict case.owner.now (Some case.entries.now) case.mapping.now token.now 0x02000000
         → ⊥ }
 {
     let whole = check_parts(
-        *owner,
-        DaclRef::List(entries),
-        mapping,
+        *case.owner,
+        DaclRef::List(case.entries),
+        case.mapping,
         token,
         MAXIMUM_ALLOWED,
     );
-    let front = &entries[..place];
-    let back = &entries[place + 1..];
-    let others = check_joined(*owner, front, back, mapping, token, MAXIMUM_ALLOWED);
+    let front = &case.entries[..place];
+    let back = &case.entries[place + 1..];
+    let others = check_joined(
+        *case.owner,
+        front,
+        back,
+        case.mapping,
+        token,
+        MAXIMUM_ALLOWED,
+    );
     let before = granted_by(whole).bits();
     let after = granted_by(others).bits();
     before != after

@@ -14,15 +14,13 @@ ghost use Rattle.sd_analysis.specs.Who.{AllBeyond, IsBeyond, has_right, holds_fo
 ghost use Rattle.sd_analysis.specs.WhoWalk.{IsWalkOver, granted_to, implied_holder, is_alike};
 
 use crate::base::Base;
+use crate::compare_sides::{OWNERS_RIGHTS, limits_owner};
 use crate::who_has::Access;
 use crate::who_walk::Walk;
 use sd_acl::Ace;
 use sd_check::subject_of;
 use sd_sid::{GenericMapping, Mask, Sid};
 use std::alloc::{AllocError, Global};
-
-/// READ_CONTROL and WRITE_DAC, which are the owner's.
-const OWNERS_RIGHTS: Mask = Mask(0x0006_0000);
 
 /// The number of rights that a list can grant: the places below.
 const RIGHTS: u32 = 21;
@@ -143,11 +141,4 @@ fn on_the_side_of(rights: Mask, place: u32, named: Mask) -> Mask
     } else {
         rights.minus(named)
     }
-}
-
-/// Whether an effective entry for OWNER RIGHTS limits the owner ([MS-DTYP] 2.5.3.2).
-fn limits_owner(entries: &[Ace]) -> bool
-    ensures { result ≡ limits_owner (Some entries.now) }
-{
-    entries.iter().any(|entry| !entry.is_inherit_only() && entry.sid.is_owner_rights())
 }
