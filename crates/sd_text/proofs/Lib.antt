@@ -13,9 +13,7 @@ pub mod Placed
 pub mod Tables
 pub mod MaskNames
 pub mod AliasTables
-pub mod Rooms
 pub mod Printing
-pub mod Lengths
 pub mod CanonSids
 pub mod CanonRights
 pub mod CanonEntries

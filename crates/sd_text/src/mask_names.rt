@@ -4,7 +4,6 @@ ghost use Rattle.std.specs.Prelude.{◌≡◌, IfOk, OnOk, string_bytes};
 ghost use Rattle.sd_text.specs.Names.{rows};
 ghost use Rattle.sd_text.specs.MaskNames.{is_due, mask_names, names_from_greatest, with_rest, with_word};
 
-use crate::number::{MAX_DIGITS, digits};
 use sd_sid::Mask;
 use std::alloc::{AllocError, Global};
 
@@ -86,8 +85,6 @@ fn push_rest(text: &mut String, rest: Mask) -> Result<(), AllocError>
     if rest.is_empty() && !text.is_empty() {
         return Ok(());
     }
-    let mut bytes = [0; MAX_DIGITS];
     push_word(text, "0x")?;
-    text.push_str(digits(u64::from(rest.bits()), 16, &mut bytes))?;
-    Ok(())
+    write!(text, "{:x}", rest.bits())
 }
