@@ -11,39 +11,26 @@ use Rattle.sd_text.specs.Laws.{AreReadAlike}
 use Rattle.sd_text.specs.Sddl.{sections, no_sacl}
 use Rattle.sd_text.specs.declared.sacl.Within.{Within}
 use Rattle.sd_text.specs.Sacl.{after_byte, all_sections, at_start, entry_len, one_more, sacl_entries, sacl_entry, sacl_section}
-use Rattle.sd_text.proofs.Parts.{begins_takes}
-use Rattle.sd_text.proofs.Engine.{shorter}
-use Rattle.sd_text.proofs.Loops.{Reaches, reaches_start, reaches_more, reaches_end, reaches_fault}
+use Rattle.sd_text.proofs.Loops.{Reaches, reaches_start, item_more, item_last, item_fault}
 
 -- entries have been read, and this is behind them
 pub record SaclReaches (start rest : List ℕ) : Type 0 where
   pub entries : List (Unit {0})
   pub reached : Reaches opening (λ before u. sacl_entry) start entries rest
 
-module _ (start : List ℕ) where
-  pub sacl_start : SaclReaches start start
-  sacl_start = record { entries = []; reached = reaches_start opening (λ before u. sacl_entry) start }
+pub sacl_start : (start : List ℕ) → SaclReaches start start
+sacl_start start = record { entries = []; reached = reaches_start opening (λ before u. sacl_entry) start }
 
-  pub sacl_more : (rest after : List ℕ) → SaclReaches start rest → begins rest (codes "(") ≡ true → find sacl_entry (drop 1 rest) ≡ Ok (tt, after) → SaclReaches start after
-  sacl_more rest after so_far stands one = record {
-    entries = so_far.entries ++ tt ∷ [];
-    reached = reaches_more opening (λ before u. sacl_entry) start so_far.entries rest tt (drop 1 rest) tt after so_far.reached (rw stands refl) one;
-  }
+pub sacl_more : {start rest after : List ℕ} → SaclReaches start rest → begins rest (codes "(") ≡ true → find sacl_entry (drop 1 rest) ≡ Ok (tt, after) → SaclReaches start after
+sacl_more so_far stands one = record { entries = so_far.entries ++ tt ∷ []; reached = item_more so_far.reached stands one }
 
-  pub sacl_end : (rest : List ℕ) → SaclReaches start rest → begins rest (codes "(") ≡ false → find sacl_entries start ≡ Ok (tt, rest)
-  unfolding sacl_entries
-  sacl_end rest so_far ends = rw (reaches_end opening (λ before u. sacl_entry) start so_far.entries rest so_far.reached (rw ends refl)) refl
+pub sacl_end : {start rest : List ℕ} → SaclReaches start rest → begins rest (codes "(") ≡ false → find sacl_entries start ≡ Ok (tt, rest)
+unfolding sacl_entries
+sacl_end so_far ends = rw (item_last so_far.reached ends) refl
 
-  pub sacl_fault : (rest : List ℕ) (d : TextFault × List ℕ) → SaclReaches start rest → begins rest (codes "(") ≡ true → find sacl_entry (drop 1 rest) ≡ Err d → find sacl_entries start ≡ Err d
-  unfolding sacl_entries
-  sacl_fault rest d so_far stands fails = rw (reaches_fault opening (λ before u. sacl_entry) start so_far.entries rest tt (drop 1 rest) d so_far.reached (rw stands refl) fails) refl
-
--- what an entry takes off the text
-pub sacl_takes : (rest after : List ℕ) → begins rest (codes "(") ≡ true → find sacl_entry (drop 1 rest) ≡ Ok (tt, after) → length after < length rest
-sacl_takes rest after stands one =
-    let opens = begins_takes rest (codes "(") stands in
-    let no_longer = shorter sacl_entry (drop 1 rest) tt after one in
-    omega arith
+pub sacl_fault : {start rest : List ℕ} {d : TextFault × List ℕ} → SaclReaches start rest → begins rest (codes "(") ≡ true → find sacl_entry (drop 1 rest) ≡ Err d → find sacl_entries start ≡ Err d
+unfolding sacl_entries
+sacl_fault so_far stands fails = rw (item_fault so_far.reached stands fails) refl
 
 -- ---- where an entry ends
 

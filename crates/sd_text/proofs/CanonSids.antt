@@ -16,13 +16,14 @@ use Rattle.sd_sid.specs.Sid.{SidValue, IsSid}
 use Rattle.sd_text.specs.Grammar.{Name, number, begins, begins_digit, named}
 use Rattle.sd_text.specs.Finding.{find}
 use Rattle.sd_text.specs.Alias.{aliases, alias_in}
-use Rattle.sd_text.specs.Sid.{sub, subs_of, authority, sid}
+use Rattle.sd_text.specs.Sid.{dash, sub, subs_of, authority, sid}
 use Rattle.sd_text.specs.declared.alias.Aliases.{Aliases}
 use Rattle.sd_text.specs.Canon.{hex, authority_canon, sub_canon, full_canon, sid_canon}
 use Rattle.sd_text.proofs.Parts.{went}
 use Rattle.sd_text.proofs.Engine.{spells_find}
 use Rattle.sd_text.proofs.Tables.{alias_row}
-use Rattle.sd_text.proofs.Sids.{SubsReach, subs_start, subs_more, subs_end}
+use Rattle.sd_text.proofs.Loops.{reaches_start, item_more}
+use Rattle.sd_text.proofs.Sids.{SubsReach, subs_end}
 
 -- what may stand behind a SID
 pub record Stops (rest : List ℕ) : Type 0 where
@@ -54,7 +55,7 @@ subs_read start done (n ∷ subs) rest few words ends reached =
     let regroup : flat_map sub_canon (n ∷ subs) ++ rest ≡ 45 ∷ (decimal n ++ (flat_map sub_canon subs ++ rest)) = ap (λ (xs : List ℕ). 45 ∷ xs) (append_assoc (decimal n) (flat_map sub_canon subs) rest) in
     let here : SubsReach start done (45 ∷ (decimal n ++ (flat_map sub_canon subs ++ rest))) = subst (λ text. SubsReach start done text) regroup reached in
     let one = sub_read (length done) n (flat_map sub_canon subs ++ rest) (omega arith) (All-head (λ m. m < 2 ^ 32) n subs words) (subs_stop subs rest ends) in
-    let more = subs_more start done (45 ∷ (decimal n ++ (flat_map sub_canon subs ++ rest))) n (flat_map sub_canon subs ++ rest) here refl one in
+    let more = item_more here refl one in
     rw (sym (append_assoc done (n ∷ []) subs)) (subs_read start (done ++ n ∷ []) subs rest (omega (arith, length_push done n)) (All-tail (λ m. m < 2 ^ 32) n subs words) ends more)
   where
     length_push : (xs : List ℕ) (m : ℕ) → length (xs ++ m ∷ []) ≡ length xs + 1
@@ -63,7 +64,7 @@ subs_read start done (n ∷ subs) rest few words ends reached =
 sid_subs_read : (auth : ℕ) (n : ℕ) (subs rest : List ℕ) → length (n ∷ subs) ≤ 15 → All (λ m. m < 2 ^ 32) (n ∷ subs) → Stops rest → find (subs_of auth) (flat_map sub_canon (n ∷ subs) ++ rest) ≡ Ok (record { authority = auth; subs = n ∷ subs }, rest)
 sid_subs_read auth n subs rest few words stops =
     let start = flat_map sub_canon (n ∷ subs) ++ rest in
-    subs_end auth start (n ∷ subs) rest refl (subs_read start [] (n ∷ subs) rest (omega arith) words stops.no_digit (subs_start start)) stops.no_dash
+    subs_end auth refl (subs_read start [] (n ∷ subs) rest (omega arith) words stops.no_digit (reaches_start dash (λ before u. sub (length before)) start)) stops.no_dash
 
 -- ---- authorities
 
