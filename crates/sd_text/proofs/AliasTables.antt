@@ -12,14 +12,14 @@ use Rattle.sd_text.specs.Names.{renamed, well_known}
 use Rattle.sd_text.specs.Sid.{no_alias, domain_alias}
 use Rattle.sd_text.specs.Places.{are_placed}
 use Rattle.sd_text.proofs.Placed.{placed_renamed}
-use Rattle.sd_text.proofs.Tables.{named_some, named_no}
+use Rattle.sd_text.proofs.Tables.{named_renamed}
 
 -- a name of a table, or what stands there in its place, where the table's names stand for something else
 one_found : {A B : Type 0} (f : A → B) (names : List (Name A)) (other : Grammar B) (text : List ℕ) (a : A) (rest : List ℕ) → named names text ≡ Some (a, rest) → find (one_of (renamed f names) other) text ≡ Ok (f a, rest)
-one_found f names other text a rest e = rw (named_some f names text a rest e) refl
+one_found f names other text a rest e = rw (named_renamed f names text, e) refl
 
 other_found : {A B : Type 0} (f : A → B) (names : List (Name A)) (other : Grammar B) (text : List ℕ) → named names text ≡ None → find (one_of (renamed f names) other) text ≡ find other text
-other_found f names other text e = rw (named_no f names text e) refl
+other_found f names other text e = rw (named_renamed f names text, e) refl
 
 module _ (names : List (Name WellKnown)) (aliases : List (Name SidValue)) (same : renamed well_known names ≡ aliases) (other : Grammar SidValue) where
   pub alias_found : (text : List ℕ) (known : WellKnown) (rest : List ℕ) → named names text ≡ Some (known, rest) → find (one_of aliases other) text ≡ Ok (well_known known, rest)

@@ -1,5 +1,6 @@
 -- Reading the entries of a SACL.
 use Rattle.std.proofs.Common.{◌≡◌, ℕ, zero, suc, ◌+◌, ◌<◌, ◌≤◌, true, false, List, [], ◌∷◌, ◌++◌, length, drop, get_or, Some, None, Ok, Err, refl, sym, arith, add-one, ap, ◌∙◌, inl, inr}
+use Rattle.std.proofs.Math.Seq.{drop-cons}
 use Rattle.std.specs.Prelude.{codes}
 use Rattle.std.proofs.lemmas.List.{drop_all}
 use Rattle.sd_text.specs.declared.fault.TextFault.{TextFault}
@@ -49,14 +50,10 @@ pub record NoEndYet (text : List ℕ) (i : ℕ) (within : Within) : Type 0 where
   pub len : entry_len at_start text ≡ further i (entry_len within (drop i text))
 
 byte_on : (text : List ℕ) (i d : ℕ) (within next : Within) → i < length text → after_byte within (get_or text i d) ≡ Some next → entry_len within (drop i text) ≡ one_more (entry_len next (drop (i + 1) text))
-byte_on [] i d within next lt e = absurd (omega arith)
-byte_on (byte ∷ text) zero d within next lt e = rw e refl
-byte_on (byte ∷ text) (suc i) d within next lt e = rw add-one (let h = byte_on text i d within next (omega arith) e in rw add-one at h)
+byte_on text i d within next lt e = rw (drop-cons text i d lt, e, add-one) refl
 
 byte_ends : (text : List ℕ) (i d : ℕ) (within : Within) → i < length text → after_byte within (get_or text i d) ≡ None → entry_len within (drop i text) ≡ 1
-byte_ends [] i d within lt e = absurd (omega arith)
-byte_ends (byte ∷ text) zero d within lt e = rw e refl
-byte_ends (byte ∷ text) (suc i) d within lt e = byte_ends text i d within (omega arith) e
+byte_ends text i d within lt e = rw (drop-cons text i d lt, e) refl
 
 pub no_end_more : (text : List ℕ) (i d : ℕ) (within next : Within) → NoEndYet text i within → i < length text → after_byte within (get_or text i d) ≡ Some next → next.depth ≤ within.depth + 1 → NoEndYet text (i + 1) next
 no_end_more text i d within next so_far lt e le = record {

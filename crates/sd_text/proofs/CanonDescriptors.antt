@@ -12,7 +12,7 @@ use Rattle.sd_text.specs.declared.descriptor.DaclPart.{DaclPart}
 use Rattle.sd_text.specs.declared.alias.Aliases.{Aliases}
 use Rattle.sd_text.specs.Grammar.{begins}
 use Rattle.sd_text.specs.Finding.{find}
-use Rattle.sd_text.specs.Rights.{mask_text, rights}
+use Rattle.sd_text.specs.Rights.{names_from_greatest, mask_text, rights}
 use Rattle.sd_text.specs.Sid.{sid_text_in, sid}
 use Rattle.sd_text.specs.Sddl.{sid_section, words, dacl_behind, dacl_section, no_sacl, parts, sections, sddl_in}
 use Rattle.sd_text.specs.Canon.{where_set, words_canon, entry_canon_in, section_canon, dacl_canon, sid_canon, rights_canon_in, canon_in}
@@ -34,6 +34,7 @@ sids_come_back known s is =
     find_spells (sid_text_in known) (sid_canon s) s [] (rw read refl)
 
 pub masks_come_back : MasksComeBack
+unfolding names_from_greatest
 masks_come_back names mask lt =
     let read : find rights (rights_canon_in names mask) ≡ Ok (mask, []) = rw append-nil at (rights_read names mask [] lt refl refl) in
     find_spells mask_text (rights_canon_in names mask) mask [] (rw read refl)

@@ -11,6 +11,7 @@ use Rattle.sd_acl.specs.declared.ace.Ace.{Ace}
 use Rattle.sd_acl.specs.declared.ace.AceKind.{AceKind}
 use Rattle.sd_acl.specs.declared.ace.AceKind.TheVariants.{Allow, Deny}
 use Rattle.sd_text.specs.Finding.{find}
+use Rattle.sd_text.specs.Rights.{names_from_greatest}
 use Rattle.sd_text.specs.Entry.{opening, kind, guid, entry, entry_end, entries}
 use Rattle.sd_text.specs.declared.alias.Aliases.{Aliases}
 use Rattle.sd_text.specs.Canon.{kind_canon, flags_canon, rights_canon_in, sid_canon, entry_canon_in}
@@ -48,7 +49,7 @@ stops : (rest : List ℕ) → Stops (41 ∷ rest)
 stops rest = record { no_digit = refl; no_dash = refl }
 
 entry_read : (known : Aliases) (names : RightNames) (size : ℕ) (e : Ace) (rest : List ℕ) → IsAce e → HasNamedFlags e → size + ace_size e ≤ 65535 → find (entry known size) (body names e rest) ≡ Ok (e, rest)
-unfolding entry body
+unfolding entry body names_from_greatest
 entry_read known names size e rest is named_only fits =
     let trustee = sid_canon e.sid ++ 41 ∷ rest in
     let mask = rights_canon_in names e.mask ++ (59 ∷ 59 ∷ 59 ∷ trustee) in

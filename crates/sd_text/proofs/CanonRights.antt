@@ -7,7 +7,7 @@ use Rattle.std.proofs.lemmas.Fmt.{digits_is_IsNumeral}
 use Rattle.sd_acl.specs.Ace.{all_named}
 use Rattle.sd_text.specs.Grammar.{Name, begins_digit, named}
 use Rattle.sd_text.specs.Finding.{find}
-use Rattle.sd_text.specs.Rights.{right_names, bits_of, mask_number, rights}
+use Rattle.sd_text.specs.Rights.{names_from_greatest, right_names, bits_of, mask_number, rights}
 use Rattle.sd_text.specs.Entry.{flag_names}
 use Rattle.sd_text.specs.Canon.{hex, rights_canon_in, flag_canon, flags_canon}
 use Rattle.sd_text.specs.RightNames.{PrintedRight, printed_rights, name_in}
@@ -22,7 +22,7 @@ RightReads : Name ℕ → Type 0
 RightReads name = (rest : List ℕ) → (begins_digit 10 (name.letters ++ rest) ≡ false) × (named right_names (name.letters ++ rest) ≡ Some (name.stands_for, rest))
 
 right_rows : AllByRecursion (λ (right : PrintedRight). RightReads right.0) printed_rights
-unfolding printed_rights RightReads
+unfolding printed_rights names_from_greatest RightReads
 right_rows = (λ rest. (refl, refl), (λ rest. (refl, refl), (λ rest. (refl, refl), (λ rest. (refl, refl), (λ rest. (refl, refl), (λ rest. (refl, refl), (λ rest. (refl, refl), (λ rest. (refl, refl), (λ rest. (refl, refl), (λ rest. (refl, refl), (λ rest. (refl, refl), (λ rest. (refl, refl), (λ rest. (refl, refl), (λ rest. (refl, refl), (λ rest. (refl, refl), tt)))))))))))))))
 
 one_name : (mask : ℕ) (text rest : List ℕ) → named right_names text ≡ Some (mask, rest) → named right_names rest ≡ None → find (bits_of right_names) text ≡ Ok (mask, rest)

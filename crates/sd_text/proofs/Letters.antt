@@ -1,5 +1,6 @@
 -- Letters that a text begins with.
-use Rattle.std.proofs.Common.{◌≡◌, ℕ, zero, suc, ◌+◌, ◌<◌, ◌≤◌, Bool, true, false, List, [], ◌∷◌, length, refl, arith, ap, sym, add-one, get_or, drop}
+use Rattle.std.proofs.Common.{◌≡◌, ℕ, suc, ◌+◌, ◌<◌, ◌≤◌, Bool, true, false, List, [], ◌∷◌, length, refl, arith, ap, sym, add-one, get_or, drop}
+use Rattle.std.proofs.Math.Seq.{drop-cons}
 use Rattle.std.specs.Prelude.{◌&&◌, ◌==◌}
 use Rattle.std.proofs.lemmas.Bool.{ne_eqb}
 use Rattle.std.proofs.Math.Bool.{and-false, and-true}
@@ -32,10 +33,7 @@ begins_matches (c ∷ text) (l ∷ m ∷ letters) some = ap (λ b. eq_ignore_asc
 
 -- one letter, and those behind it
 pub matches_at : (text letters : List ℕ) (i : ℕ) → i < length letters → length letters ≤ length text → matches (drop i text) (drop i letters) ≡ (eq_ignore_ascii_case (get_or text i 0) (get_or letters i 0) && matches (drop (i + 1) text) (drop (i + 1) letters))
-matches_at text [] i lt le = absurd (omega arith)
-matches_at [] (l ∷ letters) i lt le = absurd (omega arith)
-matches_at (c ∷ text) (l ∷ letters) zero lt le = refl
-matches_at (c ∷ text) (l ∷ letters) (suc i) lt le = rw (add-one) (let h = matches_at text letters i (omega arith) (omega arith) in rw add-one at h)
+matches_at text letters i lt le = rw (drop-cons text i 0 (omega arith), drop-cons letters i 0 lt, add-one) refl
 
 matches_none : (text : List ℕ) → matches text [] ≡ true
 matches_none [] = refl

@@ -1,5 +1,6 @@
 -- The names of a table of masks, one row after the other.
-use Rattle.std.proofs.Common.{◌≡◌, ℕ, zero, suc, ◌+◌, ◌<◌, cond, List, [], ◌∷◌, length, drop, get_or, refl, arith, add-one}
+use Rattle.std.proofs.Common.{◌≡◌, ℕ, ◌+◌, ◌<◌, cond, List, length, drop, get_or, refl, sym, add-one}
+use Rattle.std.proofs.Math.Seq.{drop-cons}
 use Rattle.std.specs.Prelude.{bit_or}
 use Rattle.sd_text.specs.MaskNames.{is_due, named_from, with_word}
 use Rattle.sd_text.specs.Names.{Row, rows}
@@ -10,6 +11,4 @@ pub named_at : (rs : List (Row ℕ)) (i : ℕ) (r : Row ℕ) (mask named : ℕ) 
     ≡ cond (is_due mask named r.1) (named_from (rows (drop (i + 1) rs)) mask (bit_or named r.1) (with_word text r.0.now))
     (named_from (rows (drop (i + 1) rs)) mask named text)
 unfolding named_from
-named_at [] i r mask named text lt is = absurd (omega arith)
-named_at (q ∷ rs) zero r mask named text lt is = rw is refl
-named_at (q ∷ rs) (suc i) r mask named text lt is = rw add-one (let h = named_at rs i r mask named text (omega arith) is in rw add-one at h)
+named_at rs i r mask named text lt is = rw (drop-cons rs i r lt, sym is, add-one) refl

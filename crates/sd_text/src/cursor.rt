@@ -33,12 +33,22 @@ impl<'a> Cursor<'a> {
         (text.len() - self.rest.len()) as u64
     }
 
-    /// Whether the rest begins with these letters, of either case.
+    /// Whether the rest begins with these letters, at least one, of either case.
+    #[tactic(auto, using(crate::proofs::Letters::begins_nothing, crate::proofs::Letters::begins_short))]
     pub(crate) fn begins(&self, letters: &[u8]) -> bool
         ensures value { result ≡ begins self.now.rest.now letters.now }
         ensures within { IsTrue result → length letters.now ≤ length self.now.rest.now }
     {
-        begins(self.rest, letters)
+        let text = self.rest;
+        if letters.is_empty() || text.len() < letters.len() {
+            return false;
+        }
+        for (i, letter) in letters.iter().enumerate() {
+            if !is_letter(text[i], *letter) {
+                return false;
+            }
+        }
+        true
     }
 
     /// Whether the rest begins with a digit.
@@ -47,7 +57,10 @@ impl<'a> Cursor<'a> {
         requires high { radix ≤ 16 }
         ensures { result ≡ begins_digit radix self.now.rest.now }
     {
-        begins_digit(self.rest, radix)
+        match self.rest {
+            [] => false,
+            [c, ..] => char::from(*c).to_digit(radix).is_some(),
+        }
     }
 
     /// Whether there is a letter so many bytes ahead.
@@ -66,7 +79,7 @@ impl<'a> Cursor<'a> {
         ensures rest { self.new.rest.now
             ≡ (if result then drop (length letters.now) self.old.rest.now else self.old.rest.now) }
     {
-        if !begins(self.rest, letters) {
+        if !self.begins(letters) {
             return false;
         }
         let (_, behind) = self.rest.split_at(letters.len());
@@ -120,23 +133,6 @@ impl<'a> Cursor<'a> {
     }
 }
 
-/// Whether the text begins with these letters, at least one, of either case.
-#[tactic(auto, using(crate::proofs::Letters::begins_nothing, crate::proofs::Letters::begins_short))]
-fn begins(text: &[u8], letters: &[u8]) -> bool
-    ensures value { result ≡ begins text.now letters.now }
-    ensures within { IsTrue result → length letters.now ≤ length text.now }
-{
-    if letters.is_empty() || text.len() < letters.len() {
-        return false;
-    }
-    for (i, letter) in letters.iter().enumerate() {
-        if !is_letter(text[i], *letter) {
-            return false;
-        }
-    }
-    true
-}
-
 /// Whether a byte is this letter, of either case. Only for speed: equal bytes are found first, and case is ignored only
 /// for a letter that has one.
 #[inline(always)]
@@ -144,21 +140,6 @@ fn is_letter(byte: u8, letter: u8) -> bool
     ensures { result ≡ eq_ignore_ascii_case byte letter }
 {
     byte == letter || (letter.is_ascii_alphabetic() && byte.eq_ignore_ascii_case(&letter))
-}
-
-/// Whether the text begins with a digit.
-fn begins_digit(text: &[u8], radix: u32) -> bool
-    requires low { 2 ≤ radix }
-    requires high { radix ≤ 16 }
-    ensures { result ≡ begins_digit radix text.now }
-{
-    match text {
-        [] => false,
-        [c, ..] => match char::from(*c).to_digit(radix) {
-            Some(_) => true,
-            None => false,
-        },
-    }
 }
 
 /// The value of the digits at the front, or any number at or above the limit if the value is; and how many there are.
