@@ -3,7 +3,7 @@ use Rattle.std.proofs.Common.{◌≡◌, ℕ, zero, suc, ◌+◌, ◌-◌, ◌^�
 use Rattle.std.specs.Prelude.{codes, nat_lt, unwrap_or}
 use Rattle.std.specs.List.{flat_map, All, AllByRecursion}
 use Rattle.std.specs.Char.{digit_value, eq_ignore_ascii_case}
-use Rattle.std.specs.Str.Parse.{IsNumeral, AllDigits, digits_value}
+use Rattle.std.specs.Str.Parse.{IsNumeral, digits_value}
 use Rattle.std.specs.Fmt.{decimal}
 use Rattle.std.proofs.lemmas.Grind.{common_steps}
 use Rattle.std.proofs.lemmas.Bool.Decides.{nat_tests}
@@ -78,17 +78,9 @@ no_head (d ∷ []) tail n = and-false (eq_ignore_ascii_case d 48)
 no_head (d ∷ e ∷ ds) tail n = rw (not_x e n.1.1.0) (and-false (eq_ignore_ascii_case d 48))
 
 -- leading zeros change nothing
-zeros_digits : (k : ℕ) (ds : List ℕ) → AllDigits 16 ds → AllDigits 16 (replicate k 48 ++ ds)
-zeros_digits zero ds all = all
-zeros_digits (suc k) ds all = (lit< tt, zeros_digits k ds all)
-
-zeros_value : (k : ℕ) (ds : List ℕ) → digits_value 16 (replicate k 48 ++ ds) ≡ digits_value 16 ds
-zeros_value zero ds = refl
-zeros_value (suc k) ds = zeros_value k ds
-
-zeros_some : (k : ℕ) (ds : List ℕ) → 0 < length ds → 0 < length (replicate k 48 ++ ds)
-zeros_some zero ds some = some
-zeros_some (suc k) ds some = omega arith
+zeros_read : (k : ℕ) (ds : List ℕ) → IsNumeral 16 ds → IsNumeral 16 (replicate k 48 ++ ds) × (digits_value 16 (replicate k 48 ++ ds) ≡ digits_value 16 ds)
+zeros_read zero ds numeral = (numeral, refl)
+zeros_read (suc k) ds numeral = let rest = zeros_read k ds numeral in ((omega arith, (lit< tt, rest.0.1)), rest.1)
 
 authority_read : (n : ℕ) (tail : List ℕ) → n < 2 ^ 48 → find authority (authority_canon n ++ 45 ∷ tail) ≡ Ok (n, 45 ∷ tail)
 unfolding authority authority_canon
@@ -98,9 +90,8 @@ authority_read n tail lt =
       | inr h ↦
           let digits = digits_is_IsNumeral 16 false (omega arith) (omega arith) n (omega arith) in
           let zeros = 12 - length (hex n) in
-          let ds = replicate zeros 48 ++ hex n in
-          let numeral : IsNumeral 16 ds = (zeros_some zeros (hex n) digits.0.0, zeros_digits zeros (hex n) digits.0.1) in
-          rw h (number_read (codes "0x") 16 (2 ^ 48) n ds (45 ∷ tail) numeral (zeros_value zeros (hex n) ∙ digits.1) lt refl refl)
+          let padded = zeros_read zeros (hex n) digits.0 in
+          rw h (number_read (codes "0x") 16 (2 ^ 48) n (replicate zeros 48 ++ hex n) (45 ∷ tail) padded.0 (padded.1 ∙ digits.1) lt refl refl)
     ]
 
 -- ---- SIDs

@@ -122,7 +122,7 @@ pub find_faults : {A : Type 0} (g : Grammar A) (text : List ℕ) (f : TextFault)
 find_faults g text f there e = (subst (λ r. Stands g text r) e (stands g text)).0
 
 -- a fault stands in the text
-pub fault_within : {A : Type 0} (g : Grammar A) (text : List ℕ) (f : TextFault) (there : List ℕ) → find g text ≡ Err (f, there) → length there ≤ length text
+fault_within : {A : Type 0} (g : Grammar A) (text : List ℕ) (f : TextFault) (there : List ℕ) → find g text ≡ Err (f, there) → length there ≤ length text
 fault_within g text f there e = (subst (λ r. Stands g text r) e (stands g text)).1
 
 -- ---- and what stands there is found
@@ -230,8 +230,8 @@ module _ {X A : Type 0} (view : X → A) (takes : A → Bool) (part : Grammar A)
       by_parsing (Err d) e found = absurd found
 
 -- a fault that is found stands at the place where the reader stopped
-pub fault_at : {A : Type 0} (g : Grammar A) (text : List ℕ) (f : TextFault) (there : List ℕ) (place : ℕ) → find g text ≡ Err (f, there) → place + length there ≡ length text → HasFault g text f place
-fault_at g text f there place e at = (there, find_faults g text f there e, at)
+pub fault_at : {A : Type 0} (g : Grammar A) (text : List ℕ) (f : TextFault) (there : List ℕ) (place : ℕ) → find g text ≡ Err (f, there) → (length there ≤ length text → place + length there ≡ length text) → HasFault g text f place
+fault_at g text f there place e at = (there, find_faults g text f there e, at (fault_within g text f there e))
 
 -- each text has a value or a fault
 pub value_or_fault : {A : Type 0} (part : Grammar A) (text : List ℕ) → ((a : A) × Spells (whole part) text a) ⊎ ((f : TextFault) × (place : ℕ) × HasFault (whole part) text f place)

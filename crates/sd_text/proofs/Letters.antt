@@ -1,23 +1,21 @@
 -- Letters that a text begins with.
-use Rattle.std.proofs.Common.{◌≡◌, ℕ, suc, ◌+◌, ◌<◌, ◌≤◌, Bool, true, false, List, [], ◌∷◌, length, refl, arith, ap, sym, add-one, get_or, drop}
+use Rattle.std.proofs.Common.{inl, inr, ◌≡◌, ℕ, suc, ◌+◌, ◌<◌, ◌≤◌, Bool, true, false, List, [], ◌∷◌, length, refl, arith, ap, sym, add-one, get_or, drop}
 use Rattle.std.proofs.Math.Seq.{drop-cons}
 use Rattle.std.specs.Prelude.{◌&&◌, ◌==◌}
 use Rattle.std.proofs.lemmas.Bool.{ne_eqb}
-use Rattle.std.proofs.Math.Bool.{and-false, and-true}
+use Rattle.std.proofs.Math.Bool.{and-true}
 use Rattle.std.proofs.lemmas.List.{drop_all}
 use Rattle.std.specs.Char.{eq_ignore_ascii_case}
 use Rattle.sd_text.specs.Grammar.{begins}
+use Rattle.sd_text.proofs.Parts.{went, begins_fits}
 
 pub begins_nothing : (text letters : List ℕ) → length letters ≡ 0 → begins text letters ≡ false
-begins_nothing [] letters e = refl
-begins_nothing (c ∷ text) [] e = refl
-begins_nothing (c ∷ text) (l ∷ letters) e = absurd (omega arith)
+begins_nothing text letters none =
+    elim (went (begins text letters)) [ inl h ↦ absurd (let fits = begins_fits text letters h in omega arith) | inr h ↦ h ]
 
 pub begins_short : (text letters : List ℕ) → length text < length letters → begins text letters ≡ false
-begins_short [] letters lt = refl
-begins_short (c ∷ text) [] lt = refl
-begins_short (c ∷ text) (l ∷ []) lt = absurd (omega arith)
-begins_short (c ∷ text) (l ∷ m ∷ letters) lt = rw (begins_short text (m ∷ letters) (omega arith)) (and-false (eq_ignore_ascii_case c l))
+begins_short text letters short =
+    elim (went (begins text letters)) [ inl h ↦ absurd (let fits = begins_fits text letters h in omega arith) | inr h ↦ h ]
 
 -- the text begins with these letters, or there are none
 abbrev pub matches : List ℕ → List ℕ → Bool

@@ -11,9 +11,7 @@ pub mod Cuts
 pub mod CutSddl
 pub mod Placed
 pub mod Tables
-pub mod MaskNames
 pub mod AliasTables
-pub mod Printing
 pub mod CanonSids
 pub mod CanonRights
 pub mod CanonEntries

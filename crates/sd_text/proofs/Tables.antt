@@ -1,5 +1,5 @@
 -- Names of a table, one row after the other.
-use Rattle.std.proofs.Common.{◌≡◌, ℕ, ◌+◌, ◌<◌, ◌^◌, cond, List, [], ◌∷◌, ◌++◌, length, drop, get_or, Some, None, Ok, refl, add-one, ap, sym, subst, ◌∙◌, inl, inr}
+use Rattle.std.proofs.Common.{◌≡◌, ℕ, ◌+◌, ◌<◌, ◌^◌, cond, List, [], ◌∷◌, ◌++◌, length, drop, get_or, Some, None, Ok, rules, refl, add-one, ap, sym, subst, ◌∙◌, inl, inr}
 use Rattle.std.proofs.Math.Seq.{drop-cons}
 use Rattle.std.specs.Prelude.{fold, bit_or, map, option_map, ◌==◌, ◌&&◌}
 use Rattle.std.specs.Borrow.{Bor}
@@ -12,7 +12,8 @@ use Rattle.sd_text.specs.Finding.{find}
 use Rattle.sd_text.specs.Rights.{bits_of}
 use Rattle.sd_sid.specs.Sid.{SidValue, same_sid}
 use Rattle.sd_sid.proofs.Compared.{same_sid-true}
-use Rattle.sd_text.specs.Alias.{alias_in}
+use Rattle.sd_text.specs.Alias.{aliases, alias_in}
+use Rattle.sd_text.specs.MaskNames.{is_due, named_from, with_word}
 use Rattle.sd_text.specs.RightNames.{PrintedRight, has, name_in, printed_right}
 use Rattle.sd_text.specs.declared.right_names.RightNames.{RightNames}
 use Rattle.sd_text.specs.Names.{Row, rows, renamed}
@@ -28,6 +29,14 @@ named_at rs i r text lt is = rw (drop-cons rs i r lt, sym is, add-one) refl
 pub name_at : (names : RightNames) (rs : List (Bor (List ℕ) × ℕ × RightNames)) (i : ℕ) (r : Bor (List ℕ) × ℕ × RightNames) (mask : ℕ) → i < length rs → r ≡ get_or rs i r → name_in names (map printed_right (drop i rs)) mask ≡ cond (has names r.2 && r.1 == mask) (Some r.0.now) (name_in names (map printed_right (drop (i + 1) rs)) mask)
 unfolding name_in
 name_at names rs i r mask lt is = rw (drop-cons rs i r lt, sym is, add-one) refl
+
+-- of a table of masks, whose names are words of a text
+pub word_at : (rs : List (Row ℕ)) (i : ℕ) (r : Row ℕ) (mask named : ℕ) (text : List ℕ) → i < length rs → r ≡ get_or rs i r
+    → named_from (rows (drop i rs)) mask named text
+    ≡ cond (is_due mask named r.1) (named_from (rows (drop (i + 1) rs)) mask (bit_or named r.1) (with_word text r.0.now))
+    (named_from (rows (drop (i + 1) rs)) mask named text)
+unfolding named_from
+word_at rs i r mask named text lt is = rw (drop-cons rs i r lt, sym is, add-one) refl
 
 -- ---- a run of names, whose meanings are put together one by one
 
@@ -76,6 +85,11 @@ alias_row P (name ∷ names) s letters all e =
       | inl h ↦ let same : name.letters ≡ letters = cc in (name, all.0, same, same_sid-true name.stands_for s h.0)
       | inr h ↦ alias_row P names s letters all.1 h.1
     ]
+
+-- an alias has two letters
+pub alias_is_pair : (sid : SidValue) (letters : List ℕ) → alias_in aliases sid ≡ Some letters → length letters ≡ 2
+unfolding aliases
+alias_is_pair sid letters e = let row = alias_row (λ name. length name.letters ≡ 2) aliases sid letters (search rules) e in rw (sym row.2) row.1
 
 -- and the row whose name is for just these bits
 pub right_row : (P : Name ℕ → Type 0) (names : RightNames) (rights : List PrintedRight) (mask : ℕ) (letters : List ℕ) → AllByRecursion (λ (right : PrintedRight). P right.0) rights → name_in names rights mask ≡ Some letters → (name : Name ℕ) × P name × (name.letters ≡ letters) × (name.stands_for ≡ mask)

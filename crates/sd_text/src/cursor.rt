@@ -27,10 +27,9 @@ impl<'a> Cursor<'a> {
 
     /// The cursor's offset in the text.
     pub(crate) fn place(&self, text: &str) -> u64
-        requires { length self.now.rest.now ≤ length text.now }
-        ensures { result + length self.now.rest.now ≡ length text.now }
+        ensures { length self.now.rest.now ≤ length text.now → result + length self.now.rest.now ≡ length text.now }
     {
-        (text.len() - self.rest.len()) as u64
+        text.len().saturating_sub(self.rest.len()) as u64
     }
 
     /// Whether the rest begins with these letters, at least one, of either case.

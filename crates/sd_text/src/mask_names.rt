@@ -12,7 +12,7 @@ use std::alloc::{AllocError, Global};
 /// A mask by names, as `FR+WD` ([MS-DTYP] 2.5.1.1, ace-rights): those whose bits are all the mask's, the greatest
 /// first, except one whose bits earlier names have. The bits that no name has follow as a number, as `FR+0x200`. The
 /// only error is out of memory.
-#[tactic(auto, using(crate::proofs::MaskNames::named_at), unfolding(crate::specs::MaskNames::named_from))]
+#[tactic(auto, using(crate::proofs::Tables::word_at), unfolding(crate::specs::MaskNames::named_from))]
 pub fn print_mask_names(alloc: Global, mask: Mask) -> Result<String, AllocError>
     ensures { IfOk result (λ text. string_bytes text ≡ mask_names mask) }
 {
