@@ -96,13 +96,6 @@ authority_read n tail lt =
 
 -- ---- SIDs
 
-full_read : (known : Aliases) (auth n : ℕ) (subs rest : List ℕ) → auth < 2 ^ 48 → length (n ∷ subs) ≤ 15 → All (λ m. m < 2 ^ 32) (n ∷ subs) → Stops rest → find (sid known) (full_canon (record { authority = auth; subs = n ∷ subs }) ++ rest) ≡ Ok (record { authority = auth; subs = n ∷ subs }, rest)
-unfolding sid full_canon
-full_read known auth n subs rest lt few words stops =
-    let regroup = append_assoc (authority_canon auth) (flat_map sub_canon (n ∷ subs)) rest in
-    let tail = decimal n ++ flat_map sub_canon subs ++ rest in
-    rw (regroup, authority_read auth tail lt) (sid_subs_read auth n subs rest few words stops)
-
 AliasReads : Name SidValue → Type 0
 AliasReads name = (rest : List ℕ) → (begins (name.letters ++ rest) (codes "S-1-") ≡ false) × (named aliases (name.letters ++ rest) ≡ Some (name.stands_for, rest))
 
@@ -110,21 +103,20 @@ alias_rows : AllByRecursion AliasReads aliases
 unfolding aliases AliasReads
 alias_rows = search rules
 
-alias_read : (known : Aliases) (s : SidValue) (letters rest : List ℕ) → alias_in aliases s ≡ Some letters → find (sid known) (letters ++ rest) ≡ Ok (s, rest)
-unfolding sid AliasReads
-alias_read known s letters rest e =
-    let row = alias_row AliasReads aliases s letters alias_rows e in
-    let reads = row.1 rest in
-    rw (sym row.2, reads.0, reads.1, row.3) refl
-
 pub sid_read : (known : Aliases) (s : SidValue) (rest : List ℕ) → IsSid s → Stops rest → find (sid known) (sid_canon s ++ rest) ≡ Ok (s, rest)
-unfolding sid_canon
+unfolding sid sid_canon full_canon AliasReads
 sid_read known s rest is stops = by_alias (alias_in aliases s) refl
   where
     in_full : (auth : ℕ) (subs : List ℕ) → IsSid (record { authority = auth; subs = subs }) → find (sid known) (full_canon (record { authority = auth; subs = subs }) ++ rest) ≡ Ok (record { authority = auth; subs = subs }, rest)
     in_full auth [] h = absurd (let some = h.some in omega arith)
-    in_full auth (n ∷ subs) h = full_read known auth n subs rest h.authority h.few h.words stops
+    in_full auth (n ∷ subs) h =
+        let regroup = append_assoc (authority_canon auth) (flat_map sub_canon (n ∷ subs)) rest in
+        let tail = decimal n ++ flat_map sub_canon subs ++ rest in
+        rw (regroup, authority_read auth tail h.authority) (sid_subs_read auth n subs rest h.few h.words stops)
 
     by_alias : (found : Option (List ℕ)) → alias_in aliases s ≡ found → find (sid known) (unwrap_or found (full_canon s) ++ rest) ≡ Ok (s, rest)
     by_alias None e = in_full s.authority s.subs is
-    by_alias (Some letters) e = alias_read known s letters rest e
+    by_alias (Some letters) e =
+        let row = alias_row AliasReads aliases s letters alias_rows e in
+        let reads = row.1 rest in
+        rw (sym row.2, reads.0, reads.1, row.3) refl

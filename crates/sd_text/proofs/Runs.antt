@@ -5,7 +5,7 @@ use Rattle.std.specs.Char.{digit_value}
 use Rattle.std.specs.Str.Parse.{AllDigits, IsNumeral, digits_value}
 use Rattle.std.proofs.lemmas.Int.Digits.{digits_value-lt}
 use Rattle.std.proofs.lemmas.Bool.{ltb-false, lt-ltb, le-ltb}
-use Rattle.std.proofs.lemmas.List.{take-append-drop, take_all, length-take-le}
+use Rattle.std.proofs.lemmas.List.{take-append-drop, length-take-le}
 use Rattle.std.proofs.Math.Nat.{mul-le-mul_left, pow-le-pow_left, pow-le-pow_right}
 use Rattle.std.proofs.Math.Seq.{take-append_seam, drop-append_seam}
 use borrow.Author.Tests.{ltb-true}
@@ -97,6 +97,3 @@ front_run radix (suc k) (c ∷ text) lt =
       | inl h ↦ rw h (ap suc (front_run radix k text (let more = rw h at lt in omega arith)))
       | inr h ↦ rw h refl
     ]
-
-pub front_whole : (radix k : ℕ) (text : List ℕ) → length text ≤ k → digits_len radix (take k text) ≡ digits_len radix text
-front_whole radix k text le = rw (take_all k text le) refl

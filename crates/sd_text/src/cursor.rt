@@ -151,16 +151,12 @@ fn run_of(text: &[u8], radix: u32, limit: u64) -> (u64, usize)
     ensures within { result.1 ≤ length text.now }
     ensures value { IsCapped limit result.0 (digits_value radix (take result.1 text.now)) }
 {
-    if text.len() >= NUMBER_FRONT {
-        let (number, _) = text.split_at(NUMBER_FRONT);
-        let (value, len) = short_run_of(number, radix);
-        if len < NUMBER_FRONT {
-            return (value, len);
-        }
+    if text.len() < NUMBER_FRONT {
+        return short_run_of(text, radix);
     }
-    let (front, _) = text.split_at(text.len().min(SHORT_RUN));
+    let (front, _) = text.split_at(NUMBER_FRONT);
     let (value, len) = short_run_of(front, radix);
-    if len < SHORT_RUN {
+    if len < NUMBER_FRONT {
         (value, len)
     } else {
         long_run_of(text, radix, limit)
@@ -171,10 +167,8 @@ fn run_of(text: &[u8], radix: u32, limit: u64) -> (u64, usize)
 /// its length is known at compile time, so no digit needs a test for the text's end.
 const NUMBER_FRONT: usize = 11;
 
-/// So many digits fit a number of 64 bits, in any radix up to 16.
-const SHORT_RUN: usize = 15;
-
-/// The same for a text of at most so many bytes. Only for speed: no digit needs a test of the limit.
+/// The same for a text of at most 15 bytes, whose digits fit a number of 64 bits in any radix up to 16. Only for speed:
+/// no digit needs a test of the limit.
 #[inline(always)]
 fn short_run_of(text: &[u8], radix: u32) -> (u64, usize)
     requires low { 2 ≤ radix }
