@@ -19,24 +19,20 @@ begins_short text letters short =
 
 -- the text begins with these letters, or there are none
 abbrev pub matches : List ℕ → List ℕ → Bool
-matches text [] = true
-matches [] (l ∷ letters) = false
-matches (c ∷ text) (l ∷ letters) = eq_ignore_ascii_case c l && matches text letters
+matches [] text = true
+matches (l ∷ letters) [] = false
+matches (l ∷ letters) (c ∷ text) = eq_ignore_ascii_case c l && matches letters text
 
-pub begins_matches : (text letters : List ℕ) → (length letters == 0) ≡ false → begins text letters ≡ matches text letters
+pub begins_matches : (text letters : List ℕ) → (length letters == 0) ≡ false → begins text letters ≡ matches letters text
 begins_matches text [] some = absurd cc
 begins_matches [] (l ∷ letters) some = refl
 begins_matches (c ∷ text) (l ∷ []) some = sym (and-true (eq_ignore_ascii_case c l))
 begins_matches (c ∷ text) (l ∷ m ∷ letters) some = ap (λ b. eq_ignore_ascii_case c l && b) (begins_matches text (m ∷ letters) (ne_eqb (suc (length letters)) 0 (omega arith)))
 
 -- one letter, and those behind it
-pub matches_at : (text letters : List ℕ) (i : ℕ) → i < length letters → length letters ≤ length text → matches (drop i text) (drop i letters) ≡ (eq_ignore_ascii_case (get_or text i 0) (get_or letters i 0) && matches (drop (i + 1) text) (drop (i + 1) letters))
+pub matches_at : (text letters : List ℕ) (i : ℕ) → i < length letters → length letters ≤ length text → matches (drop i letters) (drop i text) ≡ (eq_ignore_ascii_case (get_or text i 0) (get_or letters i 0) && matches (drop (i + 1) letters) (drop (i + 1) text))
 matches_at text letters i lt le = rw (drop-cons text i 0 (omega arith), drop-cons letters i 0 lt, add-one) refl
 
-matches_none : (text : List ℕ) → matches text [] ≡ true
-matches_none [] = refl
-matches_none (c ∷ text) = refl
-
 -- no letter is left
-pub matches_end : (text letters : List ℕ) (i : ℕ) → length letters ≤ i → matches (drop i text) (drop i letters) ≡ true
-matches_end text letters i le = rw (drop_all i letters le) (matches_none (drop i text))
+pub matches_end : (text letters : List ℕ) (i : ℕ) → length letters ≤ i → matches (drop i letters) (drop i text) ≡ true
+matches_end text letters i le = rw (drop_all i letters le) refl

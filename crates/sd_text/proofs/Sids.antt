@@ -1,9 +1,8 @@
 -- Reading the sub-authorities of a SID.
-use Rattle.std.proofs.Common.{◌≡◌, ℕ, true, false, List, [], ◌∷◌, length, drop, Ok, Err, Result, zero, suc, refl, arith, ◌<◌, ◌≤◌, ◌^◌, take, get_or}
+use Rattle.std.proofs.Common.{◌≡◌, ℕ, true, false, List, [], ◌∷◌, length, drop, Ok, Err, zero, suc, refl, arith, ◌<◌, ◌≤◌, ◌^◌, take, get_or}
 use Rattle.std.specs.Prelude.{codes}
 use Rattle.std.proofs.lemmas.Bool.{lt-ltb, le-ltb, ne_eqb}
-use Rattle.sd_sid.specs.Sid.{SidValue, sid_of}
-use Rattle.sd_sid.specs.declared.sid.SidError.{SidError}
+use Rattle.sd_sid.specs.Sid.{sid_of}
 use Rattle.sd_text.specs.declared.fault.TextFault.{TextFault}
 use Rattle.sd_text.specs.Grammar.{begins}
 use Rattle.sd_text.specs.Finding.{find}
@@ -25,12 +24,6 @@ subs_fault authority first reached stands fails = rw (first, item_fault reached 
 -- a SID is made of an authority and sub-authorities in their bounds
 pub sid_made : (authority : ℕ) (subs : List ℕ) → authority < 2 ^ 48 → 0 < length subs → length subs ≤ 15 → sid_of authority subs ≡ Ok (record { authority = authority; subs = subs })
 sid_made authority subs low some few = rw (ne_eqb (length subs) 0 (omega arith), le-ltb 15 (length subs) few, lt-ltb authority (2 ^ 48) low) refl
-
-abbrev ok_sid : SidValue → Result SidValue SidError
-ok_sid s = Ok s
-
-pub the_sid : (s : SidValue) (authority : ℕ) (subs : List ℕ) → ok_sid s ≡ Ok (record { authority = authority; subs = subs }) → s ≡ record { authority = authority; subs = subs }
-the_sid s authority subs e = cc
 
 -- a dash stood before the first sub-authority
 pub at_least_one : (count : ℕ) (rest : List ℕ) → (count ≡ 0 → begins rest (codes "-") ≡ true) → begins rest (codes "-") ≡ false → 0 < count

@@ -4,4 +4,4 @@ use Rattle.sd_text.proofs.cursor.Cursor.begins.Given as goal
 
 -- the letters that have been passed stand there
 abbrev pub invariant-loop-i : goal.invariant-loop-i
-invariant-loop-i l = matches l.text l.letters ≡ matches (drop l.i l.text) (drop l.i l.letters)
+invariant-loop-i l = matches l.letters l.text ≡ matches (drop l.i l.letters) (drop l.i l.text)
