@@ -9,8 +9,8 @@ use Rattle.sd_text.specs.declared.alias.Aliases.{Aliases}
 use Rattle.sd_text.specs.declared.descriptor.DaclWords.{DaclWords}
 use Rattle.sd_text.specs.declared.sacl.Within.{Within}
 use Rattle.sd_text.specs.declared.fault.TextFault.TheVariants.{Syntax, EntryKind}
-use Rattle.sd_text.specs.Grammar.{Grammar, Name, name_for, value, refused, choose, word, through, one_of, many, begins, whole}
-use Rattle.sd_text.specs.Grammar.{◌>>=◌}
+use Rattle.sd_text.specs.Grammar.{Grammar, Name, name_for, value, refused, choose, word, through, one_of, many}
+use Rattle.sd_text.specs.Grammar.{begins, whole, ◌>>=◌}
 use Rattle.sd_text.specs.Sid.{begins_letter}
 use Rattle.sd_text.specs.Entry.{opening}
 use Rattle.sd_text.specs.Sddl.{words, parts}
