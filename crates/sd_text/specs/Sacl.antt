@@ -15,8 +15,8 @@ use Rattle.sd_text.specs.Sid.{begins_letter}
 use Rattle.sd_text.specs.Entry.{opening}
 use Rattle.sd_text.specs.Sddl.{words, parts}
 
--- the types of entries: audits and alarms, of objects and with conditions too; a mandatory label, an attribute of the resource, a scoped
--- policy, a level of trust and an access filter
+-- the types of entries: audits and alarms, of objects and with conditions too; a mandatory label, an attribute of the
+-- resource, a scoped policy, a level of trust and an access filter
 abbrev pub sacl_types : List (Name (Unit {0}))
 sacl_types =
     name_for (codes "AU") tt ∷ name_for (codes "AL") tt ∷ name_for (codes "OU") tt ∷ name_for (codes "OL") tt
