@@ -1,5 +1,5 @@
 -- The code's tables of aliases are those of the grammar.
-use Rattle.std.proofs.Common.{◌≡◌, ℕ, true, List, Option, Some, subst, None, Ok, Err, refl, ap, sym, ◌∙◌}
+use Rattle.std.proofs.Common.{◌≡◌, ℕ, true, List, Option, Some, None, Ok, Err, refl, ap, sym, ◌∙◌}
 use Rattle.sd_sid.specs.Sid.{SidValue}
 use Rattle.sd_text.specs.declared.alias.WellKnown.{WellKnown}
 use Rattle.sd_text.specs.declared.domain.Domain.{Domain}
@@ -12,26 +12,20 @@ use Rattle.sd_text.specs.Names.{renamed, well_known}
 use Rattle.sd_text.specs.Sid.{no_alias, domain_alias}
 use Rattle.sd_text.specs.Places.{are_placed}
 use Rattle.sd_text.proofs.Placed.{placed_renamed}
-use Rattle.sd_text.proofs.Tables.{named_some, named_no}
+use Rattle.sd_text.proofs.Tables.{named_renamed}
 
 -- a name of a table, or what stands there in its place, where the table's names stand for something else
-one_found : {A B : Type 0} (f : A → B) (names : List (Name A)) (other : Grammar B) (text : List ℕ) (a : A) (rest : List ℕ) → named names text ≡ Some (a, rest) → find (one_of (renamed f names) other) text ≡ Ok (f a, rest)
-one_found f names other text a rest e = rw (named_some f names text a rest e) refl
-
-other_found : {A B : Type 0} (f : A → B) (names : List (Name A)) (other : Grammar B) (text : List ℕ) → named names text ≡ None → find (one_of (renamed f names) other) text ≡ find other text
-other_found f names other text e = rw (named_no f names text e) refl
-
 module _ (names : List (Name WellKnown)) (aliases : List (Name SidValue)) (same : renamed well_known names ≡ aliases) (other : Grammar SidValue) where
   pub alias_found : (text : List ℕ) (known : WellKnown) (rest : List ℕ) → named names text ≡ Some (known, rest) → find (one_of aliases other) text ≡ Ok (well_known known, rest)
-  alias_found text known rest e = subst (λ table. find (one_of table other) text ≡ Ok (well_known known, rest)) same (one_found well_known names other text known rest e)
+  alias_found text known rest e = rw (sym same, named_renamed well_known names text, e) refl
 
   pub no_alias_found : (text : List ℕ) → named names text ≡ None → find (one_of aliases other) text ≡ find other text
-  no_alias_found text e = subst (λ table. find (one_of table other) text ≡ find other text) same (other_found well_known names other text e)
+  no_alias_found text e = rw (sym same, named_renamed well_known names text, e) refl
 
 -- an alias of the domain's
 pub account_found : (names : List (Name ℕ)) (domain : Domain) (text : List ℕ) (relative : ℕ) (rest : List ℕ) → named names text ≡ Some (relative, rest) → find (domain_alias names (Some domain)) text ≡ Ok (account_sid domain relative, rest)
 unfolding domain_alias
-account_found names domain text relative rest e = one_found (account_sid domain) names no_alias text relative rest e
+account_found names domain text relative rest e = rw (named_renamed (account_sid domain) names text, e) refl
 
 -- one for which no domain is given
 pub needs_a_domain : (names : List (Name ℕ)) (text : List ℕ) (relative : ℕ) (rest : List ℕ) → named names text ≡ Some (relative, rest) → find (domain_alias names None) text ≡ Err (DomainAlias, text)
@@ -42,7 +36,7 @@ needs_a_domain names text relative rest e = rw e refl
 pub no_account_found : (names : List (Name ℕ)) (domain : Option Domain) (text : List ℕ) → named names text ≡ None → find (domain_alias names domain) text ≡ find no_alias text
 unfolding domain_alias
 no_account_found names None text e = rw e refl
-no_account_found names (Some domain) text e = other_found (account_sid domain) names no_alias text e
+no_account_found names (Some domain) text e = rw (named_renamed (account_sid domain) names text, e) refl
 
 -- the places of the aliases are those of the code's rows
 pub known_placed : (places : List ℕ) (names : List (Name WellKnown)) → renamed well_known names ≡ aliases → are_placed places 0 aliases ≡ true → are_placed places 0 names ≡ true

@@ -1,5 +1,6 @@
 -- Reading the entries of a SACL.
 use Rattle.std.proofs.Common.{◌≡◌, ℕ, zero, suc, ◌+◌, ◌<◌, ◌≤◌, true, false, List, [], ◌∷◌, ◌++◌, length, drop, get_or, Some, None, Ok, Err, refl, sym, arith, add-one, ap, ◌∙◌, inl, inr}
+use Rattle.std.proofs.Math.Seq.{drop-cons}
 use Rattle.std.specs.Prelude.{codes}
 use Rattle.std.proofs.lemmas.List.{drop_all}
 use Rattle.sd_text.specs.declared.fault.TextFault.{TextFault}
@@ -11,39 +12,26 @@ use Rattle.sd_text.specs.Laws.{AreReadAlike}
 use Rattle.sd_text.specs.Sddl.{sections, no_sacl}
 use Rattle.sd_text.specs.declared.sacl.Within.{Within}
 use Rattle.sd_text.specs.Sacl.{after_byte, all_sections, at_start, entry_len, one_more, sacl_entries, sacl_entry, sacl_section}
-use Rattle.sd_text.proofs.Parts.{begins_takes}
-use Rattle.sd_text.proofs.Engine.{shorter}
-use Rattle.sd_text.proofs.Loops.{Reaches, reaches_start, reaches_more, reaches_end, reaches_fault}
+use Rattle.sd_text.proofs.Loops.{Reaches, reaches_start, item_more, item_last, item_fault}
 
 -- entries have been read, and this is behind them
 pub record SaclReaches (start rest : List ℕ) : Type 0 where
   pub entries : List (Unit {0})
   pub reached : Reaches opening (λ before u. sacl_entry) start entries rest
 
-module _ (start : List ℕ) where
-  pub sacl_start : SaclReaches start start
-  sacl_start = record { entries = []; reached = reaches_start opening (λ before u. sacl_entry) start }
+pub sacl_start : (start : List ℕ) → SaclReaches start start
+sacl_start start = record { entries = []; reached = reaches_start opening (λ before u. sacl_entry) start }
 
-  pub sacl_more : (rest after : List ℕ) → SaclReaches start rest → begins rest (codes "(") ≡ true → find sacl_entry (drop 1 rest) ≡ Ok (tt, after) → SaclReaches start after
-  sacl_more rest after so_far stands one = record {
-    entries = so_far.entries ++ tt ∷ [];
-    reached = reaches_more opening (λ before u. sacl_entry) start so_far.entries rest tt (drop 1 rest) tt after so_far.reached (rw stands refl) one;
-  }
+pub sacl_more : {start rest after : List ℕ} → SaclReaches start rest → begins rest (codes "(") ≡ true → find sacl_entry (drop 1 rest) ≡ Ok (tt, after) → SaclReaches start after
+sacl_more so_far stands one = record { entries = so_far.entries ++ tt ∷ []; reached = item_more so_far.reached stands one }
 
-  pub sacl_end : (rest : List ℕ) → SaclReaches start rest → begins rest (codes "(") ≡ false → find sacl_entries start ≡ Ok (tt, rest)
-  unfolding sacl_entries
-  sacl_end rest so_far ends = rw (reaches_end opening (λ before u. sacl_entry) start so_far.entries rest so_far.reached (rw ends refl)) refl
+pub sacl_end : {start rest : List ℕ} → SaclReaches start rest → begins rest (codes "(") ≡ false → find sacl_entries start ≡ Ok (tt, rest)
+unfolding sacl_entries
+sacl_end so_far ends = rw (item_last so_far.reached ends) refl
 
-  pub sacl_fault : (rest : List ℕ) (d : TextFault × List ℕ) → SaclReaches start rest → begins rest (codes "(") ≡ true → find sacl_entry (drop 1 rest) ≡ Err d → find sacl_entries start ≡ Err d
-  unfolding sacl_entries
-  sacl_fault rest d so_far stands fails = rw (reaches_fault opening (λ before u. sacl_entry) start so_far.entries rest tt (drop 1 rest) d so_far.reached (rw stands refl) fails) refl
-
--- what an entry takes off the text
-pub sacl_takes : (rest after : List ℕ) → begins rest (codes "(") ≡ true → find sacl_entry (drop 1 rest) ≡ Ok (tt, after) → length after < length rest
-sacl_takes rest after stands one =
-    let opens = begins_takes rest (codes "(") stands in
-    let no_longer = shorter sacl_entry (drop 1 rest) tt after one in
-    omega arith
+pub sacl_fault : {start rest : List ℕ} {d : TextFault × List ℕ} → SaclReaches start rest → begins rest (codes "(") ≡ true → find sacl_entry (drop 1 rest) ≡ Err d → find sacl_entries start ≡ Err d
+unfolding sacl_entries
+sacl_fault so_far stands fails = rw (item_fault so_far.reached stands fails) refl
 
 -- ---- where an entry ends
 
@@ -62,14 +50,10 @@ pub record NoEndYet (text : List ℕ) (i : ℕ) (within : Within) : Type 0 where
   pub len : entry_len at_start text ≡ further i (entry_len within (drop i text))
 
 byte_on : (text : List ℕ) (i d : ℕ) (within next : Within) → i < length text → after_byte within (get_or text i d) ≡ Some next → entry_len within (drop i text) ≡ one_more (entry_len next (drop (i + 1) text))
-byte_on [] i d within next lt e = absurd (omega arith)
-byte_on (byte ∷ text) zero d within next lt e = rw e refl
-byte_on (byte ∷ text) (suc i) d within next lt e = rw add-one (let h = byte_on text i d within next (omega arith) e in rw add-one at h)
+byte_on text i d within next lt e = rw (drop-cons text i d lt, e, add-one) refl
 
 byte_ends : (text : List ℕ) (i d : ℕ) (within : Within) → i < length text → after_byte within (get_or text i d) ≡ None → entry_len within (drop i text) ≡ 1
-byte_ends [] i d within lt e = absurd (omega arith)
-byte_ends (byte ∷ text) zero d within lt e = rw e refl
-byte_ends (byte ∷ text) (suc i) d within lt e = byte_ends text i d within (omega arith) e
+byte_ends text i d within lt e = rw (drop-cons text i d lt, e) refl
 
 pub no_end_more : (text : List ℕ) (i d : ℕ) (within next : Within) → NoEndYet text i within → i < length text → after_byte within (get_or text i d) ≡ Some next → next.depth ≤ within.depth + 1 → NoEndYet text (i + 1) next
 no_end_more text i d within next so_far lt e le = record {

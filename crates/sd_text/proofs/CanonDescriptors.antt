@@ -1,5 +1,5 @@
 -- The printed text of a descriptor is read as the descriptor.
-use Rattle.std.proofs.Common.{◌≡◌, ℕ, Bool, true, false, cond, List, [], ◌∷◌, ◌++◌, Option, Some, None, Ok, refl, sym, subst, append_assoc}
+use Rattle.std.proofs.Common.{◌≡◌, ℕ, Bool, true, false, List, [], ◌∷◌, ◌++◌, Option, Some, None, Ok, refl, append_assoc, length, drop}
 use Rattle.std.specs.Prelude.{codes, IfSome, IsTrue, not, ◌&&◌}
 use Rattle.std.specs.List.{flat_map}
 use Rattle.std.proofs.lemmas.List.{append-nil}
@@ -8,24 +8,20 @@ use Rattle.sd_acl.specs.Dacl.{Dacl, IsAbsent}
 use Rattle.sd_acl.specs.Descriptor.{DescriptorValue, IsDacl, IsDescriptor, HaveNamedFlags}
 use Rattle.sd_acl.specs.declared.ace.Ace.{Ace}
 use Rattle.sd_acl.specs.declared.descriptor.DaclOf.TheVariants.{Absent, Null, List as Entries}
-use Rattle.sd_text.specs.declared.descriptor.DaclWord.{DaclWord}
-use Rattle.sd_text.specs.declared.descriptor.DaclWord.TheVariants.{Protected, AutoReq, AutoInherited, NoAccessControl}
-use Rattle.sd_text.specs.declared.descriptor.DaclWords.{DaclWords}
 use Rattle.sd_text.specs.declared.descriptor.DaclPart.{DaclPart}
 use Rattle.sd_text.specs.declared.alias.Aliases.{Aliases}
-use Rattle.sd_text.specs.Grammar.{begins, named}
+use Rattle.sd_text.specs.Grammar.{begins}
 use Rattle.sd_text.specs.Finding.{find}
-use Rattle.sd_text.specs.Rights.{mask_text, rights}
+use Rattle.sd_text.specs.Rights.{names_from_greatest, mask_text, rights}
 use Rattle.sd_text.specs.Sid.{sid_text_in, sid}
-use Rattle.sd_text.specs.Sddl.{sid_section, dacl_words, no_words, with_word, words, dacl_behind, dacl_section, no_sacl, parts, sections, sddl_in}
+use Rattle.sd_text.specs.Sddl.{sid_section, words, dacl_behind, dacl_section, no_sacl, parts, sections, sddl_in}
 use Rattle.sd_text.specs.Canon.{where_set, words_canon, entry_canon_in, section_canon, dacl_canon, sid_canon, rights_canon_in, canon_in}
 use Rattle.sd_text.specs.declared.right_names.RightNames.{RightNames}
 use Rattle.sd_text.specs.Laws.{DescriptorsComeBack, SidsComeBack, MasksComeBack}
 use Rattle.sd_text.proofs.Engine.{find_spells}
-use Rattle.sd_text.proofs.Tables.{IsTogether, run_start, run_more, run_end}
 use Rattle.sd_text.proofs.CanonSids.{Stops, sid_read}
 use Rattle.sd_text.proofs.CanonRights.{rights_read}
-use Rattle.sd_text.proofs.CanonEntries.{entry_text, entries_read}
+use Rattle.sd_text.proofs.CanonEntries.{body, entry_text, entries_read}
 
 at_end : Stops []
 at_end = record { no_digit = refl; no_dash = refl }
@@ -38,98 +34,55 @@ sids_come_back known s is =
     find_spells (sid_text_in known) (sid_canon s) s [] (rw read refl)
 
 pub masks_come_back : MasksComeBack
+unfolding names_from_greatest
 masks_come_back names mask lt =
     let read : find rights (rights_canon_in names mask) ≡ Ok (mask, []) = rw append-nil at (rights_read names mask [] lt refl refl) in
     find_spells mask_text (rights_canon_in names mask) mask [] (rw read refl)
 
--- ---- words
-
-Reached : List ℕ → DaclWords → List ℕ → Type 0
-Reached start sum rest = IsTogether dacl_words with_word no_words start sum rest
-
-word_again : (test : Bool) (letters : List ℕ) (word : DaclWord) (start : List ℕ) (sum : DaclWords) (rest : List ℕ) → named dacl_words (letters ++ rest) ≡ Some (word, rest) → Reached start sum (where_set test letters ++ rest) → Reached start (cond test (with_word sum word) sum) rest
-unfolding Reached
-word_again true letters word start sum rest stands so_far = run_more dacl_words with_word no_words start sum (letters ++ rest) word rest so_far stands
-word_again false letters word start sum rest stands so_far = so_far
-
-words_sum : (p r i : Bool) → cond i (with_word (cond r (with_word (cond p (with_word no_words Protected) no_words) AutoReq) (cond p (with_word no_words Protected) no_words)) AutoInherited) (cond r (with_word (cond p (with_word no_words Protected) no_words) AutoReq) (cond p (with_word no_words Protected) no_words)) ≡ record { protected = p; auto_req = r; auto_inherited = i; no_access_control = false }
-words_sum true true true = refl
-words_sum true true false = refl
-words_sum true false true = refl
-words_sum true false false = refl
-words_sum false true true = refl
-words_sum false true false = refl
-words_sum false false true = refl
-words_sum false false false = refl
-
--- the three words, and what is behind them
-words_text : Bool → Bool → Bool → List ℕ → List ℕ
-words_text p r i rest = where_set p (codes "P") ++ (where_set r (codes "AR") ++ (where_set i (codes "AI") ++ rest))
-
-words_again : (p r i : Bool) (rest : List ℕ) → Reached (words_text p r i rest) (record { protected = p; auto_req = r; auto_inherited = i; no_access_control = false }) rest
-unfolding words_text Reached
-words_again p r i rest =
-    let start = words_text p r i rest in
-    let none = run_start dacl_words with_word no_words start in
-    let first = word_again p (codes "P") Protected start no_words (where_set r (codes "AR") ++ (where_set i (codes "AI") ++ rest)) refl none in
-    let second = word_again r (codes "AR") AutoReq start (cond p (with_word no_words Protected) no_words) (where_set i (codes "AI") ++ rest) refl first in
-    let third = word_again i (codes "AI") AutoInherited start (cond r (with_word (cond p (with_word no_words Protected) no_words) AutoReq) (cond p (with_word no_words Protected) no_words)) rest refl second in
-    subst (λ sum. IsTogether dacl_words with_word no_words start sum rest) (words_sum p r i) third
-
 -- ---- the DACL
 
-no_word : (names : RightNames) (es : List Ace) → named dacl_words (flat_map (entry_canon_in names) es) ≡ None
-no_word names [] = refl
-no_word names (e ∷ es) = rw (entry_text names e (flat_map (entry_canon_in names) es)) refl
+-- what holds of three tests, however they go
+of_three : (P : Bool → Bool → Bool → Type 0) → P true true true → P true true false → P true false true → P true false false → P false true true → P false true false → P false false true → P false false false → (p r i : Bool) → P p r i
+of_three P a b c d e f g h true true true = a
+of_three P a b c d e f g h true true false = b
+of_three P a b c d e f g h true false true = c
+of_three P a b c d e f g h true false false = d
+of_three P a b c d e f g h false true true = e
+of_three P a b c d e f g h false true false = f
+of_three P a b c d e f g h false false true = g
+of_three P a b c d e f g h false false false = h
 
-regroup : (a b c rest : List ℕ) → (a ++ b ++ c) ++ rest ≡ a ++ (b ++ (c ++ rest))
-regroup a b c rest = simp append_assoc
-
-null_read : (p r i : Bool) → find words (words_text p r i (codes "NO_ACCESS_CONTROL")) ≡ Ok (record { protected = p; auto_req = r; auto_inherited = i; no_access_control = true }, [])
-unfolding words Reached
-null_read p r i =
-    let start = words_text p r i (codes "NO_ACCESS_CONTROL") in
-    let so_far = words_again p r i (codes "NO_ACCESS_CONTROL") in
-    let last = run_more dacl_words with_word no_words start (record { protected = p; auto_req = r; auto_inherited = i; no_access_control = false }) (codes "NO_ACCESS_CONTROL") NoAccessControl [] so_far refl in
-    run_end dacl_words with_word no_words start (record { protected = p; auto_req = r; auto_inherited = i; no_access_control = true }) [] last refl
-
-list_read : (names : RightNames) (p r i : Bool) (es : List Ace) → find words (words_text p r i (flat_map (entry_canon_in names) es)) ≡ Ok (record { protected = p; auto_req = r; auto_inherited = i; no_access_control = false }, flat_map (entry_canon_in names) es)
-unfolding words Reached
-list_read names p r i es = run_end dacl_words with_word no_words (words_text p r i (flat_map (entry_canon_in names) es)) (record { protected = p; auto_req = r; auto_inherited = i; no_access_control = false }) (flat_map (entry_canon_in names) es) (words_again p r i (flat_map (entry_canon_in names) es)) (no_word names es)
-
--- the flags of a descriptor without a DACL are false
-all_false : (p r i : Bool) → IsTrue (not p && not r && not i) → (p ≡ false) × (r ≡ false) × (i ≡ false)
-all_false true r i e = absurd cc
-all_false false true i e = absurd cc
-all_false false false true e = absurd cc
-all_false false false false e = (refl, refl, refl)
-
+-- the keywords of three flags, and what they say
 letters_of : Bool → Bool → Bool → List ℕ
 letters_of p r i = where_set p (codes "P") ++ where_set r (codes "AR") ++ where_set i (codes "AI")
 
--- what the section of a DACL says, and that it is what a descriptor keeps
-part_of : Dacl → Bool → Bool → Bool → DaclPart
-part_of Absent p r i = record { dacl = Absent; words = no_words }
-part_of Null p r i = record { dacl = Null; words = record { protected = p; auto_req = r; auto_inherited = i; no_access_control = true } }
-part_of (Entries es) p r i = record { dacl = Entries es; words = record { protected = p; auto_req = r; auto_inherited = i; no_access_control = false } }
+abbrev part_of : Dacl → Bool → Bool → Bool → Bool → DaclPart
+part_of dacl p r i none = record { dacl = dacl; words = record { protected = p; auto_req = r; auto_inherited = i; no_access_control = none } }
 
-record Keeps (part : DaclPart) (dacl : Dacl) (p r i : Bool) : Type 0 where
-  list : part.dacl ≡ dacl
-  protected : part.words.protected ≡ p
-  auto_req : part.words.auto_req ≡ r
-  auto_inherited : part.words.auto_inherited ≡ i
+words_read : (names : RightNames) (p r i : Bool) (es : List Ace) → find words (letters_of p r i ++ flat_map (entry_canon_in names) es) ≡ Ok ((part_of Null p r i false).words, flat_map (entry_canon_in names) es)
+unfolding letters_of words
+words_read names p r i [] = of_three (λ p r i. find words (letters_of p r i ++ []) ≡ Ok ((part_of Null p r i false).words, [])) refl refl refl refl refl refl refl refl p r i
+words_read names p r i (e ∷ es) =
+    let text = body names e (flat_map (entry_canon_in names) es) in
+    rw (entry_text names e (flat_map (entry_canon_in names) es))
+    (of_three (λ p r i. find words (letters_of p r i ++ 40 ∷ text) ≡ Ok ((part_of Null p r i false).words, 40 ∷ text)) refl refl refl refl refl refl refl refl p r i)
 
-keeps : (dacl : Dacl) (p r i : Bool) → (IsAbsent dacl → IsTrue (not p && not r && not i)) → Keeps (part_of dacl p r i) dacl p r i
-unfolding part_of
-keeps Absent p r i without = let f = all_false p r i (without refl) in record { list = refl; protected = sym f.0; auto_req = sym f.1; auto_inherited = sym f.2 }
-keeps Null p r i without = record { list = refl; protected = refl; auto_req = refl; auto_inherited = refl }
-keeps (Entries es) p r i without = record { list = refl; protected = refl; auto_req = refl; auto_inherited = refl }
+null_read : (known : Aliases) (names : RightNames) (p r i : Bool) → find (dacl_section known) (dacl_canon names (letters_of p r i) Null) ≡ Ok (part_of Null p r i true, [])
+unfolding letters_of dacl_section dacl_behind words
+null_read known names = of_three (λ p r i. find (dacl_section known) (dacl_canon names (letters_of p r i) Null) ≡ Ok (part_of Null p r i true, [])) refl refl refl refl refl refl refl refl
 
-dacl_read : (known : Aliases) (names : RightNames) (dacl : Dacl) (p r i : Bool) → IsDacl dacl → HaveNamedFlags dacl → find (dacl_section known) (dacl_canon names (letters_of p r i) dacl) ≡ Ok (part_of dacl p r i, [])
-unfolding part_of letters_of dacl_section dacl_behind words_text
-dacl_read known names Absent p r i is named_only = refl
-dacl_read known names Null p r i is named_only = rw (regroup (where_set p (codes "P")) (where_set r (codes "AR")) (where_set i (codes "AI")) (codes "NO_ACCESS_CONTROL"), null_read p r i) refl
-dacl_read known names (Entries es) p r i is named_only = rw (regroup (where_set p (codes "P")) (where_set r (codes "AR")) (where_set i (codes "AI")) (flat_map (entry_canon_in names) es), list_read names p r i es, entries_read known names es is.each named_only is.fit) refl
+is_null : Dacl → Bool
+is_null Null = true
+is_null other = false
+
+dacl_read : (known : Aliases) (names : RightNames) (dacl : Dacl) (p r i : Bool) → IsDacl dacl → HaveNamedFlags dacl → (IsAbsent dacl → IsTrue (not p && not r && not i)) → find (dacl_section known) (dacl_canon names (letters_of p r i) dacl) ≡ Ok (part_of dacl p r i (is_null dacl), [])
+unfolding is_null dacl_section dacl_behind
+dacl_read known names Absent true r i is named_only without = absurd (let no = without refl in cc)
+dacl_read known names Absent false true i is named_only without = absurd (let no = without refl in cc)
+dacl_read known names Absent false false true is named_only without = absurd (let no = without refl in cc)
+dacl_read known names Absent false false false is named_only without = refl
+dacl_read known names Null p r i is named_only without = null_read known names p r i
+dacl_read known names (Entries es) p r i is named_only without = rw (words_read names p r i es, entries_read known names es is.each named_only is.fit) refl
 
 -- ---- sections
 
@@ -142,15 +95,11 @@ after_owner : (names : RightNames) (g : Option SidValue) (letters : List ℕ) (d
 after_owner names None letters dacl = let h = after_group names letters dacl in (h.0, h.2)
 after_owner names (Some s) letters dacl = (record { no_digit = refl; no_dash = refl }, refl)
 
-owner_read : (known : Aliases) (o : Option SidValue) (rest : List ℕ) → IfSome o IsSid → Stops rest → begins rest (codes "O:") ≡ false → find (sid_section known (codes "O:")) (section_canon (codes "O:") o ++ rest) ≡ Ok (o, rest)
+section_read : (known : Aliases) (head : List ℕ) (o : Option SidValue) (rest : List ℕ) → ((text : List ℕ) → (begins (head ++ text) head ≡ true) × (drop (length head) (head ++ text) ≡ text)) → IfSome o IsSid → Stops rest → begins rest head ≡ false → find (sid_section known head) (section_canon head o ++ rest) ≡ Ok (o, rest)
 unfolding sid_section
-owner_read known None rest is stops other = rw other refl
-owner_read known (Some s) rest is stops other = rw (sid_read known s rest is stops) refl
-
-group_read : (known : Aliases) (g : Option SidValue) (rest : List ℕ) → IfSome g IsSid → Stops rest → begins rest (codes "G:") ≡ false → find (sid_section known (codes "G:")) (section_canon (codes "G:") g ++ rest) ≡ Ok (g, rest)
-unfolding sid_section
-group_read known None rest is stops other = rw other refl
-group_read known (Some s) rest is stops other = rw (sid_read known s rest is stops) refl
+section_read known head None rest opens is stops other = rw other refl
+section_read known head (Some s) rest opens is stops other =
+    let here = opens (sid_canon s ++ rest) in rw (append_assoc head (sid_canon s) rest, here.0, here.1, sid_read known s rest is stops) refl
 
 sections_read : (known : Aliases) (names : RightNames) (d : DescriptorValue) → IsDescriptor d → HaveNamedFlags d.dacl → find (sections known) (canon_in names d) ≡ Ok (d, [])
 unfolding sections parts canon_in no_sacl letters_of words_canon
@@ -158,10 +107,7 @@ sections_read known names d is named_only =
     let tail = dacl_canon names (words_canon d) d.dacl in
     let behind_group = after_group names (words_canon d) d.dacl in
     let behind_owner = after_owner names d.group (words_canon d) d.dacl in
-    let part = part_of d.dacl d.protected d.auto_req d.auto_inherited in
-    let kept : Keeps part d.dacl d.protected d.auto_req d.auto_inherited = keeps d.dacl d.protected d.auto_req d.auto_inherited is.without_a_dacl in
-    rw (append_assoc (section_canon (codes "O:") d.owner) (section_canon (codes "G:") d.group) tail, owner_read known d.owner (section_canon (codes "G:") d.group ++ tail) is.owner behind_owner.0 behind_owner.1, group_read known d.group tail is.group behind_group.0 behind_group.1, dacl_read known names d.dacl d.protected d.auto_req d.auto_inherited is.dacl named_only)
-    (rw (kept.list, kept.protected, kept.auto_req, kept.auto_inherited) refl)
+    rw (append_assoc (section_canon (codes "O:") d.owner) (section_canon (codes "G:") d.group) tail, section_read known (codes "O:") d.owner (section_canon (codes "G:") d.group ++ tail) (λ text. (refl, refl)) is.owner behind_owner.0 behind_owner.1, section_read known (codes "G:") d.group tail (λ text. (refl, refl)) is.group behind_group.0 behind_group.1, dacl_read known names d.dacl d.protected d.auto_req d.auto_inherited is.dacl named_only is.without_a_dacl) refl
 
 pub descriptors_come_back : DescriptorsComeBack
 descriptors_come_back known names d is named_only = find_spells (sddl_in known) (canon_in names d) d [] (rw (sections_read known names d is named_only) refl)

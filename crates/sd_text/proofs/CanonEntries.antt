@@ -11,11 +11,13 @@ use Rattle.sd_acl.specs.declared.ace.Ace.{Ace}
 use Rattle.sd_acl.specs.declared.ace.AceKind.{AceKind}
 use Rattle.sd_acl.specs.declared.ace.AceKind.TheVariants.{Allow, Deny}
 use Rattle.sd_text.specs.Finding.{find}
-use Rattle.sd_text.specs.Entry.{kind, guid, entry, entry_end, entries}
+use Rattle.sd_text.specs.Rights.{names_from_greatest}
+use Rattle.sd_text.specs.Entry.{opening, kind, guid, entry, entry_end, entries}
 use Rattle.sd_text.specs.declared.alias.Aliases.{Aliases}
 use Rattle.sd_text.specs.Canon.{kind_canon, flags_canon, rights_canon_in, sid_canon, entry_canon_in}
 use Rattle.sd_text.specs.declared.right_names.RightNames.{RightNames}
-use Rattle.sd_text.proofs.Entries.{EntriesReach, entries_start, entries_more, entries_end}
+use Rattle.sd_text.proofs.Loops.{reaches_start, item_more, item_last}
+use Rattle.sd_text.proofs.Entries.{EntriesReach}
 use Rattle.sd_text.proofs.CanonSids.{Stops, sid_read}
 use Rattle.sd_text.proofs.CanonRights.{flags_read, rights_read}
 
@@ -47,7 +49,7 @@ stops : (rest : List ℕ) → Stops (41 ∷ rest)
 stops rest = record { no_digit = refl; no_dash = refl }
 
 entry_read : (known : Aliases) (names : RightNames) (size : ℕ) (e : Ace) (rest : List ℕ) → IsAce e → HasNamedFlags e → size + ace_size e ≤ 65535 → find (entry known size) (body names e rest) ≡ Ok (e, rest)
-unfolding entry body
+unfolding entry body names_from_greatest
 entry_read known names size e rest is named_only fits =
     let trustee = sid_canon e.sid ++ 41 ∷ rest in
     let mask = rights_canon_in names e.mask ++ (59 ∷ 59 ∷ 59 ∷ trustee) in
@@ -62,12 +64,12 @@ entries_again known names (e ∷ es) done start rest each named_only fits reache
     let parts = sum_by-append ace_size done (e ∷ es) in
     let first = sum_by-cons ace_size e es in
     let one = entry_read known names (acl_size_of done) e after each.0 named_only.0 (omega arith) in
-    let more = entries_more (entry known) start done (40 ∷ body names e after) e after here refl one in
+    let more = item_more here refl one in
     rw (sym (append_assoc done (e ∷ []) es)) (entries_again known names es (done ++ e ∷ []) start rest each.1 named_only.1 (rw append_assoc fits) more)
 
 pub entries_read : (known : Aliases) (names : RightNames) (es : List Ace) → AllByRecursion IsAce es → AllByRecursion HasNamedFlags es → acl_size_of es ≤ 65535 → find (entries known) (flat_map (entry_canon_in names) es) ≡ Ok (es, [])
 unfolding entries
 entries_read known names es each named_only fits =
     let start = flat_map (entry_canon_in names) es in
-    let first : EntriesReach (entry known) start [] (start ++ []) = rw (append-nil start) (entries_start (entry known) start) in
-    entries_end (entry known) start es [] (entries_again known names es [] start [] each named_only fits first) refl
+    let first : EntriesReach (entry known) start [] (start ++ []) = rw (append-nil start) (reaches_start opening (λ before u. entry known (acl_size_of before)) start) in
+    item_last (entries_again known names es [] start [] each named_only fits first) refl

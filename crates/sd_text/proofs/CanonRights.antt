@@ -7,7 +7,7 @@ use Rattle.std.proofs.lemmas.Fmt.{digits_is_IsNumeral}
 use Rattle.sd_acl.specs.Ace.{all_named}
 use Rattle.sd_text.specs.Grammar.{Name, begins_digit, named}
 use Rattle.sd_text.specs.Finding.{find}
-use Rattle.sd_text.specs.Rights.{right_names, bits_of, mask_number, rights}
+use Rattle.sd_text.specs.Rights.{names_from_greatest, right_names, bits_of, mask_number, rights}
 use Rattle.sd_text.specs.Entry.{flag_names}
 use Rattle.sd_text.specs.Canon.{hex, rights_canon_in, flag_canon, flags_canon}
 use Rattle.sd_text.specs.RightNames.{PrintedRight, printed_rights, name_in}
@@ -22,31 +22,25 @@ RightReads : Name ℕ → Type 0
 RightReads name = (rest : List ℕ) → (begins_digit 10 (name.letters ++ rest) ≡ false) × (named right_names (name.letters ++ rest) ≡ Some (name.stands_for, rest))
 
 right_rows : AllByRecursion (λ (right : PrintedRight). RightReads right.0) printed_rights
-unfolding printed_rights RightReads
+unfolding printed_rights names_from_greatest RightReads
 right_rows = (λ rest. (refl, refl), (λ rest. (refl, refl), (λ rest. (refl, refl), (λ rest. (refl, refl), (λ rest. (refl, refl), (λ rest. (refl, refl), (λ rest. (refl, refl), (λ rest. (refl, refl), (λ rest. (refl, refl), (λ rest. (refl, refl), (λ rest. (refl, refl), (λ rest. (refl, refl), (λ rest. (refl, refl), (λ rest. (refl, refl), (λ rest. (refl, refl), tt)))))))))))))))
 
 one_name : (mask : ℕ) (text rest : List ℕ) → named right_names text ≡ Some (mask, rest) → named right_names rest ≡ None → find (bits_of right_names) text ≡ Ok (mask, rest)
 unfolding bits_of
 one_name mask text rest one none = run_end right_names bit_or 0 text mask rest (run_more right_names bit_or 0 text 0 text mask rest (run_start right_names bit_or 0 text) one) none
 
-name_read : (names : RightNames) (mask : ℕ) (letters rest : List ℕ) → named right_names rest ≡ None → name_in names printed_rights mask ≡ Some letters → find rights (letters ++ rest) ≡ Ok (mask, rest)
-unfolding rights RightReads
-name_read names mask letters rest none e =
-    let row = right_row RightReads names printed_rights mask letters right_rows e in
-    let reads = row.1 rest in
-    rw (sym row.2, reads.0, one_name row.0.stands_for (row.0.letters ++ rest) rest reads.1 none, row.3) refl
-
-hex_read : (mask : ℕ) (rest : List ℕ) → mask < 2 ^ 32 → begins_digit 16 rest ≡ false → find rights (codes "0x" ++ hex mask ++ rest) ≡ Ok (mask, rest)
-unfolding rights mask_number
-hex_read mask rest lt ends = let digits = digits_is_IsNumeral 16 false (omega arith) (omega arith) mask (omega arith) in number_read (codes "0x") 16 (2 ^ 32) mask (hex mask) rest digits.0 digits.1 lt ends refl
-
 pub rights_read : (names : RightNames) (mask : ℕ) (rest : List ℕ) → mask < 2 ^ 32 → begins_digit 16 rest ≡ false → named right_names rest ≡ None → find rights (rights_canon_in names mask ++ rest) ≡ Ok (mask, rest)
-unfolding rights_canon_in
+unfolding rights_canon_in rights mask_number RightReads
 rights_read names mask rest lt ends none = by_name (name_in names printed_rights mask) refl
   where
     by_name : (found : Option (List ℕ)) → name_in names printed_rights mask ≡ found → find rights (unwrap_or found (codes "0x" ++ hex mask) ++ rest) ≡ Ok (mask, rest)
-    by_name None e = hex_read mask rest lt ends
-    by_name (Some letters) e = name_read names mask letters rest none e
+    by_name None e =
+        let digits = digits_is_IsNumeral 16 false (omega arith) (omega arith) mask (omega arith) in
+        number_read (codes "0x") 16 (2 ^ 32) mask (hex mask) rest digits.0 digits.1 lt ends refl
+    by_name (Some letters) e =
+        let row = right_row RightReads names printed_rights mask letters right_rows e in
+        let reads = row.1 rest in
+        rw (sym row.2, reads.0, one_name row.0.stands_for (row.0.letters ++ rest) rest reads.1 none, row.3) refl
 
 -- ---- flags
 

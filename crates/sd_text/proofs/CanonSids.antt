@@ -3,7 +3,7 @@ use Rattle.std.proofs.Common.{◌≡◌, ℕ, zero, suc, ◌+◌, ◌-◌, ◌^�
 use Rattle.std.specs.Prelude.{codes, nat_lt, unwrap_or}
 use Rattle.std.specs.List.{flat_map, All, AllByRecursion}
 use Rattle.std.specs.Char.{digit_value, eq_ignore_ascii_case}
-use Rattle.std.specs.Str.Parse.{IsNumeral, AllDigits, digits_value}
+use Rattle.std.specs.Str.Parse.{IsNumeral, digits_value}
 use Rattle.std.specs.Fmt.{decimal}
 use Rattle.std.proofs.lemmas.Grind.{common_steps}
 use Rattle.std.proofs.lemmas.Bool.Decides.{nat_tests}
@@ -16,13 +16,14 @@ use Rattle.sd_sid.specs.Sid.{SidValue, IsSid}
 use Rattle.sd_text.specs.Grammar.{Name, number, begins, begins_digit, named}
 use Rattle.sd_text.specs.Finding.{find}
 use Rattle.sd_text.specs.Alias.{aliases, alias_in}
-use Rattle.sd_text.specs.Sid.{sub, subs_of, authority, sid}
+use Rattle.sd_text.specs.Sid.{dash, sub, subs_of, authority, sid}
 use Rattle.sd_text.specs.declared.alias.Aliases.{Aliases}
 use Rattle.sd_text.specs.Canon.{hex, authority_canon, sub_canon, full_canon, sid_canon}
 use Rattle.sd_text.proofs.Parts.{went}
 use Rattle.sd_text.proofs.Engine.{spells_find}
 use Rattle.sd_text.proofs.Tables.{alias_row}
-use Rattle.sd_text.proofs.Sids.{SubsReach, subs_start, subs_more, subs_end}
+use Rattle.sd_text.proofs.Loops.{reaches_start, item_more}
+use Rattle.sd_text.proofs.Sids.{SubsReach, subs_end}
 
 -- what may stand behind a SID
 pub record Stops (rest : List ℕ) : Type 0 where
@@ -54,7 +55,7 @@ subs_read start done (n ∷ subs) rest few words ends reached =
     let regroup : flat_map sub_canon (n ∷ subs) ++ rest ≡ 45 ∷ (decimal n ++ (flat_map sub_canon subs ++ rest)) = ap (λ (xs : List ℕ). 45 ∷ xs) (append_assoc (decimal n) (flat_map sub_canon subs) rest) in
     let here : SubsReach start done (45 ∷ (decimal n ++ (flat_map sub_canon subs ++ rest))) = subst (λ text. SubsReach start done text) regroup reached in
     let one = sub_read (length done) n (flat_map sub_canon subs ++ rest) (omega arith) (All-head (λ m. m < 2 ^ 32) n subs words) (subs_stop subs rest ends) in
-    let more = subs_more start done (45 ∷ (decimal n ++ (flat_map sub_canon subs ++ rest))) n (flat_map sub_canon subs ++ rest) here refl one in
+    let more = item_more here refl one in
     rw (sym (append_assoc done (n ∷ []) subs)) (subs_read start (done ++ n ∷ []) subs rest (omega (arith, length_push done n)) (All-tail (λ m. m < 2 ^ 32) n subs words) ends more)
   where
     length_push : (xs : List ℕ) (m : ℕ) → length (xs ++ m ∷ []) ≡ length xs + 1
@@ -63,7 +64,7 @@ subs_read start done (n ∷ subs) rest few words ends reached =
 sid_subs_read : (auth : ℕ) (n : ℕ) (subs rest : List ℕ) → length (n ∷ subs) ≤ 15 → All (λ m. m < 2 ^ 32) (n ∷ subs) → Stops rest → find (subs_of auth) (flat_map sub_canon (n ∷ subs) ++ rest) ≡ Ok (record { authority = auth; subs = n ∷ subs }, rest)
 sid_subs_read auth n subs rest few words stops =
     let start = flat_map sub_canon (n ∷ subs) ++ rest in
-    subs_end auth start (n ∷ subs) rest refl (subs_read start [] (n ∷ subs) rest (omega arith) words stops.no_digit (subs_start start)) stops.no_dash
+    subs_end auth refl (subs_read start [] (n ∷ subs) rest (omega arith) words stops.no_digit (reaches_start dash (λ before u. sub (length before)) start)) stops.no_dash
 
 -- ---- authorities
 
@@ -77,17 +78,9 @@ no_head (d ∷ []) tail n = and-false (eq_ignore_ascii_case d 48)
 no_head (d ∷ e ∷ ds) tail n = rw (not_x e n.1.1.0) (and-false (eq_ignore_ascii_case d 48))
 
 -- leading zeros change nothing
-zeros_digits : (k : ℕ) (ds : List ℕ) → AllDigits 16 ds → AllDigits 16 (replicate k 48 ++ ds)
-zeros_digits zero ds all = all
-zeros_digits (suc k) ds all = (lit< tt, zeros_digits k ds all)
-
-zeros_value : (k : ℕ) (ds : List ℕ) → digits_value 16 (replicate k 48 ++ ds) ≡ digits_value 16 ds
-zeros_value zero ds = refl
-zeros_value (suc k) ds = zeros_value k ds
-
-zeros_some : (k : ℕ) (ds : List ℕ) → 0 < length ds → 0 < length (replicate k 48 ++ ds)
-zeros_some zero ds some = some
-zeros_some (suc k) ds some = omega arith
+zeros_read : (k : ℕ) (ds : List ℕ) → IsNumeral 16 ds → IsNumeral 16 (replicate k 48 ++ ds) × (digits_value 16 (replicate k 48 ++ ds) ≡ digits_value 16 ds)
+zeros_read zero ds numeral = (numeral, refl)
+zeros_read (suc k) ds numeral = let rest = zeros_read k ds numeral in ((omega arith, (lit< tt, rest.0.1)), rest.1)
 
 authority_read : (n : ℕ) (tail : List ℕ) → n < 2 ^ 48 → find authority (authority_canon n ++ 45 ∷ tail) ≡ Ok (n, 45 ∷ tail)
 unfolding authority authority_canon
@@ -97,19 +90,11 @@ authority_read n tail lt =
       | inr h ↦
           let digits = digits_is_IsNumeral 16 false (omega arith) (omega arith) n (omega arith) in
           let zeros = 12 - length (hex n) in
-          let ds = replicate zeros 48 ++ hex n in
-          let numeral : IsNumeral 16 ds = (zeros_some zeros (hex n) digits.0.0, zeros_digits zeros (hex n) digits.0.1) in
-          rw h (number_read (codes "0x") 16 (2 ^ 48) n ds (45 ∷ tail) numeral (zeros_value zeros (hex n) ∙ digits.1) lt refl refl)
+          let padded = zeros_read zeros (hex n) digits.0 in
+          rw h (number_read (codes "0x") 16 (2 ^ 48) n (replicate zeros 48 ++ hex n) (45 ∷ tail) padded.0 (padded.1 ∙ digits.1) lt refl refl)
     ]
 
 -- ---- SIDs
-
-full_read : (known : Aliases) (auth n : ℕ) (subs rest : List ℕ) → auth < 2 ^ 48 → length (n ∷ subs) ≤ 15 → All (λ m. m < 2 ^ 32) (n ∷ subs) → Stops rest → find (sid known) (full_canon (record { authority = auth; subs = n ∷ subs }) ++ rest) ≡ Ok (record { authority = auth; subs = n ∷ subs }, rest)
-unfolding sid full_canon
-full_read known auth n subs rest lt few words stops =
-    let regroup = append_assoc (authority_canon auth) (flat_map sub_canon (n ∷ subs)) rest in
-    let tail = decimal n ++ flat_map sub_canon subs ++ rest in
-    rw (regroup, authority_read auth tail lt) (sid_subs_read auth n subs rest few words stops)
 
 AliasReads : Name SidValue → Type 0
 AliasReads name = (rest : List ℕ) → (begins (name.letters ++ rest) (codes "S-1-") ≡ false) × (named aliases (name.letters ++ rest) ≡ Some (name.stands_for, rest))
@@ -118,21 +103,20 @@ alias_rows : AllByRecursion AliasReads aliases
 unfolding aliases AliasReads
 alias_rows = search rules
 
-alias_read : (known : Aliases) (s : SidValue) (letters rest : List ℕ) → alias_in aliases s ≡ Some letters → find (sid known) (letters ++ rest) ≡ Ok (s, rest)
-unfolding sid AliasReads
-alias_read known s letters rest e =
-    let row = alias_row AliasReads aliases s letters alias_rows e in
-    let reads = row.1 rest in
-    rw (sym row.2, reads.0, reads.1, row.3) refl
-
 pub sid_read : (known : Aliases) (s : SidValue) (rest : List ℕ) → IsSid s → Stops rest → find (sid known) (sid_canon s ++ rest) ≡ Ok (s, rest)
-unfolding sid_canon
+unfolding sid sid_canon full_canon AliasReads
 sid_read known s rest is stops = by_alias (alias_in aliases s) refl
   where
     in_full : (auth : ℕ) (subs : List ℕ) → IsSid (record { authority = auth; subs = subs }) → find (sid known) (full_canon (record { authority = auth; subs = subs }) ++ rest) ≡ Ok (record { authority = auth; subs = subs }, rest)
     in_full auth [] h = absurd (let some = h.some in omega arith)
-    in_full auth (n ∷ subs) h = full_read known auth n subs rest h.authority h.few h.words stops
+    in_full auth (n ∷ subs) h =
+        let regroup = append_assoc (authority_canon auth) (flat_map sub_canon (n ∷ subs)) rest in
+        let tail = decimal n ++ flat_map sub_canon subs ++ rest in
+        rw (regroup, authority_read auth tail h.authority) (sid_subs_read auth n subs rest h.few h.words stops)
 
     by_alias : (found : Option (List ℕ)) → alias_in aliases s ≡ found → find (sid known) (unwrap_or found (full_canon s) ++ rest) ≡ Ok (s, rest)
     by_alias None e = in_full s.authority s.subs is
-    by_alias (Some letters) e = alias_read known s letters rest e
+    by_alias (Some letters) e =
+        let row = alias_row AliasReads aliases s letters alias_rows e in
+        let reads = row.1 rest in
+        rw (sym row.2, reads.0, reads.1, row.3) refl

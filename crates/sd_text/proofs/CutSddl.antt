@@ -12,7 +12,6 @@ use Rattle.sd_acl.specs.declared.ace.AceKind.{AceKind}
 use Rattle.sd_acl.specs.declared.ace.AceKind.TheVariants.{Allow, Deny}
 use Rattle.sd_text.specs.declared.alias.Aliases.{Aliases}
 use Rattle.sd_text.specs.declared.domain.Domain.{Domain}
-use Rattle.sd_text.specs.declared.descriptor.DaclWords.{DaclWords}
 use Rattle.sd_text.specs.declared.fault.TextFault.TheVariants.{Syntax, AclTooLarge}
 use Rattle.sd_text.specs.Grammar.{Grammar, Name, value, refused, and_then, word, number, one_of, many, begins, begins_digit, named, spells}
 use Rattle.sd_text.specs.Alias.{aliases}
@@ -23,7 +22,7 @@ use Rattle.sd_text.specs.Sddl.{sid_section, dacl_words, with_word, no_words, wor
 use Rattle.sd_text.specs.Sacl.{sacl_section, all_sections}
 use Rattle.sd_text.specs.Laws.{EndsWithItsSacl}
 use Rattle.sd_text.proofs.Parts.{named_takes}
-use Rattle.sd_text.proofs.Cuts.{no_longer, items_suffix, suffix, Cuts, cut_at, begins_less, begins_kept, digit_less, digit_kept, cuts_value, cuts_refused, cuts_then, cuts_word, cuts_number, cuts_one_of, cuts_many, cuts_run, cuts_choose, cuts_if, Takes, cuts_headed, takes_word, takes_then, takes_number, takes_less, cuts_headed_word}
+use Rattle.sd_text.proofs.Cuts.{no_longer, items_suffix, suffix, Cuts, cut_at, begins_less, begins_kept, digit_less, digit_kept, cuts_value, cuts_refused, cuts_then, cuts_word, cuts_number, cuts_one_of, cuts_many, cuts_run, cuts_choose, cuts_if, Takes, cuts_headed, takes_word, takes_then, takes_number, takes_choose, takes_less, cuts_headed_word}
 
 -- ---- SIDs
 
@@ -40,10 +39,6 @@ cuts_authority : Cuts authority
 unfolding authority
 cuts_authority = cuts_headed (codes "0X") (number 2 16 (2 ^ 48)) (number 0 10 (2 ^ 48)) (takes_less 2 3 _ (omega arith) (takes_number 2 16 (2 ^ 48))) (cuts_number 2 16 (2 ^ 48)) (cuts_number 0 10 (2 ^ 48))
 
-cuts_sub : (before : ℕ) → Cuts (sub before)
-unfolding sub
-cuts_sub before = cuts_if (nat_lt before 15) _ _ (cuts_number 0 10 _) (cuts_refused _ (λ text n behind x. elim x [ inl h ↦ h.1 | inr h ↦ h.1 ]))
-
 -- a dash before the first of several items
 takes_dash : {A : Type 0} (item : List A → Unit {0} → Grammar A) (text : List ℕ) (xs : List A) (behind : List ℕ) → begins text (codes "-") ≡ true → spells (many dash item) text xs behind → length behind < length text
 takes_dash item text [] behind e s = absurd (let none : named dash text ≡ None = rw s.0 at s.1 in cc)
@@ -54,11 +49,11 @@ takes_dash item text (x ∷ xs) behind e s =
     omega arith
 
 cuts_subs_of : (authority : ℕ) → Cuts (subs_of authority)
-unfolding subs_of
+unfolding subs_of sub
 cuts_subs_of authority =
     cuts_then _ _
     (cuts_choose (λ text. begins text (codes "-")) (many dash (λ before u. sub (length before))) (refused Syntax)
-    (cuts_many dash (λ before u. sub (length before)) (λ before u. cuts_sub (length before))) (cuts_refused _ (λ text a behind s. s))
+    (cuts_many dash (λ before u. sub (length before)) (λ before u. cuts_if (nat_lt (length before) 15) _ _ (cuts_number 0 10 _) (cuts_refused _ (λ text n behind x. elim x [ inl h ↦ h.1 | inr h ↦ h.1 ])))) (cuts_refused _ (λ text a behind s. s))
     (λ text tail e. begins_less text tail (codes "-") e)
     (λ text tail xs behind e s. begins_kept text tail (codes "-") e
     (let lt = takes_dash (λ before u. sub (length before)) (text ++ tail) xs (behind ++ tail) e s in omega (arith, length-append text tail, length-append behind tail))))
@@ -74,16 +69,8 @@ cuts_sid known =
 
 takes_mask_number : Takes 1 mask_number
 unfolding mask_number
-takes_mask_number = record {
-  takes = λ text n behind s.
-      elim s [
-        | inl h ↦ let le = (takes_number 2 16 (2 ^ 32)).takes text n behind h.1 in omega arith
-        | inr h ↦ elim h.1 [
-          | inl k ↦ (takes_number 0 8 (2 ^ 32)).takes text n behind k.1
-          | inr k ↦ (takes_number 0 10 (2 ^ 32)).takes text n behind k.1
-        ]
-      ];
-}
+takes_mask_number =
+    takes_choose 1 _ _ _ (takes_less 1 3 _ (omega arith) (takes_number 2 16 (2 ^ 32))) (takes_choose 1 _ _ _ (takes_number 0 8 (2 ^ 32)) (takes_number 0 10 (2 ^ 32)))
 
 cuts_mask_number : Cuts mask_number
 unfolding mask_number
@@ -170,27 +157,19 @@ cuts_entry known size =
     cuts_then _ _ cuts_rights (λ mask. cuts_then _ _ (cuts_word (codes ";")) (λ w. cuts_then _ _ cuts_guid (λ object. cuts_then _ _ cuts_guid (λ inherit.
     cuts_then _ _ (cuts_sid known) (λ trustee. cuts_entry_end size _)))))))))
 
-cuts_entries : (known : Aliases) → Cuts (entries known)
-unfolding entries
-cuts_entries known = cuts_many opening (λ before u. entry known (acl_size_of before)) (λ before u. cuts_entry known (acl_size_of before))
-
 -- ---- sections
 
 cuts_sid_section : (known : Aliases) (head : List ℕ) → Cuts (sid_section known head)
 unfolding sid_section
 cuts_sid_section known head = cuts_headed_word head _ (value None) (λ u. cuts_then _ _ (cuts_sid known) (λ trustee. cuts_value (Some trustee))) (cuts_value None)
 
-cuts_dacl_behind : (known : Aliases) (found : DaclWords) → Cuts (dacl_behind known found)
-unfolding dacl_behind
-cuts_dacl_behind known found = cuts_if found.no_access_control _ _ (cuts_value _) (cuts_then _ _ (cuts_entries known) (λ list. cuts_value _))
-
-cuts_words : Cuts words
-unfolding words
-cuts_words = cuts_run dacl_words with_word no_words
-
 cuts_dacl_section : (known : Aliases) → Cuts (dacl_section known)
-unfolding dacl_section
-cuts_dacl_section known = cuts_headed_word (codes "D:") _ _ (λ u. cuts_then words (dacl_behind known) cuts_words (cuts_dacl_behind known)) (cuts_value _)
+unfolding dacl_section dacl_behind words entries
+cuts_dacl_section known =
+    cuts_headed_word (codes "D:") _ _ (λ u. cuts_then words (dacl_behind known) (cuts_run dacl_words with_word no_words) (λ found.
+    cuts_if found.no_access_control _ _ (cuts_value _) (cuts_then _ _
+    (cuts_many opening (λ before u. entry known (acl_size_of before)) (λ before u. cuts_entry known (acl_size_of before))) (λ list. cuts_value _))))
+    (cuts_value _)
 
 cuts_parts : (known : Aliases) → Cuts (parts known)
 unfolding parts

@@ -4,7 +4,7 @@ use Rattle.std.specs.Char.{eq_ignore_ascii_case}
 use Rattle.std.proofs.lemmas.Bool.{and_parts}
 use Rattle.std.proofs.lemmas.List.{append-nil, append_cancel_right, length-append, length-drop, take-append-drop}
 use Rattle.sd_text.specs.Grammar.{Grammar, Name, value, refused, choose, and_then, word, number, through, one_of, many, run, begins, begins_digit, named, Items, spells}
-use Rattle.sd_text.proofs.Parts.{went, chosen, found_name, name_is, begins_takes}
+use Rattle.sd_text.proofs.Parts.{went, chosen, found_name, name_is, begins_fits}
 
 -- ---- what follows a part is a suffix of the text
 
@@ -75,7 +75,7 @@ begins_less (c ∷ text) tail (l ∷ m ∷ letters) e =
     ]
 
 pub begins_kept : (text tail letters : List ℕ) → begins (text ++ tail) letters ≡ true → length letters ≤ length text → begins text letters ≡ true
-begins_kept [] tail [] e le = absurd (let some = begins_takes tail [] e in omega arith)
+begins_kept [] tail [] e le = absurd (let fits = begins_fits tail [] e in omega arith)
 begins_kept [] tail (l ∷ letters) e le = absurd (omega arith)
 begins_kept (c ∷ text) tail [] e le = absurd cc
 begins_kept (c ∷ text) tail (l ∷ []) e le = e
@@ -83,14 +83,18 @@ begins_kept (c ∷ text) tail (l ∷ m ∷ letters) e le =
     let both = and_parts (eq_ignore_ascii_case c l) (begins (text ++ tail) (m ∷ letters)) e in
     rw both.0 (begins_kept text tail (m ∷ letters) both.1 (omega arith))
 
+drop_cut : (head : ℕ) (text tail xs : List ℕ) → drop head (text ++ tail) ≡ xs ++ tail → drop head text ≡ xs
+drop_cut zero text tail xs e = append_cancel_right text xs tail e
+drop_cut (suc head) (t ∷ text) tail xs e = drop_cut head text tail xs e
+drop_cut (suc head) [] [] xs e = e ∙ append-nil xs
+drop_cut (suc head) [] (c ∷ tail) xs e = absurd (let lengths = ap length e in omega (arith, length-drop head tail, length-append xs (c ∷ tail)))
+
 word_cut : (letters text tail behind : List ℕ) → begins (text ++ tail) letters ≡ true → behind ++ tail ≡ drop (length letters) (text ++ tail) → (begins text letters ≡ true) × (behind ≡ drop (length letters) text)
-word_cut letters [] tail behind e is = absurd (let takes = begins_takes tail letters e in let lengths = ap length is in omega (arith, length-append behind tail))
-word_cut [] (c ∷ text) tail behind e is = absurd cc
-word_cut (l ∷ []) (c ∷ text) tail behind e is = (e, append_cancel_right behind text tail is)
-word_cut (l ∷ m ∷ letters) (c ∷ text) tail behind e is =
-    let both = and_parts (eq_ignore_ascii_case c l) (begins (text ++ tail) (m ∷ letters)) e in
-    let rest = word_cut (m ∷ letters) text tail behind both.1 is in
-    (rw (both.0, rest.0) refl, rest.1)
+word_cut letters text tail behind e is =
+    let fits = begins_fits (text ++ tail) letters e in
+    let lengths = ap length is in
+    let left : length letters ≤ length text = omega (arith, length-append behind tail, length-append text tail, length-drop (length letters) (text ++ tail)) in
+    (begins_kept text tail letters e left, sym (drop_cut (length letters) text tail behind (sym is)))
 
 named_less : {A : Type 0} (names : List (Name A)) (text tail : List ℕ) → named names (text ++ tail) ≡ None → named names text ≡ None
 named_less [] text tail e = refl
@@ -118,12 +122,6 @@ digit_less radix (c ∷ text) tail e = e
 pub digit_kept : (radix : ℕ) (text tail : List ℕ) → begins_digit radix (text ++ tail) ≡ true → 0 < length text → begins_digit radix text ≡ true
 digit_kept radix [] tail e some = absurd (omega arith)
 digit_kept radix (c ∷ text) tail e some = e
-
-drop_cut : (head : ℕ) (text tail xs : List ℕ) → drop head (text ++ tail) ≡ xs ++ tail → drop head text ≡ xs
-drop_cut zero text tail xs e = append_cancel_right text xs tail e
-drop_cut (suc head) (t ∷ text) tail xs e = drop_cut head text tail xs e
-drop_cut (suc head) [] [] xs e = e ∙ append-nil xs
-drop_cut (suc head) [] (c ∷ tail) xs e = absurd (let lengths = ap length e in omega (arith, length-drop head tail, length-append xs (c ∷ tail)))
 
 -- ---- each grammar
 
@@ -211,14 +209,8 @@ cuts_headed letters p q takes one other =
     cuts_choose (λ text. begins text letters) p q one other (λ text tail e. begins_less text tail letters e)
     (λ text tail a behind e s. begins_kept text tail letters e (let le = takes.takes (text ++ tail) a (behind ++ tail) s in omega (arith, length-append text tail, length-append behind tail)))
 
-begins_within : (text letters : List ℕ) → begins text letters ≡ true → length (drop (length letters) text) + length letters ≤ length text
-begins_within [] letters e = absurd cc
-begins_within (c ∷ text) [] e = absurd cc
-begins_within (c ∷ text) (l ∷ []) e = omega arith
-begins_within (c ∷ text) (l ∷ m ∷ letters) e = let rest = begins_within text (m ∷ letters) ((and_parts (eq_ignore_ascii_case c l) (begins text (m ∷ letters)) e).1) in omega (arith, rest)
-
 pub takes_word : (letters : List ℕ) → Takes (length letters) (word letters)
-takes_word letters = record { takes = λ text u behind s. rw s.1 (let le = begins_within text letters s.0 in omega arith) }
+takes_word letters = record { takes = λ text u behind s. rw s.1 (let fits = begins_fits text letters s.0 in omega (arith, length-drop (length letters) text)) }
 
 pub takes_then : {A B : Type 0} (n : ℕ) (p : Grammar A) (next : A → Grammar B) → Takes n p → Takes n (and_then p next)
 takes_then n p next one = record {
@@ -235,6 +227,9 @@ takes_number head radix limit = record {
       let some = s.1.numeral.0 in
       omega (arith, length-drop head text, length-append s.0 behind);
 }
+
+pub takes_choose : {A : Type 0} (n : ℕ) (test : List ℕ → Bool) (p q : Grammar A) → Takes n p → Takes n q → Takes n (choose test p q)
+takes_choose n test p q one other = record { takes = λ text a behind s. elim s [ inl h ↦ one.takes text a behind h.1 | inr h ↦ other.takes text a behind h.1 ] }
 
 -- at least fewer
 pub takes_less : {A : Type 0} (m n : ℕ) (g : Grammar A) → m ≤ n → Takes n g → Takes m g

@@ -1,34 +1,18 @@
 -- Reading the entries of a list.
-use Rattle.std.proofs.Common.{◌≡◌, ℕ, ◌+◌, ◌<◌, true, false, List, [], ◌∷◌, ◌++◌, length, drop, Ok, Err, Result, refl, arith, ap, sym, ◌∙◌, ◌≤◌}
+use Rattle.std.proofs.Common.{◌≡◌, ℕ, ◌+◌, true, false, List, [], ◌∷◌, ◌++◌, drop, Ok, Err, Result, refl, arith, ap, sym, ◌∙◌, ◌≤◌}
 use Rattle.std.specs.Prelude.{codes, Bool, IfOk}
 use Rattle.std.proofs.lemmas.List.Sums.{sum_by_push}
 use Rattle.sd_acl.specs.Ace.{ace_size, acl_size_of}
 use Rattle.sd_acl.specs.declared.ace.Ace.{Ace}
 use Rattle.sd_acl.specs.declared.list.AclTooLarge.{AclTooLarge}
-use Rattle.sd_text.specs.declared.fault.TextFault.{TextFault}
 use Rattle.sd_text.specs.Grammar.{Grammar, begins}
 use Rattle.sd_text.specs.Finding.{find}
-use Rattle.sd_text.specs.Entry.{opening, entries_of, has_one}
-use Rattle.sd_text.proofs.Parts.{begins_takes}
-use Rattle.sd_text.proofs.Engine.{shorter}
-use Rattle.sd_text.proofs.Loops.{Reaches, reaches_start, reaches_more, reaches_end, reaches_fault}
+use Rattle.sd_text.specs.Entry.{opening, has_one}
+use Rattle.sd_text.proofs.Loops.{Reaches, item_more}
 
 -- these entries have been read, and this is behind them
 abbrev pub EntriesReach : (ℕ → Grammar Ace) → List ℕ → List Ace → List ℕ → Type 0
 EntriesReach entry start es rest = Reaches opening (λ before u. entry (acl_size_of before)) start es rest
-
-module _ (entry : ℕ → Grammar Ace) (start : List ℕ) where
-  pub entries_start : EntriesReach entry start [] start
-  entries_start = reaches_start opening (λ before u. entry (acl_size_of before)) start
-
-  pub entries_more : (es : List Ace) (rest : List ℕ) (e : Ace) (after : List ℕ) → EntriesReach entry start es rest → begins rest (codes "(") ≡ true → find (entry (acl_size_of es)) (drop 1 rest) ≡ Ok (e, after) → EntriesReach entry start (es ++ e ∷ []) after
-  entries_more es rest e after reached stands one = reaches_more opening (λ before u. entry (acl_size_of before)) start es rest tt (drop 1 rest) e after reached (rw stands refl) one
-
-  pub entries_end : (es : List Ace) (rest : List ℕ) → EntriesReach entry start es rest → begins rest (codes "(") ≡ false → find (entries_of entry) start ≡ Ok (es, rest)
-  entries_end es rest reached ends = reaches_end opening (λ before u. entry (acl_size_of before)) start es rest reached (rw ends refl)
-
-  pub entries_fault : (es : List Ace) (rest : List ℕ) (d : TextFault × List ℕ) → EntriesReach entry start es rest → begins rest (codes "(") ≡ true → find (entry (acl_size_of es)) (drop 1 rest) ≡ Err d → find (entries_of entry) start ≡ Err d
-  entries_fault es rest d reached stands fails = reaches_fault opening (λ before u. entry (acl_size_of before)) start es rest tt (drop 1 rest) d reached (rw stands refl) fails
 
 -- an entry was parsed after these
 pub has_one-push : (es : List Ace) (e : Ace) → has_one (es ++ e ∷ []) ≡ true
@@ -44,13 +28,6 @@ pub record Parsed (entry : ℕ → Grammar Ace) (start : List ℕ) (items : List
   pub kept : stored ≡ true → items ≡ entries
   pub lost : stored ≡ false → has_one entries ≡ true
 
--- what an entry takes off the text
-pub entry_takes : (entry : ℕ → Grammar Ace) (size : ℕ) (rest : List ℕ) (e : Ace) (after : List ℕ) → begins rest (codes "(") ≡ true → find (entry size) (drop 1 rest) ≡ Ok (e, after) → length after < length rest
-entry_takes entry size rest e after stands one =
-    let opens = begins_takes rest (codes "(") stands in
-    let no_longer = shorter (entry size) (drop 1 rest) e after one in
-    omega arith
-
 -- what an entry adds to the list
 pub acl_size-push : (es : List Ace) (e : Ace) → acl_size_of (es ++ e ∷ []) ≡ acl_size_of es + ace_size e
 acl_size-push es e = omega (arith, sum_by_push ace_size es e)
@@ -64,12 +41,12 @@ list_made (Ok l) list entries h e = (let same : l ≡ list = ok_list l list e in
 list_made (Err x) list entries h e = absurd cc
 
 -- one more entry, which is stored unless this or an earlier allocation fails
-pub parsed_more : (entry : ℕ → Grammar Ace) (start : List ℕ) (items : List Ace) (stored : Bool) (size : ℕ) (rest : List ℕ) (e : Ace) (after : List ℕ) (more : List Ace) (still : Bool)
+pub parsed_more : {entry : ℕ → Grammar Ace} {start : List ℕ} {items more : List Ace} {stored still : Bool} {size : ℕ} {rest : List ℕ} {e : Ace} {after : List ℕ}
     → Parsed entry start items stored size rest → begins rest (codes "(") ≡ true → find (entry size) (drop 1 rest) ≡ Ok (e, after) → size + ace_size e ≤ 65535
     → (still ≡ true → (stored ≡ true) × (more ≡ items ++ e ∷ [])) → Parsed entry start more still (size + ace_size e) after
-parsed_more entry start items stored size rest e after more still so_far opens one fits kept = record {
+parsed_more {e = e} so_far opens one fits kept = record {
   entries = so_far.entries ++ e ∷ [];
-  reached = entries_more entry start so_far.entries rest e after so_far.reached opens (rw (sym so_far.sized) one);
+  reached = item_more so_far.reached opens (rw (sym so_far.sized) one);
   sized = let grown = acl_size-push so_far.entries e in let sized = so_far.sized in omega arith;
   fits = fits;
   kept = λ is. let k = kept is in k.1 ∙ ap (λ es. es ++ e ∷ []) (so_far.kept k.0);

@@ -1,46 +1,38 @@
 -- Letters that a text begins with.
-use Rattle.std.proofs.Common.{◌≡◌, ℕ, zero, suc, ◌+◌, ◌<◌, ◌≤◌, Bool, true, false, List, [], ◌∷◌, length, refl, arith, ap, sym, add-one, get_or, drop}
+use Rattle.std.proofs.Common.{inl, inr, ◌≡◌, ℕ, suc, ◌+◌, ◌<◌, ◌≤◌, Bool, true, false, List, [], ◌∷◌, length, refl, arith, ap, sym, add-one, get_or, drop}
+use Rattle.std.proofs.Math.Seq.{drop-cons}
 use Rattle.std.specs.Prelude.{◌&&◌, ◌==◌}
 use Rattle.std.proofs.lemmas.Bool.{ne_eqb}
-use Rattle.std.proofs.Math.Bool.{and-false, and-true}
+use Rattle.std.proofs.Math.Bool.{and-true}
 use Rattle.std.proofs.lemmas.List.{drop_all}
 use Rattle.std.specs.Char.{eq_ignore_ascii_case}
 use Rattle.sd_text.specs.Grammar.{begins}
+use Rattle.sd_text.proofs.Parts.{went, begins_fits}
 
 pub begins_nothing : (text letters : List ℕ) → length letters ≡ 0 → begins text letters ≡ false
-begins_nothing [] letters e = refl
-begins_nothing (c ∷ text) [] e = refl
-begins_nothing (c ∷ text) (l ∷ letters) e = absurd (omega arith)
+begins_nothing text letters none =
+    elim (went (begins text letters)) [ inl h ↦ absurd (let fits = begins_fits text letters h in omega arith) | inr h ↦ h ]
 
 pub begins_short : (text letters : List ℕ) → length text < length letters → begins text letters ≡ false
-begins_short [] letters lt = refl
-begins_short (c ∷ text) [] lt = refl
-begins_short (c ∷ text) (l ∷ []) lt = absurd (omega arith)
-begins_short (c ∷ text) (l ∷ m ∷ letters) lt = rw (begins_short text (m ∷ letters) (omega arith)) (and-false (eq_ignore_ascii_case c l))
+begins_short text letters short =
+    elim (went (begins text letters)) [ inl h ↦ absurd (let fits = begins_fits text letters h in omega arith) | inr h ↦ h ]
 
 -- the text begins with these letters, or there are none
 abbrev pub matches : List ℕ → List ℕ → Bool
-matches text [] = true
-matches [] (l ∷ letters) = false
-matches (c ∷ text) (l ∷ letters) = eq_ignore_ascii_case c l && matches text letters
+matches [] text = true
+matches (l ∷ letters) [] = false
+matches (l ∷ letters) (c ∷ text) = eq_ignore_ascii_case c l && matches letters text
 
-pub begins_matches : (text letters : List ℕ) → (length letters == 0) ≡ false → begins text letters ≡ matches text letters
+pub begins_matches : (text letters : List ℕ) → (length letters == 0) ≡ false → begins text letters ≡ matches letters text
 begins_matches text [] some = absurd cc
 begins_matches [] (l ∷ letters) some = refl
 begins_matches (c ∷ text) (l ∷ []) some = sym (and-true (eq_ignore_ascii_case c l))
 begins_matches (c ∷ text) (l ∷ m ∷ letters) some = ap (λ b. eq_ignore_ascii_case c l && b) (begins_matches text (m ∷ letters) (ne_eqb (suc (length letters)) 0 (omega arith)))
 
 -- one letter, and those behind it
-pub matches_at : (text letters : List ℕ) (i : ℕ) → i < length letters → length letters ≤ length text → matches (drop i text) (drop i letters) ≡ (eq_ignore_ascii_case (get_or text i 0) (get_or letters i 0) && matches (drop (i + 1) text) (drop (i + 1) letters))
-matches_at text [] i lt le = absurd (omega arith)
-matches_at [] (l ∷ letters) i lt le = absurd (omega arith)
-matches_at (c ∷ text) (l ∷ letters) zero lt le = refl
-matches_at (c ∷ text) (l ∷ letters) (suc i) lt le = rw (add-one) (let h = matches_at text letters i (omega arith) (omega arith) in rw add-one at h)
-
-matches_none : (text : List ℕ) → matches text [] ≡ true
-matches_none [] = refl
-matches_none (c ∷ text) = refl
+pub matches_at : (text letters : List ℕ) (i : ℕ) → i < length letters → length letters ≤ length text → matches (drop i letters) (drop i text) ≡ (eq_ignore_ascii_case (get_or text i 0) (get_or letters i 0) && matches (drop (i + 1) letters) (drop (i + 1) text))
+matches_at text letters i lt le = rw (drop-cons text i 0 (omega arith), drop-cons letters i 0 lt, add-one) refl
 
 -- no letter is left
-pub matches_end : (text letters : List ℕ) (i : ℕ) → length letters ≤ i → matches (drop i text) (drop i letters) ≡ true
-matches_end text letters i le = rw (drop_all i letters le) (matches_none (drop i text))
+pub matches_end : (text letters : List ℕ) (i : ℕ) → length letters ≤ i → matches (drop i letters) (drop i text) ≡ true
+matches_end text letters i le = rw (drop_all i letters le) refl

@@ -11,11 +11,7 @@ pub mod Cuts
 pub mod CutSddl
 pub mod Placed
 pub mod Tables
-pub mod MaskNames
 pub mod AliasTables
-pub mod Rooms
-pub mod Printing
-pub mod Lengths
 pub mod CanonSids
 pub mod CanonRights
 pub mod CanonEntries

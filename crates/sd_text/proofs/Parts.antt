@@ -1,7 +1,8 @@
 -- What is found behind a part, behind a name, and how far the text has come.
-use Rattle.std.proofs.Common.{◌≡◌, ℕ, ◌<◌, ◌⊎◌, inl, inr, Bool, true, false, cond, List, [], ◌∷◌, length, drop, Option, Some, None, Ok, Err, refl, arith, ap, sym}
+use Rattle.std.proofs.Common.{◌≡◌, ℕ, ◌<◌, ◌≤◌, ◌⊎◌, inl, inr, Bool, true, false, cond, List, [], ◌∷◌, length, drop, Option, Some, None, Ok, Err, refl, arith, ap, sym}
 use Rattle.std.specs.Char.{eq_ignore_ascii_case}
 use Rattle.std.proofs.lemmas.Bool.{and_parts}
+use Rattle.std.proofs.lemmas.List.{length-drop}
 use Rattle.sd_text.specs.declared.fault.TextFault.{TextFault}
 use Rattle.sd_text.specs.Grammar.{Name, begins, named}
 use Rattle.sd_text.specs.Finding.{Found, behind_part, name_or}
@@ -46,12 +47,17 @@ stopped f there = Err (f, there)
 pub stopped_is : {A : Type 0} (f g : TextFault) (x y : List ℕ) → stopped {A = A} f x ≡ stopped g y → (f ≡ g) × (x ≡ y)
 stopped_is f g x y e = let pair : ◌≡◌ {A = TextFault × List ℕ} (f, x) (g, y) = cc in (ap (λ (p : TextFault × List ℕ). p.0) pair, ap (λ (p : TextFault × List ℕ). p.1) pair)
 
--- letters that stand there take one byte at least
+-- letters that stand there are one at least, and the text has them all
+pub begins_fits : (text letters : List ℕ) → begins text letters ≡ true → (0 < length letters) × (length letters ≤ length text)
+begins_fits [] letters e = absurd cc
+begins_fits (c ∷ text) [] e = absurd cc
+begins_fits (c ∷ text) (l ∷ []) e = (omega arith, omega arith)
+begins_fits (c ∷ text) (l ∷ m ∷ letters) e =
+    let rest = begins_fits text (m ∷ letters) ((and_parts (eq_ignore_ascii_case c l) (begins text (m ∷ letters)) e).1) in (omega arith, omega arith)
+
+-- so they take one byte at least
 pub begins_takes : (text letters : List ℕ) → begins text letters ≡ true → length (drop (length letters) text) < length text
-begins_takes [] letters e = absurd cc
-begins_takes (c ∷ text) [] e = absurd cc
-begins_takes (c ∷ text) (l ∷ []) e = omega arith
-begins_takes (c ∷ text) (l ∷ m ∷ letters) e = let rest = begins_takes text (m ∷ letters) ((and_parts (eq_ignore_ascii_case c l) (begins text (m ∷ letters)) e).1) in omega (arith, rest)
+begins_takes text letters e = let fits = begins_fits text letters e in omega (arith, length-drop (length letters) text)
 
 -- so does a name
 pub named_takes : {A : Type 0} (names : List (Name A)) (text : List ℕ) (b : A) (mid : List ℕ) → named names text ≡ Some (b, mid) → length mid < length text

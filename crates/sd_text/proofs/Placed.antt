@@ -4,6 +4,7 @@ use Rattle.std.specs.Prelude.{◌&&◌, ◌==◌, slice_index}
 use Rattle.std.proofs.lemmas.List.{get_or_default}
 use Rattle.std.specs.Char.{to_ascii_lowercase, eq_ignore_ascii_case}
 use Rattle.std.proofs.lemmas.Bool.{eqb-true, and_parts}
+use Rattle.std.proofs.Math.Bool.{and-false}
 use Rattle.sd_sid.specs.Sid.{SidValue, same_sid}
 use Rattle.sd_sid.proofs.Compared.{same_sid-true}
 use Rattle.sd_text.specs.declared.alias.WellKnown.{WellKnown}
@@ -14,12 +15,18 @@ use Rattle.sd_text.specs.Places.{slot, is_placed, are_placed, sid_slot, sids_are
 use Rattle.sd_text.proofs.Letters.{begins_short}
 use Rattle.sd_text.proofs.Parts.{went}
 
+-- the row of the number of the text's first two letters
+abbrev place_of : List ℕ → List ℕ → ℕ
+place_of places text = slice_index places (slot (slice_index text 0) (slice_index text 1))
+
 -- letters that stand in the text have its letters' number
-not_here : (places : List ℕ) (k : ℕ) (letters : List ℕ) (c d : ℕ) (text : List ℕ) → is_placed places k letters ≡ true → (slice_index places (slot c d) ≡ k → ⊥) → begins (c ∷ d ∷ text) letters ≡ false
-not_here places k [] c d text placed other = absurd cc
-not_here places k (l ∷ []) c d text placed other = absurd cc
-not_here places k (l ∷ m ∷ n ∷ letters) c d text placed other = absurd cc
-not_here places k (l ∷ m ∷ []) c d text placed other =
+not_here : (places : List ℕ) (k : ℕ) (letters text : List ℕ) → is_placed places k letters ≡ true → (place_of places text ≡ k → ⊥) → begins text letters ≡ false
+not_here places k [] text placed other = absurd cc
+not_here places k (l ∷ []) text placed other = absurd cc
+not_here places k (l ∷ m ∷ n ∷ letters) text placed other = absurd cc
+not_here places k (l ∷ m ∷ []) [] placed other = refl
+not_here places k (l ∷ m ∷ []) (c ∷ []) placed other = and-false (eq_ignore_ascii_case c l)
+not_here places k (l ∷ m ∷ []) (c ∷ d ∷ text) placed other =
     elim (went (eq_ignore_ascii_case c l)) [
       | inr h ↦ rw h refl
       | inl h ↦
@@ -34,42 +41,32 @@ not_here places k (l ∷ m ∷ []) c d text placed other =
     ]
 
 -- none of these rows stands there, where the place is none of theirs
-none_of_them : {T : Type 0} (places : List ℕ) (k : ℕ) (rs : List (Row T)) (c d : ℕ) (text : List ℕ) → are_placed places k (rows rs) ≡ true → (slice_index places (slot c d) < k) ⊎ (k + length rs ≤ slice_index places (slot c d)) → named (rows rs) (c ∷ d ∷ text) ≡ None
-none_of_them places k [] c d text placed out = refl
-none_of_them places k (r ∷ rs) c d text placed out =
+none_of_them : {T : Type 0} (places : List ℕ) (k : ℕ) (rs : List (Row T)) (text : List ℕ) → are_placed places k (rows rs) ≡ true → (place_of places text < k) ⊎ (k + length rs ≤ place_of places text) → named (rows rs) text ≡ None
+none_of_them places k [] text placed out = refl
+none_of_them places k (r ∷ rs) text placed out =
     let both = and_parts (is_placed places k r.0.now) (are_placed places (suc k) (rows rs)) placed in
-    rw (not_here places k r.0.now c d text both.0 (λ same. elim out [ inl h ↦ omega arith | inr h ↦ omega arith ]))
-    (none_of_them places (suc k) rs c d text both.1 (elim out [ inl h ↦ inl (omega arith) | inr h ↦ inr (omega arith) ]))
+    rw (not_here places k r.0.now text both.0 (λ same. elim out [ inl h ↦ omega arith | inr h ↦ omega arith ]))
+    (none_of_them places (suc k) rs text both.1 (elim out [ inl h ↦ inl (omega arith) | inr h ↦ inr (omega arith) ]))
 
 -- of these rows the one at the place stands there, or none
-one_of_them : {T : Type 0} (places : List ℕ) (k : ℕ) (rs : List (Row T)) (c d : ℕ) (text : List ℕ) (i : ℕ) (r : Row T) → are_placed places k (rows rs) ≡ true → slice_index places (slot c d) ≡ k + i → i < length rs → r ≡ get_or rs i r → named (rows rs) (c ∷ d ∷ text) ≡ cond (begins (c ∷ d ∷ text) r.0.now) (Some (r.1, drop (length r.0.now) (c ∷ d ∷ text))) None
-one_of_them places k [] c d text i r placed at lt is = absurd (omega arith)
-one_of_them places k (q ∷ rs) c d text zero r placed at lt is =
+one_of_them : {T : Type 0} (places : List ℕ) (k : ℕ) (rs : List (Row T)) (text : List ℕ) (i : ℕ) (r : Row T) → are_placed places k (rows rs) ≡ true → place_of places text ≡ k + i → i < length rs → r ≡ get_or rs i r → named (rows rs) text ≡ cond (begins text r.0.now) (Some (r.1, drop (length r.0.now) text)) None
+one_of_them places k [] text i r placed at lt is = absurd (omega arith)
+one_of_them places k (q ∷ rs) text zero r placed at lt is =
     let both = and_parts (is_placed places k q.0.now) (are_placed places (suc k) (rows rs)) placed in
-    let before : slice_index places (slot c d) < suc k = omega arith in
-    rw (is, none_of_them places (suc k) rs c d text both.1 (inl before)) refl
-one_of_them places k (q ∷ rs) c d text (suc i) r placed at lt is =
+    let before : place_of places text < suc k = omega arith in
+    rw (is, none_of_them places (suc k) rs text both.1 (inl before)) refl
+one_of_them places k (q ∷ rs) text (suc i) r placed at lt is =
     let both = and_parts (is_placed places k q.0.now) (are_placed places (suc k) (rows rs)) placed in
-    rw (not_here places k q.0.now c d text both.0 (λ same. omega arith)) (one_of_them places (suc k) rs c d text i r both.1 (omega arith) (omega arith) is)
+    rw (not_here places k q.0.now text both.0 (λ same. omega arith)) (one_of_them places (suc k) rs text i r both.1 (omega arith) (omega arith) is)
 
 module _ {T : Type 0} (places : List ℕ) (rs : List (Row T)) (text : List ℕ) (placed : are_placed places 0 (rows rs) ≡ true) where
   -- the row that can stand there
-  pub at_its_place : (place : ℕ) (r : Row T) → 2 ≤ length text → place ≡ slice_index places (slot (slice_index text 0) (slice_index text 1)) → place < length rs → r ≡ get_or rs place r → named (rows rs) text ≡ cond (begins text r.0.now) (Some (r.1, drop (length r.0.now) text)) None
-  at_its_place place r long is lt there = by text long is
-    where
-      by : (t : List ℕ) → 2 ≤ length t → place ≡ slice_index places (slot (slice_index t 0) (slice_index t 1)) → named (rows rs) t ≡ cond (begins t r.0.now) (Some (r.1, drop (length r.0.now) t)) None
-      by [] le e = absurd (omega arith)
-      by (c ∷ []) le e = absurd (omega arith)
-      by (c ∷ d ∷ t) le e = one_of_them places 0 rs c d t place r placed (omega arith) lt there
+  pub at_its_place : (place : ℕ) (r : Row T) → place ≡ place_of places text → place < length rs → r ≡ get_or rs place r → named (rows rs) text ≡ cond (begins text r.0.now) (Some (r.1, drop (length r.0.now) text)) None
+  at_its_place place r is lt there = one_of_them places 0 rs text place r placed (omega arith) lt there
 
   -- no row can
-  pub no_place : (place : ℕ) → 2 ≤ length text → place ≡ slice_index places (slot (slice_index text 0) (slice_index text 1)) → length rs ≤ place → named (rows rs) text ≡ None
-  no_place place long is past = by text long is
-    where
-      by : (t : List ℕ) → 2 ≤ length t → place ≡ slice_index places (slot (slice_index t 0) (slice_index t 1)) → named (rows rs) t ≡ None
-      by [] le e = absurd (omega arith)
-      by (c ∷ []) le e = absurd (omega arith)
-      by (c ∷ d ∷ t) le e = none_of_them places 0 rs c d t placed (inr (omega arith))
+  pub no_place : (place : ℕ) → place ≡ place_of places text → length rs ≤ place → named (rows rs) text ≡ None
+  no_place place is past = none_of_them places 0 rs text placed (inr (omega arith))
 
 -- a text of one letter begins with no two
 pub too_short : {A : Type 0} (places : List ℕ) (k : ℕ) (names : List (Name A)) (text : List ℕ) → are_placed places k names ≡ true → length text < 2 → named names text ≡ None

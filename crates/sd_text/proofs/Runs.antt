@@ -5,7 +5,7 @@ use Rattle.std.specs.Char.{digit_value}
 use Rattle.std.specs.Str.Parse.{AllDigits, IsNumeral, digits_value}
 use Rattle.std.proofs.lemmas.Int.Digits.{digits_value-lt}
 use Rattle.std.proofs.lemmas.Bool.{ltb-false, lt-ltb, le-ltb}
-use Rattle.std.proofs.lemmas.List.{take-append-drop, take_all, length-take-le}
+use Rattle.std.proofs.lemmas.List.{take-append-drop, length-take-le}
 use Rattle.std.proofs.Math.Nat.{mul-le-mul_left, pow-le-pow_left, pow-le-pow_right}
 use Rattle.std.proofs.Math.Seq.{take-append_seam, drop-append_seam}
 use borrow.Author.Tests.{ltb-true}
@@ -13,20 +13,12 @@ use Rattle.sd_text.specs.Grammar.{begins_digit, Run}
 use Rattle.sd_text.specs.Finding.{digits_len, IsCapped}
 use Rattle.sd_text.proofs.Parts.{went}
 
-all_digits : (radix : ℕ) (text : List ℕ) → AllDigits radix (take (digits_len radix text) text)
-all_digits radix [] = tt
+all_digits : (radix : ℕ) (text : List ℕ) → AllDigits radix (take (digits_len radix text) text) × (begins_digit radix (drop (digits_len radix text) text) ≡ false)
+all_digits radix [] = (tt, refl)
 all_digits radix (c ∷ text) =
     elim (went (nat_lt (digit_value c) radix)) [
-      | inl h ↦ rw h (ltb-true (digit_value c) radix h, all_digits radix text)
-      | inr h ↦ rw h tt
-    ]
-
-ends : (radix : ℕ) (text : List ℕ) → begins_digit radix (drop (digits_len radix text) text) ≡ false
-ends radix [] = refl
-ends radix (c ∷ text) =
-    elim (went (nat_lt (digit_value c) radix)) [
-      | inl h ↦ rw h (ends radix text)
-      | inr h ↦ rw h h
+      | inl h ↦ let rest = all_digits radix text in rw h ((ltb-true (digit_value c) radix h, rest.0), rest.1)
+      | inr h ↦ rw h (tt, h)
     ]
 
 starts : (radix : ℕ) (text : List ℕ) → begins_digit radix text ≡ true → 0 < length (take (digits_len radix text) text)
@@ -35,7 +27,8 @@ starts radix (c ∷ text) e = rw e (omega arith)
 
 -- the digits that a text begins with are a run
 pub run_of : (radix : ℕ) (text : List ℕ) → begins_digit radix text ≡ true → Run radix text (take (digits_len radix text) text) (drop (digits_len radix text) text)
-run_of radix text e = record { parts = sym (take-append-drop (digits_len radix text) text); numeral = (starts radix text e, all_digits radix text); whole = ends radix text }
+run_of radix text e =
+    let all = all_digits radix text in record { parts = sym (take-append-drop (digits_len radix text) text); numeral = (starts radix text e, all.0); whole = all.1 }
 
 len_of : (radix : ℕ) (ds behind : List ℕ) → AllDigits radix ds → begins_digit radix behind ≡ false → digits_len radix (ds ++ behind) ≡ length ds
 len_of radix [] [] all e = refl
@@ -104,6 +97,3 @@ front_run radix (suc k) (c ∷ text) lt =
       | inl h ↦ rw h (ap suc (front_run radix k text (let more = rw h at lt in omega arith)))
       | inr h ↦ rw h refl
     ]
-
-pub front_whole : (radix k : ℕ) (text : List ℕ) → length text ≤ k → digits_len radix (take k text) ≡ digits_len radix text
-front_whole radix k text le = rw (take_all k text le) refl

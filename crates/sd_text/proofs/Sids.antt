@@ -1,51 +1,29 @@
 -- Reading the sub-authorities of a SID.
-use Rattle.std.proofs.Common.{◌≡◌, ℕ, true, false, List, [], ◌∷◌, ◌++◌, length, drop, Ok, Err, Result, zero, suc, refl, arith, ◌<◌, ◌≤◌, ◌^◌, take, get_or}
+use Rattle.std.proofs.Common.{◌≡◌, ℕ, true, false, List, [], ◌∷◌, length, drop, Ok, Err, zero, suc, refl, arith, ◌<◌, ◌≤◌, ◌^◌, take, get_or}
 use Rattle.std.specs.Prelude.{codes}
 use Rattle.std.proofs.lemmas.Bool.{lt-ltb, le-ltb, ne_eqb}
-use Rattle.sd_sid.specs.Sid.{SidValue, sid_of}
-use Rattle.sd_sid.specs.declared.sid.SidError.{SidError}
+use Rattle.sd_sid.specs.Sid.{sid_of}
 use Rattle.sd_text.specs.declared.fault.TextFault.{TextFault}
 use Rattle.sd_text.specs.Grammar.{begins}
 use Rattle.sd_text.specs.Finding.{find}
 use Rattle.sd_text.specs.Sid.{dash, sub, subs_of}
-use Rattle.sd_text.proofs.Parts.{begins_takes}
-use Rattle.sd_text.proofs.Engine.{shorter}
-use Rattle.sd_text.proofs.Loops.{Reaches, reaches_start, reaches_more, reaches_end, reaches_fault}
+use Rattle.sd_text.proofs.Loops.{Reaches, item_last, item_fault}
 
 -- these sub-authorities have been read, and this is behind them
 abbrev pub SubsReach : List ℕ → List ℕ → List ℕ → Type 0
 SubsReach start subs rest = Reaches dash (λ before u. sub (length before)) start subs rest
 
-pub subs_start : (start : List ℕ) → SubsReach start [] start
-subs_start start = reaches_start dash (λ before u. sub (length before)) start
-
-pub subs_more : (start subs rest : List ℕ) (n : ℕ) (after : List ℕ) → SubsReach start subs rest → begins rest (codes "-") ≡ true → find (sub (length subs)) (drop 1 rest) ≡ Ok (n, after) → SubsReach start (subs ++ n ∷ []) after
-subs_more start subs rest n after reached stands one = reaches_more dash (λ before u. sub (length before)) start subs rest tt (drop 1 rest) n after reached (rw stands refl) one
-
-pub subs_end : (authority : ℕ) (start subs rest : List ℕ) → begins start (codes "-") ≡ true → SubsReach start subs rest → begins rest (codes "-") ≡ false → find (subs_of authority) start ≡ Ok (record { authority = authority; subs = subs }, rest)
+pub subs_end : (authority : ℕ) {start subs rest : List ℕ} → begins start (codes "-") ≡ true → SubsReach start subs rest → begins rest (codes "-") ≡ false → find (subs_of authority) start ≡ Ok (record { authority = authority; subs = subs }, rest)
 unfolding subs_of
-subs_end authority start subs rest first reached ends = rw (first, reaches_end dash (λ before u. sub (length before)) start subs rest reached (rw ends refl)) refl
+subs_end authority first reached ends = rw (first, item_last reached ends) refl
 
-pub subs_fault : (authority : ℕ) (start subs rest : List ℕ) (d : TextFault × List ℕ) → begins start (codes "-") ≡ true → SubsReach start subs rest → begins rest (codes "-") ≡ true → find (sub (length subs)) (drop 1 rest) ≡ Err d → find (subs_of authority) start ≡ Err d
+pub subs_fault : (authority : ℕ) {start subs rest : List ℕ} {d : TextFault × List ℕ} → begins start (codes "-") ≡ true → SubsReach start subs rest → begins rest (codes "-") ≡ true → find (sub (length subs)) (drop 1 rest) ≡ Err d → find (subs_of authority) start ≡ Err d
 unfolding subs_of
-subs_fault authority start subs rest d first reached stands fails = rw (first, reaches_fault dash (λ before u. sub (length before)) start subs rest tt (drop 1 rest) d reached (rw stands refl) fails) refl
+subs_fault authority first reached stands fails = rw (first, item_fault reached stands fails) refl
 
 -- a SID is made of an authority and sub-authorities in their bounds
 pub sid_made : (authority : ℕ) (subs : List ℕ) → authority < 2 ^ 48 → 0 < length subs → length subs ≤ 15 → sid_of authority subs ≡ Ok (record { authority = authority; subs = subs })
 sid_made authority subs low some few = rw (ne_eqb (length subs) 0 (omega arith), le-ltb 15 (length subs) few, lt-ltb authority (2 ^ 48) low) refl
-
--- what a sub-authority takes off the text
-pub sub_takes : (before : ℕ) (rest : List ℕ) (n : ℕ) (after : List ℕ) → begins rest (codes "-") ≡ true → find (sub before) (drop 1 rest) ≡ Ok (n, after) → length after < length rest
-sub_takes before rest n after stands one =
-    let dash_takes = begins_takes rest (codes "-") stands in
-    let no_longer = shorter (sub before) (drop 1 rest) n after one in
-    omega arith
-
-abbrev ok_sid : SidValue → Result SidValue SidError
-ok_sid s = Ok s
-
-pub the_sid : (s : SidValue) (authority : ℕ) (subs : List ℕ) → ok_sid s ≡ Ok (record { authority = authority; subs = subs }) → s ≡ record { authority = authority; subs = subs }
-the_sid s authority subs e = cc
 
 -- a dash stood before the first sub-authority
 pub at_least_one : (count : ℕ) (rest : List ℕ) → (count ≡ 0 → begins rest (codes "-") ≡ true) → begins rest (codes "-") ≡ false → 0 < count

@@ -1,6 +1,7 @@
 -- Names of a table, one row after the other.
-use Rattle.std.proofs.Common.{◌≡◌, ℕ, zero, suc, ◌+◌, ◌<◌, ◌^◌, cond, List, [], ◌∷◌, ◌++◌, length, drop, get_or, Some, None, Ok, refl, arith, add-one, ap, sym, subst, ◌∙◌, inl, inr}
-use Rattle.std.specs.Prelude.{fold, bit_or, map, ◌==◌, ◌&&◌}
+use Rattle.std.proofs.Common.{◌≡◌, ℕ, ◌+◌, ◌<◌, ◌^◌, cond, List, [], ◌∷◌, ◌++◌, length, drop, get_or, Some, None, Ok, rules, refl, add-one, ap, sym, subst, ◌∙◌, inl, inr}
+use Rattle.std.proofs.Math.Seq.{drop-cons}
+use Rattle.std.specs.Prelude.{fold, bit_or, map, option_map, ◌==◌, ◌&&◌}
 use Rattle.std.specs.Borrow.{Bor}
 use Rattle.std.specs.List.{AllByRecursion}
 use Rattle.std.proofs.lemmas.Bool.{and_parts, eqb-true}
@@ -11,26 +12,31 @@ use Rattle.sd_text.specs.Finding.{find}
 use Rattle.sd_text.specs.Rights.{bits_of}
 use Rattle.sd_sid.specs.Sid.{SidValue, same_sid}
 use Rattle.sd_sid.proofs.Compared.{same_sid-true}
-use Rattle.sd_text.specs.Alias.{alias_in}
+use Rattle.sd_text.specs.Alias.{aliases, alias_in}
+use Rattle.sd_text.specs.MaskNames.{is_due, named_from, with_word}
 use Rattle.sd_text.specs.RightNames.{PrintedRight, has, name_in, printed_right}
 use Rattle.sd_text.specs.declared.right_names.RightNames.{RightNames}
 use Rattle.sd_text.specs.Names.{Row, rows, renamed}
-use Rattle.sd_text.proofs.Parts.{chosen, name_is, found_name, found_is, part_ok}
+use Rattle.sd_text.proofs.Parts.{went, chosen, name_is, found_is, part_ok}
 use Rattle.sd_text.proofs.Engine.{find_spells}
 use Rattle.sd_text.proofs.Loops.{Reaches, reaches_start, reaches_more, reaches_end}
 
 -- a row, and those behind it
 pub named_at : {T : Type 0} (rs : List (Row T)) (i : ℕ) (r : Row T) (text : List ℕ) → i < length rs → r ≡ get_or rs i r → named (rows (drop i rs)) text ≡ cond (begins text r.0.now) (Some (r.1, drop (length r.0.now) text)) (named (rows (drop (i + 1) rs)) text)
-named_at [] i r text lt is = absurd (omega arith)
-named_at (q ∷ rs) zero r text lt is = rw is refl
-named_at (q ∷ rs) (suc i) r text lt is = rw add-one (let h = named_at rs i r text (omega arith) is in rw add-one at h)
+named_at rs i r text lt is = rw (drop-cons rs i r lt, sym is, add-one) refl
 
 -- the same of the table of printed rights, looked up by the mask
 pub name_at : (names : RightNames) (rs : List (Bor (List ℕ) × ℕ × RightNames)) (i : ℕ) (r : Bor (List ℕ) × ℕ × RightNames) (mask : ℕ) → i < length rs → r ≡ get_or rs i r → name_in names (map printed_right (drop i rs)) mask ≡ cond (has names r.2 && r.1 == mask) (Some r.0.now) (name_in names (map printed_right (drop (i + 1) rs)) mask)
 unfolding name_in
-name_at names [] i r mask lt is = absurd (omega arith)
-name_at names (q ∷ rs) zero r mask lt is = rw is refl
-name_at names (q ∷ rs) (suc i) r mask lt is = rw add-one (let h = name_at names rs i r mask (omega arith) is in rw add-one at h)
+name_at names rs i r mask lt is = rw (drop-cons rs i r lt, sym is, add-one) refl
+
+-- of a table of masks, whose names are words of a text
+pub word_at : (rs : List (Row ℕ)) (i : ℕ) (r : Row ℕ) (mask named : ℕ) (text : List ℕ) → i < length rs → r ≡ get_or rs i r
+    → named_from (rows (drop i rs)) mask named text
+    ≡ cond (is_due mask named r.1) (named_from (rows (drop (i + 1) rs)) mask (bit_or named r.1) (with_word text r.0.now))
+    (named_from (rows (drop (i + 1) rs)) mask named text)
+unfolding named_from
+word_at rs i r mask named text lt is = rw (drop-cons rs i r lt, sym is, add-one) refl
 
 -- ---- a run of names, whose meanings are put together one by one
 
@@ -56,21 +62,10 @@ module _ {A B : Type 0} (names : List (Name A)) (add : B → A → B) (none : B)
 
 -- ---- tables whose names stand for something else
 
-pub named_some : {A B : Type 0} (f : A → B) (names : List (Name A)) (text : List ℕ) (a : A) (behind : List ℕ) → named names text ≡ Some (a, behind) → named (renamed f names) text ≡ Some (f a, behind)
-named_some f [] text a behind e = absurd cc
-named_some {A = A} f (name ∷ names) text a behind e =
-    elim (chosen (begins text name.letters) _ _ _ e) [
-      | inl h ↦ let same = name_is name.stands_for a (drop (length name.letters) text) behind h.1 in rw (h.0, same.0, same.1) refl
-      | inr h ↦ rw h.0 (named_some f names text a behind h.1)
-    ]
-
-pub named_no : {A B : Type 0} (f : A → B) (names : List (Name A)) (text : List ℕ) → named names text ≡ None → named (renamed f names) text ≡ None
-named_no f [] text e = refl
-named_no f (name ∷ names) text e =
-    elim (chosen (begins text name.letters) _ _ _ e) [
-      | inl h ↦ absurd (let no : found_name name.stands_for (drop (length name.letters) text) ≡ None = h.1 in cc)
-      | inr h ↦ rw h.0 (named_no f names text h.1)
-    ]
+pub named_renamed : {A B : Type 0} (f : A → B) (names : List (Name A)) (text : List ℕ) → named (renamed f names) text ≡ option_map (λ x. (f x.0, x.1)) (named names text)
+named_renamed f [] text = refl
+named_renamed f (name ∷ names) text =
+    elim (went (begins text name.letters)) [ inl h ↦ rw h refl | inr h ↦ rw h (named_renamed f names text) ]
 
 -- what all names of a table have, the one that stands there has
 pub named_all : {A : Type 0} (P : A → Type 0) (names : List (Name A)) (text : List ℕ) (a : A) (behind : List ℕ) → AllByRecursion (λ name. P name.stands_for) names → named names text ≡ Some (a, behind) → P a
@@ -90,6 +85,11 @@ alias_row P (name ∷ names) s letters all e =
       | inl h ↦ let same : name.letters ≡ letters = cc in (name, all.0, same, same_sid-true name.stands_for s h.0)
       | inr h ↦ alias_row P names s letters all.1 h.1
     ]
+
+-- an alias has two letters
+pub alias_is_pair : (sid : SidValue) (letters : List ℕ) → alias_in aliases sid ≡ Some letters → length letters ≡ 2
+unfolding aliases
+alias_is_pair sid letters e = let row = alias_row (λ name. length name.letters ≡ 2) aliases sid letters (search rules) e in rw (sym row.2) row.1
 
 -- and the row whose name is for just these bits
 pub right_row : (P : Name ℕ → Type 0) (names : RightNames) (rights : List PrintedRight) (mask : ℕ) (letters : List ℕ) → AllByRecursion (λ (right : PrintedRight). P right.0) rights → name_in names rights mask ≡ Some letters → (name : Name ℕ) × P name × (name.letters ≡ letters) × (name.stands_for ≡ mask)

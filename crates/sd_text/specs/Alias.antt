@@ -1,13 +1,13 @@
 -- The aliases of SIDs ([MS-DTYP] 2.5.1.1, sid-token).
 use Rattle.std.specs.Prelude.{ℕ, Bool, true, false, List, [], ◌∷◌, ◌++◌, Option, Some, None, codes, if◌then◌else◌}
 use Rattle.sd_sid.specs.Sid.{SidValue, same_sid}
-use Rattle.sd_text.specs.Grammar.{Name}
+use Rattle.sd_text.specs.Grammar.{Name, name_for}
 use Rattle.sd_text.specs.declared.alias.Aliases.{Aliases}
 use Rattle.sd_text.specs.declared.domain.Domain.{Domain}
 
 -- a name for the SID of this authority and these sub-authorities
 abbrev pub alias : List ℕ → ℕ → List ℕ → Name SidValue
-alias letters authority subs = record { letters = letters; stands_for = record { authority = authority; subs = subs } }
+alias letters authority subs = name_for letters (record { authority = authority; subs = subs })
 
 -- a name for a SID of the built-in domain
 abbrev pub builtin : List ℕ → ℕ → Name SidValue
@@ -37,25 +37,21 @@ later_aliases true =
     builtin (codes "RA") 575 ∷ builtin (codes "ES") 576 ∷ builtin (codes "MS") 577 ∷ builtin (codes "HA") 578
     ∷ builtin (codes "AA") 579 ∷ builtin (codes "RM") 580 ∷ alias (codes "UD") 5 (84 ∷ 0 ∷ 0 ∷ 0 ∷ 0 ∷ 0 ∷ []) ∷ []
 
--- a name for an account or a group of a domain, by its relative identifier
-abbrev pub of_a_domain : List ℕ → ℕ → Name ℕ
-of_a_domain letters relative = record { letters = letters; stands_for = relative }
-
--- the aliases that need a domain
+-- the aliases of accounts and groups of a domain, by their relative identifiers
 abbrev pub early_domain_aliases : List (Name ℕ)
 early_domain_aliases =
-    of_a_domain (codes "DA") 512 ∷ of_a_domain (codes "DU") 513 ∷ of_a_domain (codes "DG") 514
-    ∷ of_a_domain (codes "DC") 515
-    ∷ of_a_domain (codes "DD") 516 ∷ of_a_domain (codes "CA") 517 ∷ of_a_domain (codes "RS") 553
-    ∷ of_a_domain (codes "EA") 519
-    ∷ of_a_domain (codes "SA") 518 ∷ of_a_domain (codes "PA") 520 ∷ of_a_domain (codes "LA") 500
-    ∷ of_a_domain (codes "LG") 501 ∷ []
+    name_for (codes "DA") 512 ∷ name_for (codes "DU") 513 ∷ name_for (codes "DG") 514
+    ∷ name_for (codes "DC") 515
+    ∷ name_for (codes "DD") 516 ∷ name_for (codes "CA") 517 ∷ name_for (codes "RS") 553
+    ∷ name_for (codes "EA") 519
+    ∷ name_for (codes "SA") 518 ∷ name_for (codes "PA") 520 ∷ name_for (codes "LA") 500
+    ∷ name_for (codes "LG") 501 ∷ []
 
 -- those that a text may have, where it may have those of newer versions or not
 abbrev pub domain_aliases : Bool → List (Name ℕ)
 domain_aliases false = early_domain_aliases
-domain_aliases true = early_domain_aliases ++ of_a_domain (codes "RO") 498 ∷ of_a_domain (codes "CN") 522
-    ∷ of_a_domain (codes "AP") 525 ∷ of_a_domain (codes "KA") 526 ∷ []
+domain_aliases true = early_domain_aliases ++ name_for (codes "RO") 498 ∷ name_for (codes "CN") 522
+    ∷ name_for (codes "AP") 525 ∷ name_for (codes "KA") 526 ∷ []
 
 -- the aliases that a text may have where newer versions' aren't asked for
 abbrev pub in_domain : Option Domain → Aliases

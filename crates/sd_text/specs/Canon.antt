@@ -1,6 +1,6 @@
 -- The printed text of each value ([MS-DTYP] 2.5.1).
-use Rattle.std.specs.Prelude.{ℕ, ◌-◌, ◌^◌, Bool, false, ◌==◌, nat_lt, List, [], ◌++◌, length, replicate, bit_and}
-use Rattle.std.specs.Prelude.{Option, Some, None, unwrap_or, codes, if◌then◌else◌}
+use Rattle.std.specs.Prelude.{ℕ, ◌+◌, ◌-◌, ◌/◌, ◌%◌, ◌^◌, Bool, false, ◌==◌, nat_lt, List, [], ◌∷◌, ◌++◌}
+use Rattle.std.specs.Prelude.{length, replicate, bit_and, Option, Some, None, unwrap_or, codes, if◌then◌else◌}
 use Rattle.std.specs.List.{flat_map}
 use Rattle.std.specs.Fmt.{decimal, digits}
 use Rattle.sd_sid.specs.Sid.{SidValue}
@@ -20,6 +20,10 @@ use Rattle.sd_text.specs.Entry.{flag_names}
 -- a number in lower-case hexadecimal digits
 abbrev pub hex : ℕ → List ℕ
 hex n = digits 16 false n
+
+-- a number below 100 in two digits
+abbrev pub two_digits : ℕ → List ℕ
+two_digits n = (48 + n / 10) ∷ (48 + n % 10) ∷ []
 
 -- an authority in decimal if it has 32 bits, else in 12 hexadecimal digits
 unfoldable pub authority_canon : ℕ → List ℕ

@@ -23,6 +23,10 @@ pub record Name (A : Type 0) : Type 0 where
   pub letters : List ℕ
   pub stands_for : A
 
+-- a name for this
+abbrev pub name_for : {A : Type 0} → List ℕ → A → Name A
+name_for letters meaning = record { letters = letters; stands_for = meaning }
+
 -- the meaning of the first name that the text begins with, and the text after it
 abbrev pub named : {A : Type 0} → List (Name A) → List ℕ → Option (A × List ℕ)
 named [] text = None

@@ -13,5 +13,4 @@ pub mod Sacl
 pub mod RightNames
 pub mod Canon
 pub mod MaskNames
-pub mod Room
 pub mod Laws

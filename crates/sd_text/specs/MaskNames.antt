@@ -4,18 +4,7 @@ use Rattle.std.specs.Prelude.{codes}
 use Rattle.sd_sid.specs.Mask.{holds, mask_of}
 use Rattle.sd_text.specs.Canon.{hex}
 use Rattle.sd_text.specs.Grammar.{Name}
-use Rattle.sd_text.specs.Rights.{bits}
-
--- the names of rights, the greatest mask first; KX has the mask of KR
-unfoldable pub names_from_greatest : List (Name ℕ)
-names_from_greatest =
-    bits (codes "GR") 0x80000000 ∷ bits (codes "GW") 0x40000000 ∷ bits (codes "GX") 0x20000000
-    ∷ bits (codes "GA") 0x10000000
-    ∷ bits (codes "FA") 0x1F01FF ∷ bits (codes "FW") 0x120116 ∷ bits (codes "FX") 0x1200A0 ∷ bits (codes "FR") 0x120089
-    ∷ bits (codes "KA") 0xF003F ∷ bits (codes "WO") 0x80000 ∷ bits (codes "WD") 0x40000 ∷ bits (codes "KR") 0x20019
-    ∷ bits (codes "KW") 0x20006 ∷ bits (codes "RC") 0x20000 ∷ bits (codes "SD") 0x10000 ∷ bits (codes "CR") 0x100
-    ∷ bits (codes "LO") 0x80 ∷ bits (codes "DT") 0x40 ∷ bits (codes "WP") 0x20 ∷ bits (codes "RP") 0x10
-    ∷ bits (codes "SW") 0x8 ∷ bits (codes "LC") 0x4 ∷ bits (codes "DC") 0x2 ∷ bits (codes "CC") 0x1 ∷ []
+use Rattle.sd_text.specs.Rights.{names_from_greatest}
 
 -- a name is due if all its bits are the mask's, and earlier names don't have all of them
 abbrev pub is_due : ℕ → ℕ → ℕ → Bool

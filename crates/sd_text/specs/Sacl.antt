@@ -9,23 +9,19 @@ use Rattle.sd_text.specs.declared.alias.Aliases.{Aliases}
 use Rattle.sd_text.specs.declared.descriptor.DaclWords.{DaclWords}
 use Rattle.sd_text.specs.declared.sacl.Within.{Within}
 use Rattle.sd_text.specs.declared.fault.TextFault.TheVariants.{Syntax, EntryKind}
-use Rattle.sd_text.specs.Grammar.{Grammar, Name, value, refused, choose, word, through, one_of, many, begins, whole}
-use Rattle.sd_text.specs.Grammar.{◌>>=◌}
+use Rattle.sd_text.specs.Grammar.{Grammar, Name, name_for, value, refused, choose, word, through, one_of, many}
+use Rattle.sd_text.specs.Grammar.{begins, whole, ◌>>=◌}
 use Rattle.sd_text.specs.Sid.{begins_letter}
 use Rattle.sd_text.specs.Entry.{opening}
 use Rattle.sd_text.specs.Sddl.{words, parts}
 
--- a type of an entry
-abbrev pub sacl_type : List ℕ → Name (Unit {0})
-sacl_type letters = record { letters = letters; stands_for = tt }
-
--- audits and alarms, of objects and with conditions too; a mandatory label, an attribute of the resource, a scoped
--- policy, a level of trust and an access filter
+-- the types of entries: audits and alarms, of objects and with conditions too; a mandatory label, an attribute of the
+-- resource, a scoped policy, a level of trust and an access filter
 abbrev pub sacl_types : List (Name (Unit {0}))
 sacl_types =
-    sacl_type (codes "AU") ∷ sacl_type (codes "AL") ∷ sacl_type (codes "OU") ∷ sacl_type (codes "OL")
-    ∷ sacl_type (codes "XU") ∷ sacl_type (codes "ML") ∷ sacl_type (codes "RA") ∷ sacl_type (codes "SP")
-    ∷ sacl_type (codes "TL") ∷ sacl_type (codes "FL") ∷ []
+    name_for (codes "AU") tt ∷ name_for (codes "AL") tt ∷ name_for (codes "OU") tt ∷ name_for (codes "OL") tt
+    ∷ name_for (codes "XU") tt ∷ name_for (codes "ML") tt ∷ name_for (codes "RA") tt ∷ name_for (codes "SP") tt
+    ∷ name_for (codes "TL") tt ∷ name_for (codes "FL") tt ∷ []
 
 -- no type of a SACL is there
 unfoldable pub no_sacl_type : Grammar (Unit {0})

@@ -10,7 +10,7 @@ use Rattle.sd_text.specs.declared.descriptor.DaclWords.{DaclWords}
 use Rattle.sd_text.specs.declared.descriptor.DaclPart.{DaclPart}
 use Rattle.sd_text.specs.declared.alias.Aliases.{Aliases}
 use Rattle.sd_text.specs.declared.fault.TextFault.TheVariants.{HasSacl}
-use Rattle.sd_text.specs.Grammar.{Grammar, Name, value, refused, choose, word, run, begins, whole, ◌>>=◌}
+use Rattle.sd_text.specs.Grammar.{Grammar, Name, name_for, value, refused, choose, word, run, begins, whole, ◌>>=◌}
 use Rattle.sd_text.specs.Alias.{in_domain}
 use Rattle.sd_text.specs.Sid.{sid}
 use Rattle.sd_text.specs.Entry.{has_one, entries}
@@ -20,14 +20,10 @@ unfoldable pub sid_section : Aliases → List ℕ → Grammar (Option SidValue)
 sid_section known head = choose (λ text. begins text head)
     (word head >>= λ u. sid known >>= λ trustee. value (Some trustee)) (value None)
 
--- a keyword for this
-abbrev pub dacl_word : List ℕ → DaclWord → Name DaclWord
-dacl_word letters meaning = record { letters = letters; stands_for = meaning }
-
 -- the keywords of a DACL's section
 abbrev pub dacl_words : List (Name DaclWord)
-dacl_words = dacl_word (codes "P") Protected ∷ dacl_word (codes "AR") AutoReq ∷ dacl_word (codes "AI") AutoInherited
-    ∷ dacl_word (codes "NO_ACCESS_CONTROL") NoAccessControl ∷ []
+dacl_words = name_for (codes "P") Protected ∷ name_for (codes "AR") AutoReq ∷ name_for (codes "AI") AutoInherited
+    ∷ name_for (codes "NO_ACCESS_CONTROL") NoAccessControl ∷ []
 
 -- no keyword
 abbrev pub no_words : DaclWords

@@ -100,7 +100,7 @@ impl WellKnown {
 }
 
 /// The SID of these parts.
-#[tactic(auto, using(crate::proofs::Sids::sid_made, crate::proofs::Sids::the_sid))]
+#[tactic(auto, using(crate::proofs::Sids::sid_made))]
 #[inline(always)]
 pub(crate) fn made(authority: u64, subs: &[u32]) -> Sid
     requires authority { authority < 2 ^ 48 }

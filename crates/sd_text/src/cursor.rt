@@ -27,18 +27,27 @@ impl<'a> Cursor<'a> {
 
     /// The cursor's offset in the text.
     pub(crate) fn place(&self, text: &str) -> u64
-        requires { length self.now.rest.now ≤ length text.now }
-        ensures { result + length self.now.rest.now ≡ length text.now }
+        ensures { length self.now.rest.now ≤ length text.now → result + length self.now.rest.now ≡ length text.now }
     {
-        (text.len() - self.rest.len()) as u64
+        text.len().saturating_sub(self.rest.len()) as u64
     }
 
-    /// Whether the rest begins with these letters, of either case.
+    /// Whether the rest begins with these letters, at least one, of either case.
+    #[tactic(auto, using(crate::proofs::Letters::begins_nothing, crate::proofs::Letters::begins_short))]
     pub(crate) fn begins(&self, letters: &[u8]) -> bool
         ensures value { result ≡ begins self.now.rest.now letters.now }
         ensures within { IsTrue result → length letters.now ≤ length self.now.rest.now }
     {
-        begins(self.rest, letters)
+        let text = self.rest;
+        if letters.is_empty() || text.len() < letters.len() {
+            return false;
+        }
+        for (i, letter) in letters.iter().enumerate() {
+            if !is_letter(text[i], *letter) {
+                return false;
+            }
+        }
+        true
     }
 
     /// Whether the rest begins with a digit.
@@ -47,7 +56,10 @@ impl<'a> Cursor<'a> {
         requires high { radix ≤ 16 }
         ensures { result ≡ begins_digit radix self.now.rest.now }
     {
-        begins_digit(self.rest, radix)
+        match self.rest {
+            [] => false,
+            [c, ..] => char::from(*c).to_digit(radix).is_some(),
+        }
     }
 
     /// Whether there is a letter so many bytes ahead.
@@ -66,7 +78,7 @@ impl<'a> Cursor<'a> {
         ensures rest { self.new.rest.now
             ≡ (if result then drop (length letters.now) self.old.rest.now else self.old.rest.now) }
     {
-        if !begins(self.rest, letters) {
+        if !self.begins(letters) {
             return false;
         }
         let (_, behind) = self.rest.split_at(letters.len());
@@ -120,23 +132,6 @@ impl<'a> Cursor<'a> {
     }
 }
 
-/// Whether the text begins with these letters, at least one, of either case.
-#[tactic(auto, using(crate::proofs::Letters::begins_nothing, crate::proofs::Letters::begins_short))]
-fn begins(text: &[u8], letters: &[u8]) -> bool
-    ensures value { result ≡ begins text.now letters.now }
-    ensures within { IsTrue result → length letters.now ≤ length text.now }
-{
-    if letters.is_empty() || text.len() < letters.len() {
-        return false;
-    }
-    for (i, letter) in letters.iter().enumerate() {
-        if !is_letter(text[i], *letter) {
-            return false;
-        }
-    }
-    true
-}
-
 /// Whether a byte is this letter, of either case. Only for speed: equal bytes are found first, and case is ignored only
 /// for a letter that has one.
 #[inline(always)]
@@ -144,21 +139,6 @@ fn is_letter(byte: u8, letter: u8) -> bool
     ensures { result ≡ eq_ignore_ascii_case byte letter }
 {
     byte == letter || (letter.is_ascii_alphabetic() && byte.eq_ignore_ascii_case(&letter))
-}
-
-/// Whether the text begins with a digit.
-fn begins_digit(text: &[u8], radix: u32) -> bool
-    requires low { 2 ≤ radix }
-    requires high { radix ≤ 16 }
-    ensures { result ≡ begins_digit radix text.now }
-{
-    match text {
-        [] => false,
-        [c, ..] => match char::from(*c).to_digit(radix) {
-            Some(_) => true,
-            None => false,
-        },
-    }
 }
 
 /// The value of the digits at the front, or any number at or above the limit if the value is; and how many there are.
@@ -171,16 +151,12 @@ fn run_of(text: &[u8], radix: u32, limit: u64) -> (u64, usize)
     ensures within { result.1 ≤ length text.now }
     ensures value { IsCapped limit result.0 (digits_value radix (take result.1 text.now)) }
 {
-    if text.len() >= NUMBER_FRONT {
-        let (number, _) = text.split_at(NUMBER_FRONT);
-        let (value, len) = short_run_of(number, radix);
-        if len < NUMBER_FRONT {
-            return (value, len);
-        }
+    if text.len() < NUMBER_FRONT {
+        return short_run_of(text, radix);
     }
-    let (front, _) = text.split_at(text.len().min(SHORT_RUN));
+    let (front, _) = text.split_at(NUMBER_FRONT);
     let (value, len) = short_run_of(front, radix);
-    if len < SHORT_RUN {
+    if len < NUMBER_FRONT {
         (value, len)
     } else {
         long_run_of(text, radix, limit)
@@ -191,10 +167,8 @@ fn run_of(text: &[u8], radix: u32, limit: u64) -> (u64, usize)
 /// its length is known at compile time, so no digit needs a test for the text's end.
 const NUMBER_FRONT: usize = 11;
 
-/// So many digits fit a number of 64 bits, in any radix up to 16.
-const SHORT_RUN: usize = 15;
-
-/// The same for a text of at most so many bytes. Only for speed: no digit needs a test of the limit.
+/// The same for a text of at most 15 bytes, whose digits fit a number of 64 bits in any radix up to 16. Only for speed:
+/// no digit needs a test of the limit.
 #[inline(always)]
 fn short_run_of(text: &[u8], radix: u32) -> (u64, usize)
     requires low { 2 ≤ radix }

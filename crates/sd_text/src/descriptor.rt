@@ -104,24 +104,15 @@ impl DaclWords {
 }
 
 impl Cursor<'_> {
-    /// The whole text, or None if an allocation failed.
+    /// The whole text, or None if an allocation failed. Each section may be left out.
+    #[tactic(auto, unfolding(crate::specs::Sddl::sections))]
     fn descriptor(&mut self, alloc: Global, known: Aliases) -> Result<Option<Descriptor>, TextFault>
         ensures { GivesUnlessMemory descriptor_of (λ d. has_entry d.dacl) result self.new.rest.now
             (find (sddl_in known) self.old.rest.now) }
     {
-        let descriptor = self.sections(alloc, known)?;
-        self.end()?;
-        Ok(descriptor)
-    }
-
-    /// The sections of a descriptor, each of which may be left out.
-    #[tactic(auto, unfolding(crate::specs::Sddl::sections))]
-    fn sections(&mut self, alloc: Global, known: Aliases) -> Result<Option<Descriptor>, TextFault>
-        ensures { GivesUnlessMemory descriptor_of (λ d. has_entry d.dacl) result self.new.rest.now
-            (find (sections known) self.old.rest.now) }
-    {
         let descriptor = self.parts(alloc, known)?;
         self.no_sacl()?;
+        self.end()?;
         Ok(descriptor)
     }
 

@@ -39,7 +39,7 @@ impl Cursor<'_> {
         'entries: while self.eat(b"(") {
             let entry = self.entry(known, size)?;
             size += entry.size();
-            stored = stored && entries.push(entry).is_ok();
+            stored &= entries.push(entry).is_ok();
         }
         if stored {
             Ok(Some(AceList::new(entries).unwrap()))

@@ -2,44 +2,17 @@
 
 ghost use Rattle.std.specs.Prelude.{◌≡◌, IfOk, OnOk, string_bytes};
 ghost use Rattle.sd_text.specs.Names.{rows};
-ghost use Rattle.sd_text.specs.MaskNames.{is_due, mask_names, names_from_greatest, with_rest, with_word};
+ghost use Rattle.sd_text.specs.MaskNames.{is_due, mask_names, with_rest, with_word};
+ghost use Rattle.sd_text.specs.Rights.{names_from_greatest};
 
-use crate::number::{MAX_DIGITS, digits};
+use crate::rights::RIGHTS;
 use sd_sid::Mask;
 use std::alloc::{AllocError, Global};
-
-/// The names of rights, the greatest mask first. `KX` has the mask of `KR`.
-static FROM_GREATEST: [(&str, u32); 24] = [
-    ("GR", 0x8000_0000),
-    ("GW", 0x4000_0000),
-    ("GX", 0x2000_0000),
-    ("GA", 0x1000_0000),
-    ("FA", 0x001F_01FF),
-    ("FW", 0x0012_0116),
-    ("FX", 0x0012_00A0),
-    ("FR", 0x0012_0089),
-    ("KA", 0x000F_003F),
-    ("WO", 0x0008_0000),
-    ("WD", 0x0004_0000),
-    ("KR", 0x0002_0019),
-    ("KW", 0x0002_0006),
-    ("RC", 0x0002_0000),
-    ("SD", 0x0001_0000),
-    ("CR", 0x100),
-    ("LO", 0x80),
-    ("DT", 0x40),
-    ("WP", 0x20),
-    ("RP", 0x10),
-    ("SW", 0x8),
-    ("LC", 0x4),
-    ("DC", 0x2),
-    ("CC", 0x1),
-];
 
 /// A mask by names, as `FR+WD` ([MS-DTYP] 2.5.1.1, ace-rights): those whose bits are all the mask's, the greatest
 /// first, except one whose bits earlier names have. The bits that no name has follow as a number, as `FR+0x200`. The
 /// only error is out of memory.
-#[tactic(auto, using(crate::proofs::MaskNames::named_at), unfolding(crate::specs::MaskNames::named_from))]
+#[tactic(auto, using(crate::proofs::Tables::word_at), unfolding(crate::specs::MaskNames::named_from))]
 pub fn print_mask_names(alloc: Global, mask: Mask) -> Result<String, AllocError>
     ensures { IfOk result (λ text. string_bytes text ≡ mask_names mask) }
 {
@@ -55,11 +28,12 @@ pub fn print_mask_names(alloc: Global, mask: Mask) -> Result<String, AllocError>
     Ok(text)
 }
 
-#[tactic(auto, unfolding(crate::specs::MaskNames::names_from_greatest))]
+/// All names but `KX`, whose mask is that of `KR`.
+#[tactic(auto, unfolding(crate::specs::Rights::names_from_greatest))]
 fn names_from_greatest() -> &'static [(&'static str, u32)]
     ensures { rows result.now ≡ names_from_greatest }
 {
-    &FROM_GREATEST
+    &RIGHTS[..24]
 }
 
 fn is_due(mask: u32, named: u32, rights: u32) -> bool
@@ -86,8 +60,6 @@ fn push_rest(text: &mut String, rest: Mask) -> Result<(), AllocError>
     if rest.is_empty() && !text.is_empty() {
         return Ok(());
     }
-    let mut bytes = [0; MAX_DIGITS];
     push_word(text, "0x")?;
-    text.push_str(digits(u64::from(rest.bits()), 16, &mut bytes))?;
-    Ok(())
+    write!(text, "{:x}", rest.bits())
 }

@@ -1,18 +1,15 @@
 //! The printed text of each value: [MS-DTYP] 2.5.1.
 
-ghost use Rattle.std.specs.Prelude.{◌≡◌, ◌<◌, ◌≤◌, ◌+◌, ◌*◌, length, replicate, OnErr, IfOk, string_bytes};
-ghost use Rattle.std.specs.List.{flat_map};
-ghost use Rattle.sd_acl.specs.Ace.{ace_size, acl_size_of};
+ghost use Rattle.std.specs.Prelude.{◌≡◌, ◌<◌, ◌≤◌, ◌++◌, ◌==◌, length, OnErr, OnOk, IfOk, string_bytes};
 ghost use Rattle.sd_acl.specs.Descriptor.{descriptor_of};
-ghost use Rattle.sd_text.specs.Room.{HasRoom, IsPrinted};
-ghost use Rattle.sd_text.specs.Canon.{authority_canon, sub_canon, full_canon, sid_canon, rights_canon_in, flags_canon};
+ghost use Rattle.sd_text.specs.Canon.{authority_canon, full_canon, sid_canon, rights_canon_in, flags_canon};
 ghost use Rattle.sd_text.specs.Canon.{entry_canon, entry_canon_in, where_set, words_canon, section_canon, dacl_canon};
 ghost use Rattle.sd_text.specs.Canon.{canon, canon_in};
 ghost use Rattle.sd_text.specs.declared.right_names.RightNames.{RightNames};
 
 use crate::alias::alias_text;
 use crate::entry::flag_names;
-use crate::number::{MAX_DIGITS, digits, push_decimal};
+use crate::number::push_decimal;
 use crate::right_names::RightNames;
 use bitflags::Flags;
 use sd_acl::{Ace, AceFlags, AceKind, Dacl, Descriptor};
@@ -44,8 +41,11 @@ pub fn print_sddl_in(
     ensures text { IfOk result (λ text. string_bytes text ≡ canon_in names (descriptor_of descriptor.now)) }
     ensures memory { OnErr result (0 < length (canon_in names (descriptor_of descriptor.now))) }
 {
+    if is_empty(descriptor) {
+        return Ok(String::new(alloc));
+    }
     let mut text = String::with_capacity(alloc, sddl_room(descriptor))?;
-    write_sddl(&mut text, names, descriptor);
+    write_sddl(&mut text, names, descriptor)?;
     give_back_room(&mut text);
     Ok(text)
 }
@@ -55,7 +55,7 @@ pub fn print_sid(alloc: Global, sid: &Sid) -> Result<String, AllocError>
     ensures { IfOk result (λ text. string_bytes text ≡ sid_canon sid.now) }
 {
     let mut text = String::with_capacity(alloc, sid_room(sid))?;
-    write_sid(&mut text, sid);
+    write_sid(&mut text, sid)?;
     give_back_room(&mut text);
     Ok(text)
 }
@@ -65,7 +65,7 @@ pub fn print_full_sid(alloc: Global, sid: &Sid) -> Result<String, AllocError>
     ensures { IfOk result (λ text. string_bytes text ≡ full_canon sid.now) }
 {
     let mut text = String::with_capacity(alloc, sid_room(sid))?;
-    write_full_sid(&mut text, sid);
+    write_full_sid(&mut text, sid)?;
     give_back_room(&mut text);
     Ok(text)
 }
@@ -82,7 +82,7 @@ pub fn print_entry_in(alloc: Global, names: RightNames, entry: &Ace) -> Result<S
     ensures { IfOk result (λ text. string_bytes text ≡ entry_canon_in names entry.now) }
 {
     let mut text = String::with_capacity(alloc, entry_room(entry))?;
-    write_entry(&mut text, names, entry);
+    write_entry(&mut text, names, entry)?;
     give_back_room(&mut text);
     Ok(text)
 }
@@ -96,245 +96,176 @@ fn give_back_room(text: &mut String)
     }
 }
 
-/// Room for the text of a descriptor, whichever names rights have; 0 if the text is empty.
+/// Whether the text of the descriptor is empty.
 #[tactic(auto, unfolding(crate::specs::Canon::canon_in))]
-fn sddl_room(d: &Descriptor) -> usize
-    ensures room { (names : RightNames) → length (canon_in names (descriptor_of d.now)) ≤ result }
-    ensures some { 0 < result → (names : RightNames) → 0 < length (canon_in names (descriptor_of d.now)) }
+fn is_empty(d: &Descriptor) -> bool
+    ensures { (names : RightNames) → result ≡ (length (canon_in names (descriptor_of d.now)) == 0) }
 {
-    section_room("O:", &d.owner) + section_room("G:", &d.group) + dacl_room(d)
+    matches!((&d.owner, &d.group, &d.dacl), (None, None, Dacl::Absent))
 }
 
-fn section_room(head: &str, sid: &Option<Sid>) -> usize
-    requires { length head.now ≡ 2 }
-    ensures room { length (section_canon head.now sid.now) ≤ result }
-    ensures some { 0 < result → 0 < length (section_canon head.now sid.now) }
-    ensures most { result ≤ 185 }
-{
-    match sid {
-        Some(sid) => head.len() + sid_room(sid),
-        None => 0,
-    }
-}
-
-/// Room for a SID: `S-1-`, 14 letters of an authority, and a dash and ten digits for each sub-authority.
-#[tactic(auto, using(crate::proofs::Lengths::sid_length, crate::proofs::Lengths::full_length))]
-fn sid_room(sid: &Sid) -> usize
-    ensures room { length (sid_canon sid.now) ≤ result }
-    ensures full { length (full_canon sid.now) ≤ result }
-    ensures size { result ≡ 18 + 11 * length sid.now.subs }
-    ensures most { result ≤ 183 }
-{
-    18 + 11 * sid.subs().len()
-}
-
-/// Room for the section of a DACL: its head, the keywords, and the entries or NO_ACCESS_CONTROL.
-fn dacl_room(d: &Descriptor) -> usize
-    ensures room { (names : RightNames)
-        → length (dacl_canon names (words_canon (descriptor_of d.now)) d.now.dacl) ≤ result }
-    ensures some { 0 < result → (names : RightNames)
-        → 0 < length (dacl_canon names (words_canon (descriptor_of d.now)) d.now.dacl) }
-    ensures most { result ≤ 4 * 65535 + 24 }
-{
-    match &d.dacl {
-        Dacl::Absent => 0,
-        Dacl::Null => 24,
-        Dacl::List(list) => 7 + entries_room(list.entries()),
-    }
-}
-
-fn entries_room(entries: &[Ace]) -> usize
-    requires { acl_size_of entries.now ≤ 65535 }
-    ensures room { (names : RightNames) → length (flat_map (entry_canon_in names) entries.now) ≤ result }
-    ensures most { result ≤ 4 * acl_size_of entries.now }
-{
-    let mut room = 0;
-    for entry in entries {
-        room += entry_room(entry);
+/// Room for the text of a descriptor. Only for speed: a text with room for all grows no further.
+fn sddl_room(d: &Descriptor) -> usize {
+    let mut room = section_room(&d.owner) + section_room(&d.group) + 24;
+    if let Dacl::List(list) = &d.dacl {
+        for entry in list.entries() {
+            room = room.saturating_add(entry_room(entry));
+        }
     }
     room
 }
 
-/// Room for an entry: 32 letters and its SID. That is at most four for each byte of its binary form.
-#[tactic(auto, using(crate::proofs::Lengths::entry_length))]
-fn entry_room(entry: &Ace) -> usize
-    ensures room { (names : RightNames) → length (entry_canon_in names entry.now) ≤ result }
-    ensures most { result ≤ 4 * ace_size entry.now }
+fn section_room(sid: &Option<Sid>) -> usize
+    ensures { result ≤ 185 }
 {
-    let _mask = entry.mask.bits();
+    match sid {
+        Some(sid) => 2 + sid_room(sid),
+        None => 0,
+    }
+}
+
+/// Room for an entry: 32 letters and its SID.
+fn entry_room(entry: &Ace) -> usize {
     32 + sid_room(&entry.sid)
 }
 
-/// Appends the letters. The capacity must suffice.
-fn push(out: &mut String, letters: &str)
-    requires { HasRoom out.old letters.now }
-    ensures { IsPrinted out.old out.new letters.now }
+/// Room for a SID: `S-1-`, 14 letters of an authority, and a dash and ten digits for each sub-authority.
+fn sid_room(sid: &Sid) -> usize
+    ensures { result ≤ 183 }
 {
-    out.push_str(letters).unwrap();
+    18 + 11 * sid.subs().len()
 }
 
 #[tactic(auto, unfolding(crate::specs::Canon::canon_in))]
-fn write_sddl(out: &mut String, names: RightNames, d: &Descriptor)
-    requires { HasRoom out.old (canon_in names (descriptor_of d.now)) }
-    ensures { IsPrinted out.old out.new (canon_in names (descriptor_of d.now)) }
+fn write_sddl(out: &mut String, names: RightNames, d: &Descriptor) -> Result<(), AllocError>
+    ensures { OnOk result (string_bytes out.new
+        ≡ string_bytes out.old ++ canon_in names (descriptor_of d.now)) }
 {
-    write_section(out, "O:", &d.owner);
-    write_section(out, "G:", &d.group);
-    write_dacl(out, names, d);
+    write_section(out, "O:", &d.owner)?;
+    write_section(out, "G:", &d.group)?;
+    write_dacl(out, names, d)
 }
 
 /// A section of one SID, if there is one.
-fn write_section(out: &mut String, head: &str, sid: &Option<Sid>)
-    requires { HasRoom out.old (section_canon head.now sid.now) }
-    ensures { IsPrinted out.old out.new (section_canon head.now sid.now) }
+fn write_section(out: &mut String, head: &str, sid: &Option<Sid>) -> Result<(), AllocError>
+    ensures { OnOk result (string_bytes out.new ≡ string_bytes out.old ++ section_canon head.now sid.now) }
 {
-    if let Some(sid) = sid {
-        push(out, head);
-        write_sid(out, sid);
+    match sid {
+        Some(sid) => {
+            out.push_str(head)?;
+            write_sid(out, sid)
+        }
+        None => Ok(()),
     }
 }
 
 #[tactic(auto, unfolding(crate::specs::Canon::sid_canon))]
-fn write_sid(out: &mut String, sid: &Sid)
-    requires { HasRoom out.old (sid_canon sid.now) }
-    ensures { IsPrinted out.old out.new (sid_canon sid.now) }
+fn write_sid(out: &mut String, sid: &Sid) -> Result<(), AllocError>
+    ensures { OnOk result (string_bytes out.new ≡ string_bytes out.old ++ sid_canon sid.now) }
 {
     match alias_text(sid) {
-        Some(letters) => push(out, letters),
+        Some(letters) => out.push_str(letters),
         None => write_full_sid(out, sid),
     }
 }
 
 #[tactic(auto, unfolding(crate::specs::Canon::full_canon))]
-fn write_full_sid(out: &mut String, sid: &Sid)
-    requires { HasRoom out.old (full_canon sid.now) }
-    ensures { IsPrinted out.old out.new (full_canon sid.now) }
+fn write_full_sid(out: &mut String, sid: &Sid) -> Result<(), AllocError>
+    ensures { OnOk result (string_bytes out.new ≡ string_bytes out.old ++ full_canon sid.now) }
 {
-    push(out, "S-1-");
-    write_authority(out, sid.authority());
+    out.push_str("S-1-")?;
+    write_authority(out, sid.authority())?;
     for sub in sid.subs() {
-        write_sub(out, *sub);
+        out.push_str("-")?;
+        push_decimal(out, *sub)?;
     }
+    Ok(())
 }
 
 /// In decimal if the authority has 32 bits, else in 12 hexadecimal digits.
-#[tactic(auto, unfolding(crate::specs::Canon::authority_canon))]
-fn write_authority(out: &mut String, authority: u64)
-    requires { HasRoom out.old (authority_canon authority) }
-    ensures { IsPrinted out.old out.new (authority_canon authority) }
+#[tactic(auto, using(crate::proofs::Numbers::twelve_digits), unfolding(crate::specs::Canon::authority_canon))]
+fn write_authority(out: &mut String, authority: u64) -> Result<(), AllocError>
+    ensures { OnOk result (string_bytes out.new ≡ string_bytes out.old ++ authority_canon authority) }
 {
     if authority < DECIMAL_LIMIT {
-        return push_decimal(out, authority as u32);
-    }
-    let mut bytes = [0; MAX_DIGITS];
-    let letters = digits(authority, 16, &mut bytes);
-    push(out, "0x");
-    write_zeros(out, 12usize.saturating_sub(letters.len()));
-    push(out, letters);
-}
-
-fn write_zeros(out: &mut String, count: usize)
-    requires { HasRoom out.old (replicate count 48) }
-    ensures { IsPrinted out.old out.new (replicate count 48) }
-{
-    for written in 0..count {
-        push(out, "0");
+        push_decimal(out, authority as u32)
+    } else {
+        write!(out, "0x{authority:012x}")
     }
 }
 
-/// A sub-authority after its dash.
-fn write_sub(out: &mut String, sub: u32)
-    requires { HasRoom out.old (sub_canon sub) }
-    ensures { IsPrinted out.old out.new (sub_canon sub) }
+fn write_dacl(out: &mut String, names: RightNames, d: &Descriptor) -> Result<(), AllocError>
+    ensures { OnOk result (string_bytes out.new
+        ≡ string_bytes out.old ++ dacl_canon names (words_canon (descriptor_of d.now)) d.now.dacl) }
 {
-    push(out, "-");
-    push_decimal(out, sub);
+    match &d.dacl {
+        Dacl::Absent => Ok(()),
+        Dacl::Null => {
+            out.push_str("D:")?;
+            write_words(out, d)?;
+            out.push_str("NO_ACCESS_CONTROL")
+        }
+        Dacl::List(list) => {
+            out.push_str("D:")?;
+            write_words(out, d)?;
+            for entry in list.entries() {
+                write_entry(out, names, entry)?;
+            }
+            Ok(())
+        }
+    }
 }
 
 #[tactic(auto, unfolding(crate::specs::Canon::words_canon))]
-fn write_words(out: &mut String, d: &Descriptor)
-    requires { HasRoom out.old (words_canon (descriptor_of d.now)) }
-    ensures { IsPrinted out.old out.new (words_canon (descriptor_of d.now)) }
+fn write_words(out: &mut String, d: &Descriptor) -> Result<(), AllocError>
+    ensures { OnOk result (string_bytes out.new ≡ string_bytes out.old ++ words_canon (descriptor_of d.now)) }
 {
-    write_where(out, d.protected, "P");
-    write_where(out, d.auto_req, "AR");
-    write_where(out, d.auto_inherited, "AI");
+    write_where(out, d.protected, "P")?;
+    write_where(out, d.auto_req, "AR")?;
+    write_where(out, d.auto_inherited, "AI")
 }
 
 /// The letters, if the test holds.
-fn write_where(out: &mut String, test: bool, letters: &str)
-    requires { HasRoom out.old (where_set test letters.now) }
-    ensures { IsPrinted out.old out.new (where_set test letters.now) }
+fn write_where(out: &mut String, test: bool, letters: &str) -> Result<(), AllocError>
+    ensures { OnOk result (string_bytes out.new ≡ string_bytes out.old ++ where_set test letters.now) }
 {
-    if test {
-        push(out, letters);
-    }
-}
-
-fn write_dacl(out: &mut String, names: RightNames, d: &Descriptor)
-    requires { HasRoom out.old (dacl_canon names (words_canon (descriptor_of d.now)) d.now.dacl) }
-    ensures { IsPrinted out.old out.new (dacl_canon names (words_canon (descriptor_of d.now)) d.now.dacl) }
-{
-    match &d.dacl {
-        Dacl::Absent => {}
-        Dacl::Null => {
-            push(out, "D:");
-            write_words(out, d);
-            push(out, "NO_ACCESS_CONTROL");
-        }
-        Dacl::List(list) => {
-            push(out, "D:");
-            write_words(out, d);
-            for entry in list.entries() {
-                write_entry(out, names, entry);
-            }
-        }
-    }
+    if test { out.push_str(letters) } else { Ok(()) }
 }
 
 #[tactic(auto, unfolding(crate::specs::Canon::entry_canon_in))]
-fn write_entry(out: &mut String, names: RightNames, entry: &Ace)
-    requires { HasRoom out.old (entry_canon_in names entry.now) }
-    ensures { IsPrinted out.old out.new (entry_canon_in names entry.now) }
+fn write_entry(out: &mut String, names: RightNames, entry: &Ace) -> Result<(), AllocError>
+    ensures { OnOk result (string_bytes out.new ≡ string_bytes out.old ++ entry_canon_in names entry.now) }
 {
-    match entry.kind {
-        AceKind::Allow => push(out, "(A;"),
-        AceKind::Deny => push(out, "(D;"),
-    }
-    write_flags(out, entry.flags);
-    push(out, ";");
-    write_rights(out, names, entry.mask);
-    push(out, ";;;");
-    write_sid(out, &entry.sid);
-    push(out, ")");
+    out.push_str(match entry.kind {
+        AceKind::Allow => "(A;",
+        AceKind::Deny => "(D;",
+    })?;
+    write_flags(out, entry.flags)?;
+    out.push_str(";")?;
+    write_rights(out, names, entry.mask)?;
+    out.push_str(";;;")?;
+    write_sid(out, &entry.sid)?;
+    out.push_str(")")
 }
 
 #[tactic(auto, unfolding(crate::specs::Canon::flags_canon))]
-fn write_flags(out: &mut String, flags: AceFlags)
-    requires { HasRoom out.old (flags_canon flags.0) }
-    ensures { IsPrinted out.old out.new (flags_canon flags.0) }
+fn write_flags(out: &mut String, flags: AceFlags) -> Result<(), AllocError>
+    ensures { OnOk result (string_bytes out.new ≡ string_bytes out.old ++ flags_canon flags.0) }
 {
     let bits = u32::from(flags.bits());
-    if bits == 0 {
-        return;
-    }
     for (letters, flag) in flag_names() {
-        write_where(out, bits & flag != 0, letters);
+        write_where(out, bits & flag != 0, letters)?;
     }
+    Ok(())
 }
 
 #[tactic(auto, unfolding(crate::specs::Canon::rights_canon_in))]
-fn write_rights(out: &mut String, names: RightNames, mask: Mask)
-    requires { HasRoom out.old (rights_canon_in names mask) }
-    ensures { IsPrinted out.old out.new (rights_canon_in names mask) }
+fn write_rights(out: &mut String, names: RightNames, mask: Mask) -> Result<(), AllocError>
+    ensures { OnOk result (string_bytes out.new ≡ string_bytes out.old ++ rights_canon_in names mask) }
 {
     let bits = mask.bits();
     match names.name_of(bits) {
-        Some(letters) => push(out, letters),
-        None => {
-            let mut bytes = [0; MAX_DIGITS];
-            push(out, "0x");
-            push(out, digits(u64::from(bits), 16, &mut bytes));
-        }
+        Some(letters) => out.push_str(letters),
+        None => write!(out, "0x{bits:x}"),
     }
 }

@@ -14,32 +14,32 @@ use sd_sid::Mask;
 /// A mask is below this: it has 32 bits ([MS-DTYP] 2.4.3).
 const MASK_LIMIT: u64 = 0x1_0000_0000;
 
-/// The names of rights.
-static RIGHTS: [(&str, u32); 25] = [
-    ("GA", 0x1000_0000),
+/// The names of rights, the greatest mask first, and `KX`, which has the mask of `KR`.
+pub(crate) static RIGHTS: [(&str, u32); 25] = [
     ("GR", 0x8000_0000),
     ("GW", 0x4000_0000),
     ("GX", 0x2000_0000),
-    ("SD", 0x0001_0000),
-    ("RC", 0x0002_0000),
-    ("WD", 0x0004_0000),
-    ("WO", 0x0008_0000),
-    ("CC", 0x1),
-    ("DC", 0x2),
-    ("LC", 0x4),
-    ("SW", 0x8),
-    ("RP", 0x10),
-    ("WP", 0x20),
-    ("DT", 0x40),
-    ("LO", 0x80),
-    ("CR", 0x100),
+    ("GA", 0x1000_0000),
     ("FA", 0x001F_01FF),
-    ("FR", 0x0012_0089),
     ("FW", 0x0012_0116),
     ("FX", 0x0012_00A0),
+    ("FR", 0x0012_0089),
     ("KA", 0x000F_003F),
+    ("WO", 0x0008_0000),
+    ("WD", 0x0004_0000),
     ("KR", 0x0002_0019),
     ("KW", 0x0002_0006),
+    ("RC", 0x0002_0000),
+    ("SD", 0x0001_0000),
+    ("CR", 0x100),
+    ("LO", 0x80),
+    ("DT", 0x40),
+    ("WP", 0x20),
+    ("RP", 0x10),
+    ("SW", 0x8),
+    ("LC", 0x4),
+    ("DC", 0x2),
+    ("CC", 0x1),
     ("KX", 0x0002_0019),
 ];
 
@@ -71,7 +71,7 @@ impl Cursor<'_> {
     }
 
     /// A number, or a run of names.
-    #[tactic(auto, unfolding(crate::specs::Rights::rights))]
+    #[tactic(auto, unfolding(crate::specs::Rights::rights, crate::specs::Rights::names_from_greatest))]
     pub(crate) fn rights(&mut self) -> Result<Mask, TextFault>
         ensures { Gives (λ mask. mask) result self.new.rest.now (find rights self.old.rest.now) }
     {

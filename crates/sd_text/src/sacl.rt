@@ -119,6 +119,7 @@ pub fn read_sddl_without_sacl(
 
 impl Cursor<'_> {
     /// The whole text, or None if an allocation failed.
+    #[tactic(auto, unfolding(crate::specs::Sacl::all_sections))]
     fn without_sacl(
         &mut self,
         alloc: Global,
@@ -127,23 +128,9 @@ impl Cursor<'_> {
         ensures { GivesUnlessMemory (λ r. (descriptor_of r.descriptor, r.left_out)) (λ found. has_entry found.0.dacl)
             result self.new.rest.now (find (sddl_without_sacl known) self.old.rest.now) }
     {
-        let read = self.all_sections(alloc, known)?;
-        self.end()?;
-        Ok(read)
-    }
-
-    /// The sections of a descriptor, and that of a SACL.
-    #[tactic(auto, unfolding(crate::specs::Sacl::all_sections))]
-    fn all_sections(
-        &mut self,
-        alloc: Global,
-        known: Aliases,
-    ) -> Result<Option<WithoutSacl>, TextFault>
-        ensures { GivesUnlessMemory (λ r. (descriptor_of r.descriptor, r.left_out)) (λ found. has_entry found.0.dacl)
-            result self.new.rest.now (find (all_sections known) self.old.rest.now) }
-    {
         let parts = self.parts(alloc, known)?;
         let left_out = self.sacl_section()?;
+        self.end()?;
         let Some(descriptor) = parts else {
             return Ok(None);
         };
@@ -194,12 +181,10 @@ impl Cursor<'_> {
     fn sacl_kind(&mut self) -> Result<(), TextFault>
         ensures { Gives (λ _. tt) result self.new.rest.now (find sacl_kind self.old.rest.now) }
     {
-        if self.letter_at(2) {
-            return Err(self.no_sacl_type());
-        }
-        match self.name(&SACL_TYPES) {
-            Some(()) => Ok(()),
-            None => Err(self.no_sacl_type()),
+        if !self.letter_at(2) && self.name(&SACL_TYPES).is_some() {
+            Ok(())
+        } else {
+            Err(self.no_sacl_type())
         }
     }
 

@@ -1,5 +1,5 @@
 use Rattle.std.proofs.Common.{length, arith, ap, sym}
-use Rattle.sd_text.proofs.Printing.{alias_is_pair}
+use Rattle.sd_text.proofs.Tables.{alias_is_pair}
 use Rattle.sd_text.proofs.alias.alias_of.Goals as goal
 
 pub returns-in_default : goal.returns-in_default

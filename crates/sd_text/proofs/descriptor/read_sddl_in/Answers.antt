@@ -1,11 +1,8 @@
 use Rattle.std.proofs.Common.{sym}
 use Rattle.sd_acl.specs.Descriptor.{descriptor_of}
 use Rattle.sd_text.specs.Sddl.{sddl_in, sections, has_entry}
-use Rattle.sd_text.proofs.Engine.{no_fault, fault_within, fault_at, value_answered, memory_answered}
+use Rattle.sd_text.proofs.Engine.{no_fault, fault_at, value_answered, memory_answered}
 use Rattle.sd_text.proofs.descriptor.read_sddl_in.Goals as goal
-
-pub place-requires : goal.place-requires
-place-requires c = let e = c.in-Err.ensures in fault_within (sddl_in c.args.known) c.args.text.now c.in-Err.fault c.descriptor.new.self.rest.now (rw (sym c.new-cursor.ensures) e)
 
 pub returns-in-Ok-clause-value : goal.returns-in-Ok-clause-value
 returns-in-Ok-clause-value c = rw c.ok_or.ensures.value (value_answered descriptor_of (λ d. has_entry d.dacl) (sections c.args.known) c.args.text.now c.descriptor.new.self.rest.now c.in-Ok.descriptor (rw (sym c.new-cursor.ensures) c.in-Ok.ensures))

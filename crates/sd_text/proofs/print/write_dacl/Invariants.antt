@@ -1,12 +1,9 @@
-use Rattle.std.proofs.Common.{take}
+use Rattle.std.proofs.Common.{◌≡◌, ◌++◌, take, string_bytes}
 use Rattle.std.specs.List.{flat_map}
-use Rattle.sd_text.specs.Room.{HasRoom, IsPrinted}
 use Rattle.sd_text.specs.Canon.{entry_canon_in}
 use Rattle.sd_text.proofs.print.write_dacl.Given as goal
 
 -- the entries so far have been printed
 abbrev pub invariant-loop-entry : goal.invariant-loop-entry
-invariant-loop-entry l = record {
-  printed : IsPrinted l.initial.out l.out (flat_map (entry_canon_in l.names) (take l.entry-index l.entry-items));
-  room : HasRoom l.initial.out (flat_map (entry_canon_in l.names) l.entry-items);
-}
+invariant-loop-entry l = string_bytes l.out
+    ≡ string_bytes l.initial.out ++ flat_map (entry_canon_in l.names) (take l.entry-index l.entry-items)

@@ -1,6 +1,5 @@
-use Rattle.std.proofs.Common.{◌≡◌, take}
+use Rattle.std.proofs.Common.{◌≡◌, ◌++◌, take, string_bytes}
 use Rattle.std.specs.List.{flat_map}
-use Rattle.sd_text.specs.Room.{HasRoom, IsPrinted}
 use Rattle.sd_text.specs.Canon.{sub_canon}
 use Rattle.sd_text.proofs.print.write_full_sid.Given as goal
 
@@ -8,6 +7,5 @@ use Rattle.sd_text.proofs.print.write_full_sid.Given as goal
 abbrev pub invariant-loop-sub : goal.invariant-loop-sub
 invariant-loop-sub l = record {
   subs : l.sub-items ≡ l.sid.subs;
-  printed : IsPrinted l.initial.out l.out (flat_map sub_canon (take l.sub-index l.sub-items));
-  room : HasRoom l.initial.out (flat_map sub_canon l.sub-items);
+  printed : string_bytes l.out ≡ string_bytes l.initial.out ++ flat_map sub_canon (take l.sub-index l.sub-items);
 }

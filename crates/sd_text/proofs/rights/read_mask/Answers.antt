@@ -1,10 +1,7 @@
 use Rattle.std.proofs.Common.{sym, ap, Ok}
 use Rattle.sd_text.specs.Rights.{mask_text, rights}
-use Rattle.sd_text.proofs.Engine.{one_value, no_fault, whole_value, fault_within, fault_at}
+use Rattle.sd_text.proofs.Engine.{one_value, no_fault, whole_value, fault_at}
 use Rattle.sd_text.proofs.rights.read_mask.Goals as goal
-
-pub place-requires : goal.place-requires
-place-requires c = fault_within mask_text c.args.text.now c.in-Err.fault c.mask_text.new.self.rest.now (rw (sym c.new-cursor.ensures) c.in-Err.ensures)
 
 pub returns-in-Ok-clause-value : goal.returns-in-Ok-clause-value
 returns-in-Ok-clause-value c = whole_value rights c.args.text.now c.in-Ok.mask c.mask_text.new.self.rest.now (rw (sym c.new-cursor.ensures) c.in-Ok.ensures)

@@ -2,11 +2,8 @@ use Rattle.std.proofs.Common.{sym}
 use Rattle.sd_acl.specs.Descriptor.{descriptor_of}
 use Rattle.sd_text.specs.Sacl.{sddl_without_sacl, all_sections}
 use Rattle.sd_text.specs.Sddl.{has_entry}
-use Rattle.sd_text.proofs.Engine.{no_fault, fault_within, fault_at, value_answered, memory_answered}
+use Rattle.sd_text.proofs.Engine.{no_fault, fault_at, value_answered, memory_answered}
 use Rattle.sd_text.proofs.sacl.read_sddl_without_sacl.Goals as goal
-
-pub place-requires : goal.place-requires
-place-requires c = let e = c.in-Err.ensures in fault_within (sddl_without_sacl c.args.known) c.args.text.now c.in-Err.fault c.without_sacl.new.self.rest.now (rw (sym c.new-cursor.ensures) e)
 
 pub returns-in-Ok-clause-value : goal.returns-in-Ok-clause-value
 returns-in-Ok-clause-value c = rw c.ok_or.ensures.value (value_answered (λ r. (descriptor_of r.descriptor, r.left_out)) (λ found. has_entry found.0.dacl) (all_sections c.args.known) c.args.text.now c.without_sacl.new.self.rest.now c.in-Ok.read (rw (sym c.new-cursor.ensures) c.in-Ok.ensures))

@@ -1,10 +1,7 @@
 use Rattle.std.proofs.Common.{sym, ap, Ok}
 use Rattle.sd_text.specs.Sid.{sid_text_in, sid}
-use Rattle.sd_text.proofs.Engine.{one_value, no_fault, whole_value, fault_within, fault_at}
+use Rattle.sd_text.proofs.Engine.{one_value, no_fault, whole_value, fault_at}
 use Rattle.sd_text.proofs.sid.read_sid_text_in.Goals as goal
-
-pub place-requires : goal.place-requires
-place-requires c = fault_within (sid_text_in c.args.known) c.args.text.now c.in-Err.fault c.sid_text.new.self.rest.now (rw (sym c.new-cursor.ensures) c.in-Err.ensures)
 
 pub returns-in-Ok-clause-value : goal.returns-in-Ok-clause-value
 returns-in-Ok-clause-value c = whole_value (sid c.args.known) c.args.text.now c.in-Ok.sid c.sid_text.new.self.rest.now (rw (sym c.new-cursor.ensures) c.in-Ok.ensures)

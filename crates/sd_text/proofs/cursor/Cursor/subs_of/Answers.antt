@@ -2,18 +2,21 @@ use Rattle.std.proofs.Common.{rules, ◌≡◌, ◌<◌, ◌+◌, length, take, 
 use Rattle.std.proofs.lemmas.Result.{err_from_is_err_and}
 use Rattle.std.proofs.lemmas.List.{length-take-le}
 use Rattle.std.proofs.lemmas.Grind.{take-set_at}
-use Rattle.sd_text.proofs.Sids.{subs_more, subs_end, subs_fault, sub_takes, at_least_one}
+use Rattle.std.specs.Prelude.{codes}
+use Rattle.sd_text.specs.Sid.{sub}
+use Rattle.sd_text.proofs.Loops.{item_more, item_takes}
+use Rattle.sd_text.proofs.Sids.{subs_end, subs_fault, at_least_one}
 use Rattle.sd_text.proofs.cursor.Cursor.subs_of.Goals as goal
 
 pub returns-in_err-subs : goal.returns-in_err-subs
 returns-in_err-subs c =
     let p = err_from_is_err_and c.from_residual.result c.from_residual.ensures.1 in
     let counted : length (take c.subs.count c.subs.subs) ≡ c.subs.count = length-take-le c.subs.count c.subs.subs (omega arith) in
-    rw (p.1, p.2) (subs_fault c.args.authority c.args.self.now.rest.now (take c.subs.count c.subs.subs) c.subs.self.rest.now (c.in_err-subs.field-0.0, c.sub.new.self.rest.now) (sym c.if-not-begins.ensures.value) c.subs.invariant.reached (sym c.subs-test.ensures.stood)
+    rw (p.1, p.2) (subs_fault c.args.authority (sym c.if-not-begins.ensures.value) c.subs.invariant.reached (sym c.subs-test.ensures.stood)
     (rw (counted, sym c.subs-test.ensures.rest) c.in_err-subs.ensures.sub))
 
 pub subs-smaller : goal.subs-smaller
-subs-smaller c = sub_takes c.subs.count c.subs.self.rest.now c.in_ok-subs.field-0 c.sub.new.self.rest.now (sym c.subs-test.ensures.stood) (rw (sym c.subs-test.ensures.rest) c.in_ok-subs.ensures.sub)
+subs-smaller c = item_takes (codes "-") (sub c.subs.count) c.subs.self.rest.now c.in_ok-subs.field-0 c.sub.new.self.rest.now (sym c.subs-test.ensures.stood) (rw (sym c.subs-test.ensures.rest) c.in_ok-subs.ensures.sub)
 
 pub subs-preserved : goal.subs-preserved
 subs-preserved c =
@@ -21,7 +24,7 @@ subs-preserved c =
     let counted : length (take c.subs.count c.subs.subs) ≡ c.subs.count = length-take-le c.subs.count c.subs.subs (omega arith) in
     record {
       reached = rw (take-set_at c.subs.subs c.subs.count (c.subs.count + 1) c.in_ok-subs.field-0 refl (omega arith))
-          (subs_more c.args.self.now.rest.now (take c.subs.count c.subs.subs) c.subs.self.rest.now c.in_ok-subs.field-0 c.sub.new.self.rest.now c.subs.invariant.reached (sym c.subs-test.ensures.stood)
+          (item_more c.subs.invariant.reached (sym c.subs-test.ensures.stood)
           (rw (counted, sym c.subs-test.ensures.rest) c.in_ok-subs.ensures.sub));
       room = search (rules, arith);
       few = omega arith;
@@ -34,4 +37,4 @@ sid_of_front-requires-clause-some c = at_least_one c.subs.count c.subs.self.rest
 pub returns : goal.returns
 returns c =
     rw (c.sid_of_front.ensures, c.subs-test.ensures.rest)
-    (subs_end c.args.authority c.args.self.now.rest.now (take c.subs.count c.subs.subs) c.subs.self.rest.now (sym c.if-not-begins.ensures.value) c.subs.invariant.reached (sym c.subs-test.ensures.stood))
+    (subs_end c.args.authority (sym c.if-not-begins.ensures.value) c.subs.invariant.reached (sym c.subs-test.ensures.stood))
