@@ -1,7 +1,6 @@
 //! The lines of `lint`: what stands in a descriptor that its author may not have meant.
 ghost use Rattle.std.specs.Prelude.{◌≡◌, ◌<◌, ◌^◌, ◌++◌, IfOk, IfSome, OnOk, length, position, string_bytes};
 ghost use Rattle.sd_acl.specs.Descriptor.{descriptor_of};
-ghost use Rattle.sd_sid.specs.Mask.{holds};
 ghost use Rattle.sd_check.specs.Check.{is_limit};
 ghost use Rattle.sd_answer.specs.Lint.{AreListLines, IsLintText, entry_head, entry_lines, is_misplaced, is_repeated};
 ghost use Rattle.sd_answer.specs.Lint.{is_stranded, is_useless, list_lines, same_kind, where_behind, where_so};
@@ -161,25 +160,12 @@ fn push_behind(
     requires { IfSome earlier (λ place. place < 2 ^ 63) }
     ensures { OnOk result (string_bytes text.new ≡ string_bytes text.old ++ where_behind earlier head.now what.now) }
 {
-    let line = behind_line(alloc, earlier, head, what)?;
-    text.push_str(line.as_str())
-}
-
-fn behind_line(
-    alloc: Global,
-    earlier: Option<usize>,
-    head: &str,
-    what: &str,
-) -> Result<String, AllocError>
-    requires { IfSome earlier (λ place. place < 2 ^ 63) }
-    ensures { IfOk result (λ text. string_bytes text ≡ where_behind earlier head.now what.now) }
-{
     match earlier {
-        None => Ok(String::new(alloc)),
+        None => Ok(()),
         Some(earlier) => {
             let number = earlier + 1;
             let line = format!(in alloc; "{head}{what}{number}\n")?;
-            Ok(line)
+            text.push_str(line.as_str())
         }
     }
 }
@@ -236,21 +222,9 @@ fn same_kind(later: AceKind, earlier: AceKind) -> bool
 fn is_stranded(entry: &Ace) -> bool
     ensures { result ≡ is_stranded entry.now }
 {
-    entry.is_inherit_only() && !goes_to_objects(entry) && !goes_to_containers(entry)
-}
-
-/// OBJECT_INHERIT_ACE.
-fn goes_to_objects(entry: &Ace) -> bool
-    ensures { result ≡ holds entry.now.flags.0 0 }
-{
-    entry.flags.contains(AceFlags::OI)
-}
-
-/// CONTAINER_INHERIT_ACE.
-fn goes_to_containers(entry: &Ace) -> bool
-    ensures { result ≡ holds entry.now.flags.0 1 }
-{
-    entry.flags.contains(AceFlags::CI)
+    let to_objects = entry.flags.contains(AceFlags::OI);
+    let to_containers = entry.flags.contains(AceFlags::CI);
+    entry.is_inherit_only() && !to_objects && !to_containers
 }
 
 /// Whether the entry is effective and for OWNER RIGHTS, so that it limits the owner ([MS-DTYP] 2.5.3.2).
