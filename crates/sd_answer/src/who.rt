@@ -1,13 +1,14 @@
 //! The rights that `who` is asked about, and its lines: rights, and whom they are granted to.
-ghost use Rattle.std.specs.Prelude.{◌≡◌, ◌++◌, IfOk, OnOk, List, codes, fold, string_bytes, take};
+ghost use Rattle.std.specs.Prelude.{◌≡◌, ◌++◌, [], IfOk, OnOk, List, codes, fold, string_bytes, take};
+ghost use Rattle.std.specs.List.{flat_map};
 ghost use Rattle.sd_text.specs.Canon.{full_canon};
 ghost use Rattle.sd_analysis.specs.declared.who_has.Alternative.{Alternative as AlternativeValue};
-ghost use Rattle.sd_answer.specs.Lines.{LineValue, joined, values};
-ghost use Rattle.sd_answer.specs.Who.{alternative_text, holder_text, rights_asked, sids_text, unless_text, who_text};
+ghost use Rattle.sd_answer.specs.Lines.{LineValue, joined, sid_text, values};
+ghost use Rattle.sd_answer.specs.Who.{alternative_text, holder_text, rights_asked, unless_text, who_text};
 ghost use Rattle.sd_answer.specs.Who.{with_access};
 
 use crate::answer::Spelling;
-use crate::lines::{BitsLine, join, push_lines};
+use crate::lines::{BitsLine, LineHead, join, push_sid};
 use sd_analysis::{Access, Alternative, Holder};
 use sd_check::MAXIMUM_PLACE;
 use sd_sid::{GenericMapping, Mask, OBJECT_RIGHTS, Sid};
@@ -40,7 +41,13 @@ pub fn who_text(
         join_access(alloc, &mut lines, access)?;
     }
     let mut text = String::new(alloc);
-    push_lines(alloc, &mut text, spelling, "", &lines)?;
+    let head = "";
+    LineHead {
+        alloc,
+        spelling,
+        head,
+    }
+    .push_lines(&mut text, &lines)?;
     Ok(text)
 }
 
@@ -131,14 +138,11 @@ fn unless_text(alloc: Global, sids: &[Sid]) -> Result<String, AllocError>
     Ok(text)
 }
 
-/// Adds SIDs in full, each after a space ([MS-DTYP] 2.4.2.1).
 fn push_sids(alloc: Global, text: &mut String, sids: &[Sid]) -> Result<(), AllocError>
-    ensures { OnOk result (string_bytes text.new ≡ string_bytes text.old ++ sids_text sids.now) }
+    ensures { OnOk result (string_bytes text.new ≡ string_bytes text.old ++ flat_map (sid_text []) sids.now) }
 {
     for sid in sids {
-        let sid = print_full_sid(alloc, sid)?;
-        text.push_str(" ")?;
-        text.push_str(sid.as_str())?;
+        push_sid(alloc, text, sid, "")?;
     }
     Ok(())
 }

@@ -91,7 +91,7 @@ impl Listed<'_> {
         }
     }
 
-    /// Why, in words.
+    /// Why, in words; of a restricted token, each pass by itself.
     fn cause_text(&self, cause: Cause) -> Result<String, AllocError>
         ensures { IfOk result (λ text. string_bytes text
             ≡ cause_text self.now.spelling self.now.owner.now self.now.entries.now cause) }
@@ -99,7 +99,13 @@ impl Listed<'_> {
         match cause {
             Cause::NoList => String::from_str(self.alloc, "without a list"),
             Cause::Listed(finding) => self.finding_text(finding),
-            Cause::Restricted(first, second) => self.restricted_text(first, second),
+            Cause::Restricted(first, second) => {
+                let first = self.finding_text(first)?;
+                let second = self.finding_text(second)?;
+                let (first, second) = (first.as_str(), second.as_str());
+                let text = format!(in self.alloc; "{first}, restricted {second}")?;
+                Ok(text)
+            }
             Cause::Owner => String::from_str(self.alloc, "to the owner"),
             Cause::TakeOwnership => String::from_str(self.alloc, "by SeTakeOwnershipPrivilege"),
             Cause::Security => String::from_str(self.alloc, "by SeSecurityPrivilege"),
@@ -107,18 +113,6 @@ impl Listed<'_> {
             Cause::BeyondAll => String::from_str(self.alloc, "beyond GENERIC_ALL"),
             Cause::Reserved => String::from_str(self.alloc, "as reserved"),
         }
-    }
-
-    /// Of a restricted token, each pass by itself.
-    fn restricted_text(&self, first: Finding, second: Finding) -> Result<String, AllocError>
-        ensures { IfOk result (λ text. string_bytes text
-            ≡ cause_text self.now.spelling self.now.owner.now self.now.entries.now (Cause.Restricted first second)) }
-    {
-        let first = self.finding_text(first)?;
-        let second = self.finding_text(second)?;
-        let (first, second) = (first.as_str(), second.as_str());
-        let text = format!(in self.alloc; "{first}, restricted {second}")?;
-        Ok(text)
     }
 
     /// What a pass found.
