@@ -170,8 +170,8 @@ fn push_behind(
     }
 }
 
-/// The first entry behind which this one is out of order.
-fn first_misplaced(before: &[Ace], entry: &Ace) -> Option<usize>
+/// The first of the entries before this one behind which it is out of canonical order ([MS-DTYP] 2.4.5).
+pub fn first_misplaced(before: &[Ace], entry: &Ace) -> Option<usize>
     ensures first { result ≡ position (is_misplaced entry.now) before.now }
     ensures low { IfSome result (λ place. place < 2 ^ 63) }
 {

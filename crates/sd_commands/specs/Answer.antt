@@ -9,10 +9,12 @@ use Rattle.sd_sid.specs.Sid.{SidValue}
 use Rattle.sd_acl.specs.Descriptor.{DescriptorValue, descriptor_of}
 use Rattle.sd_check.specs.declared.verdict.Verdict.{Verdict}
 use Rattle.sd_check.specs.declared.verdict.Verdict.TheVariants.{Granted}
-use Rattle.sd_text.specs.Grammar.{Grammar, Spells, HasFault}
+use Rattle.sd_text.specs.Fault.{StandsIn}
+use Rattle.sd_text.specs.Grammar.{Spells}
 use Rattle.sd_text.specs.Sid.{sid_text_in}
 use Rattle.sd_text.specs.Canon.{canon_in}
-use Rattle.sd_text.specs.declared.fault.TextError.TheVariants.{Fault}
+use Rattle.sd_text.specs.declared.fault.TextError.{TextError}
+use Rattle.sd_text.specs.declared.fault.TextError.TheVariants.{Fault, Memory}
 use Rattle.sd_text.specs.declared.fault.TextFault.{TextFault}
 use Rattle.sd_wire.specs.Reading.{descriptor_read}
 use Rattle.sd_wire.specs.Writing.{wire_of}
@@ -99,19 +101,18 @@ IsDone printed = IsAnswer printed [] Done
 abbrev pub IsFault : List ℕ → List ℕ → AnswerValue → Type 0
 IsFault printed told = IsAnswer printed told Refused
 
--- an argument's text has this first fault
-abbrev pub IsTextFault : {A : Type 0} → Settings → Grammar A → List ℕ → List ℕ → List ℕ → AnswerValue → Type 0
-IsTextFault settings grammar text expected argument answer =
-    (fault : TextFault) × (place : ℕ) × HasFault grammar text fault place
-    × IsFault expected (told_line argument (fault_text settings.points text fault place)) answer
+-- an argument's text has this fault first; out of memory is no answer
+abbrev pub IsFaultOf : Settings → List ℕ → List ℕ → List ℕ → TextError → AnswerValue → Type 0
+IsFaultOf settings what name text (Fault fault place) answer =
+    IsFault (fault_line what) (told_line name (fault_text settings.points text fault place)) answer
+IsFaultOf settings what name text Memory answer = ⊥
 
 -- what is answered of the mask that a text is, or its first fault
 abbrev pub AnswersOfMask : Settings → List ℕ → (ℕ → AnswerValue → Type 0) → AnswerValue → Type 0
 AnswersOfMask settings mask Answers answer =
     ((asked : ℕ) × IsMaskIn settings.spelling mask asked × Answers asked answer)
-    ⊎ ((fault : TextFault) × (place : ℕ) × IsMaskErrorIn settings.spelling mask (Fault fault place)
-    × IsFault (fault_line (codes "mask"))
-    (told_line (codes "MASK") (fault_text settings.points mask fault place)) answer)
+    ⊎ ((error : TextError) × IsMaskErrorIn settings.spelling mask error
+    × IsFaultOf settings (codes "mask") (codes "MASK") mask error answer)
 
 -- the word at the place is the first that is none, for this reason
 abbrev pub IsTokenFault : ℕ → List ℕ → List ℕ → AnswerValue → Type 0
@@ -192,11 +193,20 @@ IsVerdict settings form d token asked answer =
     (verdict_outcome (verdict d.owner (dacl_entries d.dacl) settings.mapping token asked)) answer
 
 -- the first of the words that is none, and why
-abbrev pub IsWordFault : Settings → List (List ℕ) → AnswerValue → Type 0
-IsWordFault settings words answer =
-    (place : ℕ) × IsFirstNoWord settings.aliases words place
-    × (reason : List ℕ) × IsWordReason settings.points settings.aliases (word_at words place) reason
+abbrev pub IsFirstFault : (List (List ℕ) → ℕ → Type 0) → (List ℕ → List ℕ → Type 0) → List (List ℕ) → AnswerValue
+    → Type 0
+IsFirstFault IsFirst IsReason words answer =
+    (place : ℕ) × IsFirst words place
+    × (reason : List ℕ) × IsReason (word_at words place) reason
     × IsTokenFault place (word_at words place) reason answer
+
+abbrev pub IsWordFault : Settings → List (List ℕ) → AnswerValue → Type 0
+IsWordFault settings =
+    IsFirstFault (IsFirstNoWord settings.aliases) (IsWordReason settings.points settings.aliases)
+
+abbrev pub IsGroupFault : Settings → List (List ℕ) → AnswerValue → Type 0
+IsGroupFault settings =
+    IsFirstFault (IsFirstNoGroup settings.aliases) (IsStateReason settings.points settings.aliases)
 
 -- the words make a token, for which this is the verdict; or one of them is no word
 abbrev pub AnswersWords : Settings → Form → DescriptorValue → SidValue → ℕ → List (Bor (List ℕ)) → AnswerValue → Type 0
@@ -205,17 +215,13 @@ AnswersWords settings form d user asked words answer =
     × IsVerdict settings form d token asked answer)
     ⊎ IsWordFault settings (texts words) answer
 
-abbrev pub AnswersMask : Settings → Form → DescriptorValue → SidValue → List ℕ → List (Bor (List ℕ)) → AnswerValue
-    → Type 0
-AnswersMask settings form d user mask words = AnswersOfMask settings mask
-    (λ asked. AnswersWords settings form d user asked words)
-
 abbrev pub AnswersUser : Settings → Form → List ℕ → List ℕ → List (Bor (List ℕ)) → DescriptorValue → AnswerValue
     → Type 0
 AnswersUser settings form user mask words d answer =
     ((sid : SidValue) × Spells (sid_text_in settings.aliases) user sid
-    × AnswersMask settings form d sid mask words answer)
-    ⊎ IsTextFault settings (sid_text_in settings.aliases) user (fault_line (codes "sid")) (codes "USER") answer
+    × AnswersOfMask settings mask (λ asked. AnswersWords settings form d sid asked words) answer)
+    ⊎ ((error : TextError) × StandsIn (sid_text_in settings.aliases) user error
+    × IsFaultOf settings (codes "sid") (codes "USER") user error answer)
 
 -- the arguments after the descriptor are the user, the mask and words
 abbrev pub AnswersVerdict : Settings → Form → List ℕ → List (Bor (List ℕ)) → AnswerValue → Type 0
@@ -273,13 +279,6 @@ abbrev pub AnswersFromBinary : Settings → List ℕ → AnswerValue → Type 0
 AnswersFromBinary settings written = AnswersDecoded settings written (bytes_read settings.bytes written)
 
 -- ---- whom rights are granted to, and changes
-
--- the first of the words that is no group, and why
-abbrev pub IsGroupFault : Settings → List (List ℕ) → AnswerValue → Type 0
-IsGroupFault settings words answer =
-    (place : ℕ) × IsFirstNoGroup settings.aliases words place
-    × (reason : List ℕ) × IsStateReason settings.points settings.aliases (word_at words place) reason
-    × IsTokenFault place (word_at words place) reason answer
 
 -- the words are a base, of which this is answered; or one of them is no group
 abbrev pub AnswersOfBase : Settings → List (Bor (List ℕ)) → (List (SidValue × GroupState) → AnswerValue → Type 0)

@@ -5,11 +5,11 @@ ghost use Rattle.sd_commands.specs.Answer.{IsFault, answer_of};
 ghost use Rattle.sd_commands.specs.MissingDacl.{missing_dacl, without_list};
 ghost use Rattle.sd_commands.specs.Diagnostic.{told_line};
 
-use crate::answer::{Answer, fault};
+use crate::answer::{Answered, fault};
 use crate::diagnostic::told_line;
 use crate::settings::Settings;
 use sd_acl::Dacl;
-use std::alloc::{AllocError, Global};
+use std::alloc::Global;
 
 /// What the DACL is in place of a list, where a list is required ([MS-DTYP] 2.5.3.2: without one everything is
 /// granted).
@@ -34,13 +34,9 @@ fn without_list(dacl: &Dacl) -> Option<&'static str>
 }
 
 /// The answer to the argument of this name, whose descriptor has this in place of a list.
-pub(crate) fn missing_dacl_fault(
-    alloc: Global,
-    argument: &str,
-    missing: &str,
-) -> Result<Answer, AllocError>
+pub(crate) fn missing_dacl_fault(alloc: Global, name: &str, missing: &str) -> Answered
     ensures { IfOk result
-        (λ answer. IsFault (fault_line (codes "nodacl")) (told_line argument.now missing.now) (answer_of answer)) }
+        (λ answer. IsFault (fault_line (codes "nodacl")) (told_line name.now missing.now) (answer_of answer)) }
 {
-    fault(alloc, "nodacl", told_line(alloc, argument, missing)?)
+    fault(alloc, "nodacl", told_line(alloc, name, missing)?)
 }

@@ -1,7 +1,8 @@
+-- The arguments are the mask and a base.
 use Rattle.std.proofs.Common.{inl}
 use Rattle.sd_acl.specs.Descriptor.{descriptor_of}
 use Rattle.sd_commands.specs.Answer.{answer_of}
-use Rattle.sd_commands.proofs.sort.answer_sort.Goals as goal
+use Rattle.sd_commands.proofs.settings.Command.who.Goals as goal
 
 pub returns : goal.returns
 returns c = inl (

@@ -3,7 +3,7 @@ use Rattle.std.proofs.Common.{ap₂, string_bytes, subst, ◌∙◌}
 use Rattle.std.proofs.lemmas.Result.{IfOk-weaker}
 use Rattle.sd_commands.specs.Diagnostic.{IsStateReason, told_line, word_argument}
 use Rattle.sd_commands.proofs.Arguments.{word_is}
-use Rattle.sd_commands.proofs.analysis.group_fault.Goals as goal
+use Rattle.sd_commands.proofs.settings.Command.group_fault.Goals as goal
 
 pub returns : goal.returns
 returns c =
@@ -14,6 +14,6 @@ returns c =
       place,
       c.requires.first,
       reason,
-      subst (λ word. IsStateReason c.args.settings.points c.args.settings.aliases word reason) same c.in_ok-reason.ensures,
+      subst (λ word. IsStateReason c.args.self.settings.points c.args.self.settings.aliases word reason) same c.in_ok-reason.ensures,
       (is.0, is.1 ∙ ap₂ (λ word. told_line (word_argument place word)) same c.as_str.ensures.value, is.2),
     )) c.token_fault.ensures
