@@ -46,6 +46,8 @@ use Rattle.sd_commands.specs.Diagnostic.{at_byte, fault_text, sacl_note, sddl_fa
 use Rattle.sd_commands.specs.Diagnostic.{wire_fault_text, word_argument, word_at}
 use Rattle.sd_commands.specs.Diagnostic.{IsStateReason, IsWordReason}
 use Rattle.sd_commands.specs.declared.answer.Answer.{Answer}
+use Rattle.sd_commands.specs.declared.answer.Question.{Question}
+use Rattle.sd_commands.specs.declared.answer.Question.TheVariants as asked
 use Rattle.sd_commands.specs.declared.answer.Outcome.{Outcome}
 use Rattle.sd_commands.specs.declared.answer.Outcome.TheVariants.{Done, Refused}
 use Rattle.sd_commands.specs.declared.descriptor.Given.{Given}
@@ -175,9 +177,6 @@ AnswersOfArgument argument settings written Answers answer =
     × Noting argument left_out (Answers d) answer)
     ⊎ IsRefusedArgument argument settings written answer
 
-abbrev pub AnswersOfText : Settings → List ℕ → (DescriptorValue → AnswerValue → Type 0) → AnswerValue → Type 0
-AnswersOfText = AnswersOfArgument (codes "SDDL")
-
 -- ---- verdicts
 
 -- the verdict's line, or with it the reasons
@@ -223,31 +222,16 @@ AnswersUser settings form user mask words d answer =
     ⊎ ((error : TextError) × StandsIn (sid_text_in settings.aliases) user error
     × IsFaultOf settings (codes "sid") (codes "USER") user error answer)
 
--- the arguments after the descriptor are the user, the mask and words
-abbrev pub AnswersVerdict : Settings → Form → List ℕ → List (Bor (List ℕ)) → AnswerValue → Type 0
-AnswersVerdict settings form written arguments = AnswersOfText settings written
-    (AnswersUser settings form (argument arguments 0) (argument arguments 1) (drop 2 arguments))
-
 -- ---- other forms
 
 -- the canonical text, or where masks are spelled by names, with those of their kind of object alone
 abbrev pub printed_line : Spelling → DescriptorValue → List ℕ
 printed_line spelling d = line (canon_in (right_names_of spelling) d)
 
-abbrev pub AnswersPrint : Settings → List ℕ → AnswerValue → Type 0
-AnswersPrint settings written = AnswersOfText settings written (λ d. IsDone (printed_line settings.spelling d))
-
 -- the same with the DACL in canonical order; standard error says what moved
 abbrev pub IsSorted : Settings → DescriptorValue → AnswerValue → Type 0
 IsSorted settings d = IsAnswer (printed_line settings.spelling (sorted_descriptor d))
     (move_notes settings.spelling d.dacl) Done
-
-abbrev pub AnswersSort : Settings → List ℕ → AnswerValue → Type 0
-AnswersSort settings written = AnswersOfText settings written (IsSorted settings)
-
--- the self-relative form in hexadecimal
-abbrev pub AnswersToBinary : Settings → List ℕ → AnswerValue → Type 0
-AnswersToBinary settings written = AnswersOfText settings written (λ d. IsDone (line (encode_lower (wire_of d))))
 
 -- the printed text of a descriptor, where it doesn't lack the list that is required
 abbrev pub AnswersFit : Settings → Option (List ℕ) → DescriptorValue → AnswerValue → Type 0
@@ -297,11 +281,6 @@ abbrev pub AnswersWhoMask : Settings → List ℕ → List (Bor (List ℕ)) → 
 AnswersWhoMask settings mask words d = AnswersOfMask settings mask
     (λ asked. AnswersOfBase settings words (PrintsWho settings asked d))
 
--- the arguments after the descriptor are the mask and a base
-abbrev pub AnswersWho : Settings → List ℕ → List (Bor (List ℕ)) → AnswerValue → Type 0
-AnswersWho settings written arguments = AnswersOfText settings written
-    (AnswersWhoMask settings (argument arguments 0) (drop 1 arguments))
-
 -- what tokens gain and lose is printed, or that they are the same
 abbrev pub PrintsComparison : Settings → DescriptorValue → DescriptorValue → List (SidValue × GroupState) → AnswerValue
     → Type 0
@@ -315,11 +294,6 @@ PrintsComparison settings old new base answer =
 abbrev pub AnswersNew : Settings → List ℕ → List (Bor (List ℕ)) → DescriptorValue → AnswerValue → Type 0
 AnswersNew settings new words old = AnswersOfArgument (codes "NEW") settings new
     (λ d. AnswersOfBase settings words (PrintsComparison settings old d))
-
--- the arguments after the old descriptor are the new one and a base
-abbrev pub AnswersCompare : Settings → List ℕ → List (Bor (List ℕ)) → AnswerValue → Type 0
-AnswersCompare settings old arguments = AnswersOfArgument (codes "OLD") settings old
-    (AnswersNew settings (argument arguments 0) (drop 1 arguments))
 
 -- ---- findings
 
@@ -340,11 +314,6 @@ abbrev pub PrintsFindings : Settings → DescriptorValue → List (SidValue × G
 PrintsFindings settings d base answer = (lines : List ℕ) × IsLintText settings.mapping settings.spelling base d lines
     × IsLinted (lines ++ risk_lines settings d base) answer
 
--- the arguments after the descriptor are a base
-abbrev pub AnswersLint : Settings → List ℕ → List (Bor (List ℕ)) → AnswerValue → Type 0
-AnswersLint settings written words = AnswersOfText settings written
-    (λ d. AnswersOfBase settings words (PrintsFindings settings d))
-
 -- ---- rights
 
 -- the mask's rights by name
@@ -353,15 +322,35 @@ AnswersRights settings mask = AnswersOfMask settings mask (λ asked. IsDone (rig
 
 -- ---- commands
 
+-- what is answered of a descriptor, where these are the arguments after it: the user, the mask and words; the mask and
+-- a base; the new descriptor and a base; or a base
+abbrev pub AnswersOn : Settings → Question → List (Bor (List ℕ)) → DescriptorValue → AnswerValue → Type 0
+AnswersOn settings asked.Verdict arguments d =
+    AnswersUser settings Short (argument arguments 0) (argument arguments 1) (drop 2 arguments) d
+AnswersOn settings asked.Why arguments d =
+    AnswersUser settings Explained (argument arguments 0) (argument arguments 1) (drop 2 arguments) d
+AnswersOn settings asked.Who arguments d = AnswersWhoMask settings (argument arguments 0) (drop 1 arguments) d
+AnswersOn settings asked.Compare arguments d = AnswersNew settings (argument arguments 0) (drop 1 arguments) d
+AnswersOn settings asked.Lint arguments d = AnswersOfBase settings arguments (PrintsFindings settings d)
+AnswersOn settings asked.Print arguments d = IsDone (printed_line settings.spelling d)
+AnswersOn settings asked.Sort arguments d = IsSorted settings d
+-- the self-relative form in hexadecimal
+AnswersOn settings asked.ToBinary arguments d = IsDone (line (encode_lower (wire_of d)))
+
+abbrev pub AnswersOfText : Settings → List ℕ → Question → List (Bor (List ℕ)) → AnswerValue → Type 0
+AnswersOfText settings written question arguments =
+    AnswersOfArgument (codes "SDDL") settings written (AnswersOn settings question arguments)
+
 -- what a command answers to a text and the arguments after it
 abbrev pub AnswersQuestion : Settings → TextCommand → List ℕ → List (Bor (List ℕ)) → AnswerValue → Type 0
-AnswersQuestion settings questions.Verdict text arguments answer = AnswersVerdict settings Short text arguments answer
-AnswersQuestion settings questions.Why text arguments answer = AnswersVerdict settings Explained text arguments answer
-AnswersQuestion settings questions.Who text arguments answer = AnswersWho settings text arguments answer
-AnswersQuestion settings questions.Compare text arguments answer = AnswersCompare settings text arguments answer
-AnswersQuestion settings questions.Lint text arguments answer = AnswersLint settings text arguments answer
-AnswersQuestion settings questions.Print text arguments answer = AnswersPrint settings text answer
-AnswersQuestion settings questions.Sort text arguments answer = AnswersSort settings text answer
-AnswersQuestion settings questions.ToBinary text arguments answer = AnswersToBinary settings text answer
-AnswersQuestion settings questions.FromBinary text arguments answer = AnswersFromBinary settings text answer
-AnswersQuestion settings questions.Rights text arguments answer = AnswersRights settings text answer
+AnswersQuestion settings questions.Verdict text arguments = AnswersOfText settings text asked.Verdict arguments
+AnswersQuestion settings questions.Why text arguments = AnswersOfText settings text asked.Why arguments
+AnswersQuestion settings questions.Who text arguments = AnswersOfText settings text asked.Who arguments
+AnswersQuestion settings questions.Compare text arguments =
+    AnswersOfArgument (codes "OLD") settings text (AnswersOn settings asked.Compare arguments)
+AnswersQuestion settings questions.Lint text arguments = AnswersOfText settings text asked.Lint arguments
+AnswersQuestion settings questions.Print text arguments = AnswersOfText settings text asked.Print arguments
+AnswersQuestion settings questions.Sort text arguments = AnswersOfText settings text asked.Sort arguments
+AnswersQuestion settings questions.ToBinary text arguments = AnswersOfText settings text asked.ToBinary arguments
+AnswersQuestion settings questions.FromBinary text arguments = AnswersFromBinary settings text
+AnswersQuestion settings questions.Rights text arguments = AnswersRights settings text

@@ -5,7 +5,7 @@ ghost use Rattle.sd_analysis.specs.Sufficient.{parts_of};
 ghost use Rattle.sd_answer.specs.Word.{IsFirstNoGroup, texts};
 ghost use Rattle.sd_check.specs.Check.{dacl_entries, entries_of};
 ghost use Rattle.sd_commands.specs.Analysis.{compare_outcome, parts_in};
-ghost use Rattle.sd_commands.specs.Answer.{AnswersCompare, AnswersNew, AnswersOfBase, AnswersWho, AnswersWhoMask};
+ghost use Rattle.sd_commands.specs.Answer.{AnswersNew, AnswersOfBase, AnswersWhoMask};
 ghost use Rattle.sd_commands.specs.Answer.{IsGroupFault, PrintsComparison, PrintsWho, answer_of, argument};
 
 use crate::answer::{Answer, Answered, Outcome};
@@ -20,20 +20,9 @@ use sd_sid::{Mask, Sid};
 use std::alloc::AllocError;
 
 impl Command {
-    /// Whom rights are granted to by a descriptor's text, where the mask and the base are the arguments after it; or
-    /// the fault of the first from the left that is invalid.
-    pub(crate) fn who(self, sddl: &str, arguments: &[&str]) -> Answered
-        ensures { IfOk result (λ answer. AnswersWho self.settings sddl.now arguments.now (answer_of answer)) }
-    {
-        let read = match self.read_argument("SDDL", sddl)? {
-            Given::Descriptor(read) => read,
-            Given::Refused(answer) => return Ok(answer),
-        };
-        let answer = self.who_on(&read.descriptor, arguments)?;
-        Ok(noting(self.alloc, "SDDL", read.left_out, answer)?)
-    }
-
-    fn who_on(self, descriptor: &Descriptor, arguments: &[&str]) -> Answered
+    /// Whom rights are granted to by a descriptor, where the mask and the base are the arguments; or the fault of the
+    /// first from the left that is invalid.
+    pub(crate) fn who(self, descriptor: &Descriptor, arguments: &[&str]) -> Answered
         ensures { IfOk result (λ answer. AnswersWhoMask self.settings (argument arguments.now 0)
             (drop 1 arguments.now) (descriptor_of descriptor.now) (answer_of answer)) }
     {
@@ -79,19 +68,8 @@ impl Command {
     }
 
     /// What tokens gain and lose where the new descriptor takes the place of the old one, where the new one and the
-    /// base are the arguments after the old one; or the fault of the first from the left that is invalid.
-    pub(crate) fn compare(self, old: &str, arguments: &[&str]) -> Answered
-        ensures { IfOk result (λ answer. AnswersCompare self.settings old.now arguments.now (answer_of answer)) }
-    {
-        let read = match self.read_argument("OLD", old)? {
-            Given::Descriptor(read) => read,
-            Given::Refused(answer) => return Ok(answer),
-        };
-        let answer = self.compare_with(&read.descriptor, arguments)?;
-        Ok(noting(self.alloc, "OLD", read.left_out, answer)?)
-    }
-
-    fn compare_with(self, old: &Descriptor, arguments: &[&str]) -> Answered
+    /// base are the arguments; or the fault of the first from the left that is invalid.
+    pub(crate) fn compare(self, old: &Descriptor, arguments: &[&str]) -> Answered
         ensures { IfOk result (λ answer. AnswersNew self.settings (argument arguments.now 0) (drop 1 arguments.now)
             (descriptor_of old.now) (answer_of answer)) }
     {

@@ -1,13 +1,16 @@
 //! The answer to a command about a descriptor: what is printed, and whether that is what was asked for.
 ghost use Rattle.std.specs.Prelude.{◌≡◌, ◌<◌, ◌^◌, [], IfOk, string_bytes};
 ghost use Rattle.sd_answer.specs.Answer.{fault_line, sddl_fault_line};
-ghost use Rattle.sd_commands.specs.Answer.{AnswersQuestion, IsAnswer, IsDone, IsFault, IsFaultOf};
-ghost use Rattle.sd_commands.specs.Answer.{IsTokenFault, answer_of, is_refusal, outcome_status};
+ghost use Rattle.sd_acl.specs.Descriptor.{descriptor_of};
+ghost use Rattle.sd_commands.specs.Answer.{AnswersOfArgument, AnswersOn, AnswersQuestion, IsAnswer, IsDone, IsFault};
+ghost use Rattle.sd_commands.specs.Answer.{IsFaultOf, IsTokenFault, answer_of, is_refusal, outcome_status};
 ghost use Rattle.sd_commands.specs.Diagnostic.{sddl_fault_text, told_line};
 
+use crate::descriptor::{Given, noting};
 use crate::diagnostic::{fault_text, sddl_fault_text, told_line, word_argument};
 use crate::settings::{Command, Settings};
 use crate::verdict::Form;
+use sd_acl::Descriptor;
 use sd_answer::{fault_line, sddl_fault_line};
 use sd_text::{TextError, TextFault};
 use sd_usage::TextCommand;
@@ -87,17 +90,31 @@ pub fn answer_question(
 {
     let command = Command { alloc, settings };
     match question {
-        TextCommand::Verdict => command.verdict(Form::Short, text, arguments),
-        TextCommand::Why => command.verdict(Form::Explained, text, arguments),
-        TextCommand::Who => command.who(text, arguments),
-        TextCommand::Compare => command.compare(text, arguments),
-        TextCommand::Lint => command.lint(text, arguments),
-        TextCommand::Print => command.print(text),
-        TextCommand::Sort => command.sort(text),
-        TextCommand::ToBinary => command.to_binary(text),
+        TextCommand::Verdict => command.answer("SDDL", text, Question::Verdict, arguments),
+        TextCommand::Why => command.answer("SDDL", text, Question::Why, arguments),
+        TextCommand::Who => command.answer("SDDL", text, Question::Who, arguments),
+        TextCommand::Compare => command.answer("OLD", text, Question::Compare, arguments),
+        TextCommand::Lint => command.answer("SDDL", text, Question::Lint, arguments),
+        TextCommand::Print => command.answer("SDDL", text, Question::Print, arguments),
+        TextCommand::Sort => command.answer("SDDL", text, Question::Sort, arguments),
+        TextCommand::ToBinary => command.answer("SDDL", text, Question::ToBinary, arguments),
         TextCommand::FromBinary => command.from_binary(text),
         TextCommand::Rights => command.rights(text),
     }
+}
+
+/// What is asked of a descriptor.
+#[derive(Clone, Copy, Debug, PartialEq, Eq)]
+pub(crate) enum Question {
+    Verdict,
+    /// The verdict, and the reason of each bit.
+    Why,
+    Who,
+    Compare,
+    Lint,
+    Print,
+    Sort,
+    ToBinary,
 }
 
 /// The answer to an argument that isn't read: what it should have been, and what is told of it. The only error is out
@@ -113,6 +130,36 @@ pub fn fault(alloc: Global, what: &str, told: String) -> Result<Answer, AllocErr
 }
 
 impl Command {
+    /// The answer to a question about the descriptor that the argument of this name is, or the first fault of this
+    /// argument and of those after it.
+    fn answer(self, name: &str, sddl: &str, question: Question, arguments: &[&str]) -> Answered
+        ensures { IfOk result (λ answer. AnswersOfArgument name.now self.settings sddl.now
+            (AnswersOn self.settings question arguments.now) (answer_of answer)) }
+    {
+        let read = match self.read_argument(name, sddl)? {
+            Given::Descriptor(read) => read,
+            Given::Refused(answer) => return Ok(answer),
+        };
+        let answer = self.answer_on(question, &read.descriptor, arguments)?;
+        Ok(noting(self.alloc, name, read.left_out, answer)?)
+    }
+
+    fn answer_on(self, question: Question, on: &Descriptor, arguments: &[&str]) -> Answered
+        ensures { IfOk result (λ answer. AnswersOn self.settings question arguments.now (descriptor_of on.now)
+            (answer_of answer)) }
+    {
+        match question {
+            Question::Verdict => self.verdict(Form::Short, on, arguments),
+            Question::Why => self.verdict(Form::Explained, on, arguments),
+            Question::Who => self.who(on, arguments),
+            Question::Compare => self.compare(on, arguments),
+            Question::Lint => self.lint(on, arguments),
+            Question::Print => self.print(on),
+            Question::Sort => self.sort(on),
+            Question::ToBinary => self.to_binary(on),
+        }
+    }
+
     /// The answer to words of which the one at the place is the first that is none, for this reason.
     pub(crate) fn token_fault(self, place: usize, word: &str, reason: &str) -> Answered
         requires { place < 2 ^ 63 }

@@ -1,15 +1,17 @@
 //! The answers to `print`, `tobin` and `frombin`: a descriptor in another form.
 ghost use Rattle.std.specs.Prelude.{IfOk, codes, string_bytes};
 ghost use Rattle.sd_acl.specs.Descriptor.{descriptor_of};
+ghost use Rattle.hex.specs.Hex.{encode_lower};
+ghost use Rattle.sd_wire.specs.Writing.{wire_of};
 ghost use Rattle.sd_answer.specs.Answer.{line};
 ghost use Rattle.sd_commands.specs.Diagnostic.{told_line, told_wire_fault};
-ghost use Rattle.sd_commands.specs.Answer.{AnswersPrint, AnswersToBinary, AnswersFromBinary, AnswersBytes, AnswersFit};
+ghost use Rattle.sd_commands.specs.Answer.{AnswersBytes, AnswersFit, AnswersFromBinary};
 ghost use Rattle.sd_commands.specs.Answer.{AnswersHeld, IsDone, IsFault, answer_of, printed_line, wire_fault_line};
 ghost use Rattle.sd_commands.specs.MissingDacl.{missing_dacl};
 
 use crate::answer::{Answer, Answered, Outcome, fault};
 use crate::bytes::{BytesError, leave_out_sacl, read_bytes};
-use crate::descriptor::{Given, noting};
+use crate::descriptor::noting;
 use crate::diagnostic::{text_at_byte, told_line};
 use crate::kinds::wire_kind_note;
 use crate::missing_dacl::{missing_dacl, missing_dacl_fault};
@@ -20,20 +22,8 @@ use sd_wire::{WireError, WireFault, read_descriptor, write_descriptor};
 use std::alloc::{AllocError, Global};
 
 impl Command {
-    /// The printed text of a descriptor's text.
-    pub(crate) fn print(self, sddl: &str) -> Answered
-        ensures { IfOk result (λ answer. AnswersPrint self.settings sddl.now (answer_of answer)) }
-    {
-        let read = match self.read_argument("SDDL", sddl)? {
-            Given::Descriptor(read) => read,
-            Given::Refused(answer) => return Ok(answer),
-        };
-        let answer = self.printed_sddl(&read.descriptor)?;
-        Ok(noting(self.alloc, "SDDL", read.left_out, answer)?)
-    }
-
     /// A descriptor's text: the canonical one, or where masks are spelled by names, with those of their kind of object.
-    fn printed_sddl(self, descriptor: &Descriptor) -> Answered
+    pub(crate) fn print(self, descriptor: &Descriptor) -> Answered
         ensures { IfOk result (λ answer. IsDone (printed_line self.settings.spelling (descriptor_of descriptor.now))
             (answer_of answer)) }
     {
@@ -41,17 +31,13 @@ impl Command {
         printed(self.alloc, print_sddl_in(self.alloc, names, descriptor)?)
     }
 
-    /// The self-relative form of a descriptor's text, in hexadecimal.
-    pub(crate) fn to_binary(self, sddl: &str) -> Answered
-        ensures { IfOk result (λ answer. AnswersToBinary self.settings sddl.now (answer_of answer)) }
+    /// The self-relative form of a descriptor, in hexadecimal.
+    pub(crate) fn to_binary(self, descriptor: &Descriptor) -> Answered
+        ensures { IfOk result (λ answer. IsDone (line (encode_lower (wire_of (descriptor_of descriptor.now))))
+            (answer_of answer)) }
     {
-        let read = match self.read_argument("SDDL", sddl)? {
-            Given::Descriptor(read) => read,
-            Given::Refused(answer) => return Ok(answer),
-        };
-        let bytes = write_descriptor(self.alloc, &read.descriptor)?;
-        let answer = printed(self.alloc, hex::encode(self.alloc, bytes.as_slice())?)?;
-        Ok(noting(self.alloc, "SDDL", read.left_out, answer)?)
+        let bytes = write_descriptor(self.alloc, descriptor)?;
+        printed(self.alloc, hex::encode(self.alloc, bytes.as_slice())?)
     }
 
     /// The printed text of the self-relative form, whose bytes the text spells.
@@ -99,7 +85,7 @@ impl Command {
             (descriptor_of descriptor.now) (answer_of answer)) }
     {
         match missing_dacl(self.settings, &descriptor.dacl) {
-            None => self.printed_sddl(descriptor),
+            None => self.print(descriptor),
             Some(missing) => missing_dacl_fault(self.alloc, "BYTES", missing),
         }
     }

@@ -1,10 +1,9 @@
 //! The answer to `lint`: what stands in a descriptor that its author may not have meant.
 ghost use Rattle.std.specs.Prelude.{IfOk, string_bytes};
 ghost use Rattle.sd_acl.specs.Descriptor.{descriptor_of};
-ghost use Rattle.sd_commands.specs.Answer.{AnswersLint, AnswersOfBase, IsLinted, PrintsFindings, answer_of};
+ghost use Rattle.sd_commands.specs.Answer.{AnswersOfBase, IsLinted, PrintsFindings, answer_of};
 
 use crate::answer::{Answer, Answered, Outcome};
-use crate::descriptor::{Given, noting};
 use crate::risks::risk_lines;
 use crate::settings::Command;
 use sd_acl::Descriptor;
@@ -15,20 +14,9 @@ use sd_sid::Sid;
 use std::alloc::{AllocError, Global};
 
 impl Command {
-    /// The findings in a descriptor's text, or `clean`, where each token has the base that the words are; or the fault
-    /// of the first argument from the left that is invalid.
-    pub(crate) fn lint(self, sddl: &str, words: &[&str]) -> Answered
-        ensures { IfOk result (λ answer. AnswersLint self.settings sddl.now words.now (answer_of answer)) }
-    {
-        let read = match self.read_argument("SDDL", sddl)? {
-            Given::Descriptor(read) => read,
-            Given::Refused(answer) => return Ok(answer),
-        };
-        let answer = self.lint_with_base(&read.descriptor, words)?;
-        Ok(noting(self.alloc, "SDDL", read.left_out, answer)?)
-    }
-
-    fn lint_with_base(self, descriptor: &Descriptor, words: &[&str]) -> Answered
+    /// The findings in a descriptor, or `clean`, where each token has the base that the words are; or the fault of the
+    /// first word that is invalid.
+    pub(crate) fn lint(self, descriptor: &Descriptor, words: &[&str]) -> Answered
         ensures { IfOk result (λ answer. AnswersOfBase self.settings words.now
             (PrintsFindings self.settings (descriptor_of descriptor.now)) (answer_of answer)) }
     {

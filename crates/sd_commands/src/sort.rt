@@ -2,11 +2,10 @@
 ghost use Rattle.std.specs.Prelude.{◌≡◌, ◌<◌, IfOk, length, string_bytes};
 ghost use Rattle.sd_acl.specs.Ace.{acl_size_of};
 ghost use Rattle.sd_acl.specs.Descriptor.{descriptor_of};
-ghost use Rattle.sd_commands.specs.Answer.{AnswersSort, IsSorted, answer_of};
+ghost use Rattle.sd_commands.specs.Answer.{IsSorted, answer_of};
 ghost use Rattle.sd_commands.specs.Sort.{move_notes, note_of, notes_below, sorted, sorted_dacl, sorted_descriptor};
 
 use crate::answer::{Answer, Answered, Outcome};
-use crate::descriptor::{Given, noting};
 use crate::diagnostic::told_line;
 use crate::settings::Command;
 use sd_acl::{Ace, AceList, Dacl, Descriptor, canonicalize};
@@ -15,19 +14,8 @@ use sd_text::{print_entry_in, print_sddl_in};
 use std::alloc::{AllocError, Global};
 
 impl Command {
-    /// The canonical text of a descriptor's text with its DACL in canonical order ([MS-DTYP] 2.4.5).
-    pub(crate) fn sort(self, sddl: &str) -> Answered
-        ensures { IfOk result (λ answer. AnswersSort self.settings sddl.now (answer_of answer)) }
-    {
-        let read = match self.read_argument("SDDL", sddl)? {
-            Given::Descriptor(read) => read,
-            Given::Refused(answer) => return Ok(answer),
-        };
-        let answer = self.sorted_answer(&read.descriptor)?;
-        Ok(noting(self.alloc, "SDDL", read.left_out, answer)?)
-    }
-
-    fn sorted_answer(self, descriptor: &Descriptor) -> Answered
+    /// The canonical text of a descriptor with its DACL in canonical order ([MS-DTYP] 2.4.5).
+    pub(crate) fn sort(self, descriptor: &Descriptor) -> Answered
         ensures { IfOk result (λ answer. IsSorted self.settings (descriptor_of descriptor.now) (answer_of answer)) }
     {
         let (alloc, spelling) = (self.alloc, self.settings.spelling);

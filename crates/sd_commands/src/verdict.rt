@@ -2,11 +2,10 @@
 ghost use Rattle.std.specs.Prelude.{◌≡◌, ◌<◌, IfOk, drop, length};
 ghost use Rattle.sd_acl.specs.Descriptor.{descriptor_of};
 ghost use Rattle.sd_answer.specs.Word.{IsFirstNoWord, texts};
-ghost use Rattle.sd_commands.specs.Answer.{AnswersUser, AnswersVerdict, IsVerdict, IsWordFault, answer_of, argument};
+ghost use Rattle.sd_commands.specs.Answer.{AnswersUser, IsVerdict, IsWordFault, answer_of, argument};
 ghost use Rattle.sd_commands.specs.Answer.{verdict_outcome};
 
 use crate::answer::{Answer, Answered, Outcome};
-use crate::descriptor::{Given, noting};
 use crate::settings::Command;
 use crate::words::{argument, arguments_from};
 use sd_acl::Descriptor;
@@ -26,21 +25,9 @@ pub(crate) enum Form {
 }
 
 impl Command {
-    /// The verdict on a descriptor's text, where the user, the mask and words are the arguments after it; or the fault
-    /// of the first from the left that is invalid.
-    pub(crate) fn verdict(self, form: Form, sddl: &str, arguments: &[&str]) -> Answered
-        ensures { IfOk result
-            (λ answer. AnswersVerdict self.settings form sddl.now arguments.now (answer_of answer)) }
-    {
-        let read = match self.read_argument("SDDL", sddl)? {
-            Given::Descriptor(read) => read,
-            Given::Refused(answer) => return Ok(answer),
-        };
-        let answer = self.verdict_on(form, &read.descriptor, arguments)?;
-        Ok(noting(self.alloc, "SDDL", read.left_out, answer)?)
-    }
-
-    fn verdict_on(self, form: Form, descriptor: &Descriptor, arguments: &[&str]) -> Answered
+    /// The verdict on a descriptor, where the user, the mask and words are the arguments; or the fault of the first from
+    /// the left that is invalid.
+    pub(crate) fn verdict(self, form: Form, descriptor: &Descriptor, arguments: &[&str]) -> Answered
         ensures { IfOk result (λ answer. AnswersUser self.settings form (argument arguments.now 0)
             (argument arguments.now 1) (drop 2 arguments.now) (descriptor_of descriptor.now) (answer_of answer)) }
     {

@@ -1,13 +1,25 @@
--- The arguments are the user, the mask and words.
-use Rattle.std.proofs.Common.{inl}
-use Rattle.sd_acl.specs.Descriptor.{descriptor_of}
-use Rattle.sd_commands.specs.Answer.{answer_of}
+use Rattle.std.proofs.Common.{inl, inr}
+use Rattle.std.proofs.lemmas.Result.{IfOk-weaker}
 use Rattle.sd_commands.proofs.settings.Command.verdict.Goals as goal
 
-pub returns : goal.returns
-returns c = inl (
-  descriptor_of c.in-Descriptor.read.descriptor,
-  c.in-Descriptor.read.left_out,
-  rw c.in-Descriptor.is at c.in_ok-read.ensures,
-  (answer_of c.in_ok-answer.answer, c.in_ok-noting.ensures, c.in_ok-answer.ensures),
-)
+pub returns-in-Ok-read_token : goal.returns-in-Ok-read_token
+returns-in-Ok-read_token c = IfOk-weaker c.verdict_for.result _ _ (λ answer is. inl (
+  c.in-Ok.sid,
+  rw c.argument-user.ensures at c.in-Ok.ensures.value,
+  inl (
+    c.in-Ok-read_mask_in.asked,
+    rw c.argument-mask.ensures at c.in-Ok-read_mask_in.ensures.value,
+    inl (c.in-Ok-read_token.token, rw c.arguments_from-words.ensures at c.in-Ok-read_token.ensures.token, is),
+  ),
+)) c.verdict_for.ensures
+
+pub returns-in-Err-NoWord : goal.returns-in-Err-NoWord
+returns-in-Err-NoWord c = IfOk-weaker c.word_fault.result _ _ (λ answer is. inl (
+  c.in-Ok.sid,
+  rw c.argument-user.ensures at c.in-Ok.ensures.value,
+  inl (
+    c.in-Ok-read_mask_in.asked,
+    rw c.argument-mask.ensures at c.in-Ok-read_mask_in.ensures.value,
+    inr (rw c.arguments_from-words.ensures at is),
+  ),
+)) c.word_fault.ensures

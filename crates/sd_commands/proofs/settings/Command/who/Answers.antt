@@ -1,13 +1,10 @@
--- The arguments are the mask and a base.
-use Rattle.std.proofs.Common.{inl}
-use Rattle.sd_acl.specs.Descriptor.{descriptor_of}
-use Rattle.sd_commands.specs.Answer.{answer_of}
+use Rattle.std.proofs.Common.{inl, inr}
+use Rattle.std.proofs.lemmas.Result.{IfOk-weaker}
 use Rattle.sd_commands.proofs.settings.Command.who.Goals as goal
 
-pub returns : goal.returns
-returns c = inl (
-  descriptor_of c.in-Descriptor.read.descriptor,
-  c.in-Descriptor.read.left_out,
-  rw c.in-Descriptor.is at c.in_ok-read.ensures,
-  (answer_of c.in_ok-answer.answer, c.in_ok-noting.ensures, c.in_ok-answer.ensures),
-)
+pub returns-in-Err-NoWord : goal.returns-in-Err-NoWord
+returns-in-Err-NoWord c = IfOk-weaker c.group_fault.result _ _ (λ answer is. inl (
+  c.in-Ok.asked,
+  rw c.argument-mask.ensures at c.in-Ok.ensures.value,
+  inr (rw c.arguments_from-words.ensures at is),
+)) c.group_fault.ensures

@@ -1,7 +1,7 @@
 use Rattle.std.proofs.Common.{inl}
 use Rattle.sd_acl.specs.Descriptor.{descriptor_of}
 use Rattle.sd_commands.specs.Answer.{answer_of}
-use Rattle.sd_commands.proofs.settings.Command.sort.Goals as goal
+use Rattle.sd_commands.proofs.settings.Command.answer.Goals as goal
 
 pub returns : goal.returns
 returns c = inl (
