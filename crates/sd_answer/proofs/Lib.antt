@@ -4,6 +4,6 @@ pub mod Joins
 pub mod NoLines
 mod Descriptors
 mod RightNames
-mod Pluses
+pub mod Cuts
 mod WordsLeft
 mod ComeBack

@@ -1,5 +1,5 @@
 //! Lines of bits: those of which the same is said are in one, and the lines are in the order of their lowest bits.
-ghost use Rattle.std.specs.Prelude.{◌≡◌, ◌<◌, ◌++◌, OnOk, if◌then◌else◌, string_bytes};
+ghost use Rattle.std.specs.Prelude.{◌≡◌, ◌<◌, ◌++◌, OnOk, string_bytes};
 ghost use Rattle.std.specs.List.{position};
 ghost use Rattle.std.specs.Str.{bytes_eq};
 ghost use Rattle.sd_answer.specs.declared.lines.BitsLine.{BitsLine as BitsLineValue};
