@@ -2,7 +2,7 @@
 ghost use Rattle.std.specs.Prelude.{◌≡◌, IfOk, codes, option_map};
 ghost use Rattle.sd_answer.specs.Answer.{fault_line};
 ghost use Rattle.sd_commands.specs.Answer.{IsFault, answer_of};
-ghost use Rattle.sd_commands.specs.MissingDacl.{missing_dacl, without_list};
+ghost use Rattle.sd_commands.specs.MissingDacl.{missing_dacl};
 ghost use Rattle.sd_commands.specs.Diagnostic.{told_line};
 
 use crate::answer::{Answered, fault};
@@ -16,20 +16,10 @@ use std::alloc::Global;
 pub(crate) fn missing_dacl(settings: Settings, dacl: &Dacl) -> Option<&'static str>
     ensures { option_map (λ text. text.now) result ≡ missing_dacl settings.require_dacl dacl.now }
 {
-    if settings.require_dacl {
-        without_list(dacl)
-    } else {
-        None
-    }
-}
-
-fn without_list(dacl: &Dacl) -> Option<&'static str>
-    ensures { option_map (λ text. text.now) result ≡ without_list dacl.now }
-{
     match dacl {
-        Dacl::Absent => Some("no DACL"),
-        Dacl::Null => Some("a null DACL"),
-        Dacl::List(_) => None,
+        Dacl::Absent if settings.require_dacl => Some("no DACL"),
+        Dacl::Null if settings.require_dacl => Some("a null DACL"),
+        _ => None,
     }
 }
 

@@ -13,7 +13,7 @@ use sd_answer::{TokenError, read_mask_in, read_token, verdict_line, why_text};
 use sd_check::{Token, Verdict, check};
 use sd_sid::Mask;
 use sd_text::read_sid_text_in;
-use std::alloc::{AllocError, Global};
+use std::alloc::AllocError;
 
 /// What is told of a verdict.
 #[derive(Clone, Copy, Debug, PartialEq, Eq)]
