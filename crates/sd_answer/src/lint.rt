@@ -2,14 +2,14 @@
 ghost use Rattle.std.specs.Prelude.{◌≡◌, ◌<◌, ◌^◌, ◌++◌, IfOk, IfSome, OnOk, length, position, string_bytes};
 ghost use Rattle.sd_acl.specs.Descriptor.{descriptor_of};
 ghost use Rattle.sd_check.specs.Check.{is_limit};
-ghost use Rattle.sd_answer.specs.Lint.{AreListLines, IsLintText, entry_head, entry_lines, is_misplaced, is_repeated};
+ghost use Rattle.sd_answer.specs.Lint.{IsLintText, entry_head, entry_lines, is_misplaced, is_repeated};
 ghost use Rattle.sd_answer.specs.Lint.{is_stranded, is_useless, list_lines, same_kind, where_behind, where_so};
 
 use crate::answer::Spelling;
 use bitflags::Flags;
 use sd_acl::{Ace, AceFlags, AceKind, Dacl, Descriptor};
 use sd_analysis::{Base, redundant};
-use sd_sid::{GenericMapping, Sid};
+use sd_sid::GenericMapping;
 use sd_text::print_entry_in;
 use std::alloc::{AllocError, Global};
 
@@ -29,31 +29,11 @@ pub fn lint_text(
     match &descriptor.dacl {
         Dacl::Absent => String::from_str(alloc, "no DACL grants everything\n"),
         Dacl::Null => String::from_str(alloc, "a null DACL grants everything\n"),
-        Dacl::List(list) => lines_of(
-            alloc,
-            &descriptor.owner,
-            list.entries(),
-            mapping,
-            spelling,
-            base,
-        ),
+        Dacl::List(list) => {
+            let marks = redundant(alloc, descriptor.owner, list.entries(), mapping, base)?;
+            list_lines(alloc, spelling, list.entries(), &marks)
+        }
     }
-}
-
-/// The lines of a list of this owner's.
-fn lines_of(
-    alloc: Global,
-    owner: &Option<Sid>,
-    entries: &[Ace],
-    mapping: &GenericMapping,
-    spelling: Spelling,
-    base: &Base<'_>,
-) -> Result<String, AllocError>
-    ensures { IfOk result (λ text. AreListLines mapping.now spelling base.now owner.now entries.now
-        (string_bytes text)) }
-{
-    let marks = redundant(alloc, *owner, entries, mapping, base)?;
-    list_lines(alloc, spelling, entries, &marks)
 }
 
 /// The lines of these entries, of which the marks say which are redundant.
@@ -98,20 +78,11 @@ fn entry_lines(
     let head = entry_head(alloc, spelling, place, entry)?;
     let head = head.as_str();
     let misplaced = first_misplaced(&entries[..place], entry);
-    push_behind(
-        alloc,
-        &mut text,
-        misplaced,
-        head,
-        "is out of order behind entry ",
-    )?;
+    let out_of_order = "is out of order behind entry ";
+    push_behind(alloc, &mut text, misplaced, head, out_of_order)?;
     push_where(&mut text, entry.mask.is_empty(), head, "names no right")?;
-    push_where(
-        &mut text,
-        is_stranded(entry),
-        head,
-        "is inherited by nothing",
-    )?;
+    let stranded = is_stranded(entry);
+    push_where(&mut text, stranded, head, "is inherited by nothing")?;
     let repeated = first_repeated(&entries[..place], entry);
     push_behind(alloc, &mut text, repeated, head, "repeats entry ")?;
     let useless = is_useless(entry, mark);

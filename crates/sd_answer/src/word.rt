@@ -30,26 +30,6 @@ pub(crate) enum Word {
     TakeOwnership,
 }
 
-impl Word {
-    fn is_security(&self) -> bool
-        ensures { result ≡ is_security self.now }
-    {
-        match self {
-            Word::Security => true,
-            _ => false,
-        }
-    }
-
-    fn is_take_ownership(&self) -> bool
-        ensures { result ≡ is_take_ownership self.now }
-    {
-        match self {
-            Word::TakeOwnership => true,
-            _ => false,
-        }
-    }
-}
-
 /// Why there is no token.
 #[derive(Clone, Copy, Debug, PartialEq, Eq, Error)]
 pub enum TokenError {
@@ -178,13 +158,13 @@ fn token_of(alloc: Global, user: Sid, words: &[Word]) -> Result<Token, AllocErro
 fn has_security(words: &[Word]) -> bool
     ensures { result ≡ list_any is_security words.now }
 {
-    words.iter().any(|word| word.is_security())
+    words.iter().any(|word| matches!(word, Word::Security))
 }
 
 fn has_take_ownership(words: &[Word]) -> bool
     ensures { result ≡ list_any is_take_ownership words.now }
 {
-    words.iter().any(|word| word.is_take_ownership())
+    words.iter().any(|word| matches!(word, Word::TakeOwnership))
 }
 
 /// The groups among the words.

@@ -17,7 +17,7 @@ returns c =
       c.in_ok-head.ensures,
       c.first_misplaced-misplaced.ensures.first,
       c.is_empty.ensures,
-      c.is_stranded.ensures,
+      c.is_stranded-stranded.ensures,
       c.first_repeated-repeated.ensures.first,
       c.is_useless-useless.ensures,
       c.is_limit.ensures,
