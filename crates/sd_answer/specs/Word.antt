@@ -72,34 +72,26 @@ IsFirstNoGroup known = IsFirstNone (IsGroupOf known)
 -- the group that a word adds
 abbrev pub group_of : Word → List (SidValue × GroupState)
 group_of (Group sid state) = (sid, state) ∷ []
-group_of (Restricting sid) = []
-group_of Security = []
-group_of TakeOwnership = []
+group_of word = []
 
 abbrev pub groups_of : List Word → List (SidValue × GroupState)
 groups_of words = flat_map group_of words
 
 -- the restricting SID that a word adds, which is no group
 abbrev pub restricting_sid_of : Word → List SidValue
-restricting_sid_of (Group sid state) = []
 restricting_sid_of (Restricting sid) = sid ∷ []
-restricting_sid_of Security = []
-restricting_sid_of TakeOwnership = []
+restricting_sid_of word = []
 
 abbrev pub restricting_of : List Word → List SidValue
 restricting_of words = flat_map restricting_sid_of words
 
 abbrev pub is_security : Word → Bool
-is_security (Group sid state) = false
-is_security (Restricting sid) = false
 is_security Security = true
-is_security TakeOwnership = false
+is_security word = false
 
 abbrev pub is_take_ownership : Word → Bool
-is_take_ownership (Group sid state) = false
-is_take_ownership (Restricting sid) = false
-is_take_ownership Security = false
 is_take_ownership TakeOwnership = true
+is_take_ownership word = false
 
 -- the token of a user and words
 abbrev pub token_of : SidValue → List Word → TokenValue
