@@ -47,7 +47,7 @@ use Rattle.sd_commands.specs.Diagnostic.{wire_fault_text, word_argument, word_at
 use Rattle.sd_commands.specs.Diagnostic.{IsStateReason, IsWordReason}
 use Rattle.sd_commands.specs.declared.answer.Answer.{Answer}
 use Rattle.sd_commands.specs.declared.answer.Question.{Question}
-use Rattle.sd_commands.specs.declared.answer.Question.TheVariants as asked
+use Rattle.sd_commands.specs.declared.answer.Question.TheVariants as about
 use Rattle.sd_commands.specs.declared.answer.Outcome.{Outcome}
 use Rattle.sd_commands.specs.declared.answer.Outcome.TheVariants.{Done, Refused}
 use Rattle.sd_commands.specs.declared.descriptor.Given.{Given}
@@ -128,13 +128,6 @@ argument arguments place = option_map_or (λ text. text.now) (slice_get argument
 
 -- ---- a descriptor's text
 
--- the fault of the argument of this name is printed
-abbrev pub AnswersSddlFault : List ℕ → Settings → List ℕ → AnswerValue → Type 0
-AnswersSddlFault argument settings written answer =
-    (fault : TextFault) × (place : ℕ) × IsUnreadAt settings.aliases settings.without_sacl written fault place
-    × IsFault (sddl_fault_line fault place)
-    (told_line argument (sddl_fault_text settings.points written fault place)) answer
-
 -- the other answer, and where a SACL was left out, that is told first
 unfoldable pub IsNoted : List ℕ → Bool → AnswerValue → AnswerValue → Type 0
 IsNoted argument left_out inner answer = answer ≡ record inner { told = sacl_note argument left_out ++ inner.told }
@@ -151,7 +144,9 @@ IsMissingDacl argument missing answer = IsFault (fault_line (codes "nodacl")) (t
 -- the argument of this name isn't taken: the first fault of its text is printed, or that its descriptor lacks a list
 abbrev pub IsRefusedArgument : List ℕ → Settings → List ℕ → AnswerValue → Type 0
 IsRefusedArgument argument settings written answer =
-    AnswersSddlFault argument settings written answer
+    ((fault : TextFault) × (place : ℕ) × IsUnreadAt settings.aliases settings.without_sacl written fault place
+    × IsFault (sddl_fault_line fault place)
+    (told_line argument (sddl_fault_text settings.points written fault place)) answer)
     ⊎ ((d : DescriptorValue) × (left_out : Bool) × (missing : List ℕ)
     × IsRead settings.aliases settings.without_sacl written d left_out
     × (missing_dacl settings.require_dacl d.dacl ≡ Some missing)
@@ -277,10 +272,6 @@ PrintsWho settings asked d base answer =
     (accesses : List Access) × AreAccesses settings.mapping d base (rights_asked settings.mapping asked) accesses
     × IsDone (who_text settings.spelling accesses) answer
 
-abbrev pub AnswersWhoMask : Settings → List ℕ → List (Bor (List ℕ)) → DescriptorValue → AnswerValue → Type 0
-AnswersWhoMask settings mask words d = AnswersOfMask settings mask
-    (λ asked. AnswersOfBase settings words (PrintsWho settings asked d))
-
 -- what tokens gain and lose is printed, or that they are the same
 abbrev pub PrintsComparison : Settings → DescriptorValue → DescriptorValue → List (SidValue × GroupState) → AnswerValue
     → Type 0
@@ -290,10 +281,6 @@ PrintsComparison settings old new base answer =
     × AreGains settings.mapping base (parts_in new) (parts_in old) lost
     × IsAnswer (compare_text settings.spelling (parts_in old) (parts_in new) gained lost) []
     (compare_outcome gained lost) answer
-
-abbrev pub AnswersNew : Settings → List ℕ → List (Bor (List ℕ)) → DescriptorValue → AnswerValue → Type 0
-AnswersNew settings new words old = AnswersOfArgument (codes "NEW") settings new
-    (λ d. AnswersOfBase settings words (PrintsComparison settings old d))
 
 -- ---- findings
 
@@ -325,17 +312,19 @@ AnswersRights settings mask = AnswersOfMask settings mask (λ asked. IsDone (rig
 -- what is answered of a descriptor, where these are the arguments after it: the user, the mask and words; the mask and
 -- a base; the new descriptor and a base; or a base
 abbrev pub AnswersOn : Settings → Question → List (Bor (List ℕ)) → DescriptorValue → AnswerValue → Type 0
-AnswersOn settings asked.Verdict arguments d =
+AnswersOn settings about.Verdict arguments d =
     AnswersUser settings Short (argument arguments 0) (argument arguments 1) (drop 2 arguments) d
-AnswersOn settings asked.Why arguments d =
+AnswersOn settings about.Why arguments d =
     AnswersUser settings Explained (argument arguments 0) (argument arguments 1) (drop 2 arguments) d
-AnswersOn settings asked.Who arguments d = AnswersWhoMask settings (argument arguments 0) (drop 1 arguments) d
-AnswersOn settings asked.Compare arguments d = AnswersNew settings (argument arguments 0) (drop 1 arguments) d
-AnswersOn settings asked.Lint arguments d = AnswersOfBase settings arguments (PrintsFindings settings d)
-AnswersOn settings asked.Print arguments d = IsDone (printed_line settings.spelling d)
-AnswersOn settings asked.Sort arguments d = IsSorted settings d
+AnswersOn settings about.Who arguments d = AnswersOfMask settings (argument arguments 0)
+    (λ asked. AnswersOfBase settings (drop 1 arguments) (PrintsWho settings asked d))
+AnswersOn settings about.Compare arguments old = AnswersOfArgument (codes "NEW") settings (argument arguments 0)
+    (λ new. AnswersOfBase settings (drop 1 arguments) (PrintsComparison settings old new))
+AnswersOn settings about.Lint arguments d = AnswersOfBase settings arguments (PrintsFindings settings d)
+AnswersOn settings about.Print arguments d = IsDone (printed_line settings.spelling d)
+AnswersOn settings about.Sort arguments d = IsSorted settings d
 -- the self-relative form in hexadecimal
-AnswersOn settings asked.ToBinary arguments d = IsDone (line (encode_lower (wire_of d)))
+AnswersOn settings about.ToBinary arguments d = IsDone (line (encode_lower (wire_of d)))
 
 abbrev pub AnswersOfText : Settings → List ℕ → Question → List (Bor (List ℕ)) → AnswerValue → Type 0
 AnswersOfText settings written question arguments =
@@ -343,14 +332,14 @@ AnswersOfText settings written question arguments =
 
 -- what a command answers to a text and the arguments after it
 abbrev pub AnswersQuestion : Settings → TextCommand → List ℕ → List (Bor (List ℕ)) → AnswerValue → Type 0
-AnswersQuestion settings questions.Verdict text arguments = AnswersOfText settings text asked.Verdict arguments
-AnswersQuestion settings questions.Why text arguments = AnswersOfText settings text asked.Why arguments
-AnswersQuestion settings questions.Who text arguments = AnswersOfText settings text asked.Who arguments
+AnswersQuestion settings questions.Verdict text arguments = AnswersOfText settings text about.Verdict arguments
+AnswersQuestion settings questions.Why text arguments = AnswersOfText settings text about.Why arguments
+AnswersQuestion settings questions.Who text arguments = AnswersOfText settings text about.Who arguments
 AnswersQuestion settings questions.Compare text arguments =
-    AnswersOfArgument (codes "OLD") settings text (AnswersOn settings asked.Compare arguments)
-AnswersQuestion settings questions.Lint text arguments = AnswersOfText settings text asked.Lint arguments
-AnswersQuestion settings questions.Print text arguments = AnswersOfText settings text asked.Print arguments
-AnswersQuestion settings questions.Sort text arguments = AnswersOfText settings text asked.Sort arguments
-AnswersQuestion settings questions.ToBinary text arguments = AnswersOfText settings text asked.ToBinary arguments
+    AnswersOfArgument (codes "OLD") settings text (AnswersOn settings about.Compare arguments)
+AnswersQuestion settings questions.Lint text arguments = AnswersOfText settings text about.Lint arguments
+AnswersQuestion settings questions.Print text arguments = AnswersOfText settings text about.Print arguments
+AnswersQuestion settings questions.Sort text arguments = AnswersOfText settings text about.Sort arguments
+AnswersQuestion settings questions.ToBinary text arguments = AnswersOfText settings text about.ToBinary arguments
 AnswersQuestion settings questions.FromBinary text arguments = AnswersFromBinary settings text
 AnswersQuestion settings questions.Rights text arguments = AnswersRights settings text

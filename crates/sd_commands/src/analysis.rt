@@ -1,14 +1,14 @@
 //! The answers to `who` and `compare`: whom rights are granted to, and what a change of a descriptor grants and takes.
-ghost use Rattle.std.specs.Prelude.{◌≡◌, ◌<◌, IfOk, drop, length};
+ghost use Rattle.std.specs.Prelude.{◌≡◌, ◌<◌, IfOk, length};
 ghost use Rattle.sd_acl.specs.Descriptor.{descriptor_of};
 ghost use Rattle.sd_analysis.specs.Sufficient.{parts_of};
 ghost use Rattle.sd_answer.specs.Word.{IsFirstNoGroup, texts};
 ghost use Rattle.sd_check.specs.Check.{dacl_entries, entries_of};
 ghost use Rattle.sd_commands.specs.Analysis.{compare_outcome, parts_in};
-ghost use Rattle.sd_commands.specs.Answer.{AnswersNew, AnswersOfBase, AnswersWhoMask};
-ghost use Rattle.sd_commands.specs.Answer.{IsGroupFault, PrintsComparison, PrintsWho, answer_of, argument};
+ghost use Rattle.sd_commands.specs.Answer.{AnswersOfBase, AnswersOn};
+ghost use Rattle.sd_commands.specs.Answer.{IsGroupFault, PrintsComparison, PrintsWho, answer_of};
 
-use crate::answer::{Answer, Answered, Outcome};
+use crate::answer::{Answer, Answered, Outcome, Question};
 use crate::descriptor::{Given, noting};
 use crate::settings::Command;
 use crate::words::{argument, arguments_from};
@@ -23,8 +23,8 @@ impl Command {
     /// Whom rights are granted to by a descriptor, where the mask and the base are the arguments; or the fault of the
     /// first from the left that is invalid.
     pub(crate) fn who(self, descriptor: &Descriptor, arguments: &[&str]) -> Answered
-        ensures { IfOk result (λ answer. AnswersWhoMask self.settings (argument arguments.now 0)
-            (drop 1 arguments.now) (descriptor_of descriptor.now) (answer_of answer)) }
+        ensures { IfOk result (λ answer. AnswersOn self.settings Question.Who arguments.now
+            (descriptor_of descriptor.now) (answer_of answer)) }
     {
         let mask = argument(arguments, 0);
         let asked = match read_mask_in(self.settings.spelling, mask) {
@@ -70,7 +70,7 @@ impl Command {
     /// What tokens gain and lose where the new descriptor takes the place of the old one, where the new one and the
     /// base are the arguments; or the fault of the first from the left that is invalid.
     pub(crate) fn compare(self, old: &Descriptor, arguments: &[&str]) -> Answered
-        ensures { IfOk result (λ answer. AnswersNew self.settings (argument arguments.now 0) (drop 1 arguments.now)
+        ensures { IfOk result (λ answer. AnswersOn self.settings Question.Compare arguments.now
             (descriptor_of old.now) (answer_of answer)) }
     {
         let read = match self.read_argument("NEW", argument(arguments, 0))? {
