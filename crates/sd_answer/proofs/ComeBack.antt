@@ -140,21 +140,13 @@ reads_back kind named = not (is_of kind named.1)
     || (is_mask (mask_named kind named.0.letters) named.0.stands_for
     && ((length (between_pluses named.0.letters) == 1) && (nat_lt 0 (length named.0.letters) && nat_lt named.0.stands_for (2 ^ 32))))
 
-shorts_read_back : (kind : Option ObjectKind) → list_all (reads_back kind) short_names ≡ true
+all_read_back : (kind : Option ObjectKind) → list_all (reads_back kind) (short_names ++ table.rights) ≡ true
 unfolding long_names short_names table.rights reads_back is_mask
-shorts_read_back None = refl
-shorts_read_back (Some File) = refl
-shorts_read_back (Some Key) = refl
-shorts_read_back (Some Service) = refl
-shorts_read_back (Some Process) = refl
-
-rights_read_back : (kind : Option ObjectKind) → list_all (reads_back kind) table.rights ≡ true
-unfolding long_names short_names table.rights reads_back is_mask
-rights_read_back None = refl
-rights_read_back (Some File) = refl
-rights_read_back (Some Key) = refl
-rights_read_back (Some Service) = refl
-rights_read_back (Some Process) = refl
+all_read_back None = refl
+all_read_back (Some File) = refl
+all_read_back (Some Key) = refl
+all_read_back (Some Service) = refl
+all_read_back (Some Process) = refl
 
 -- a name of the table, as what it is
 record Good (kind : Option ObjectKind) (name : Name ℕ) : Type 0 where
@@ -190,10 +182,6 @@ good_names kind (named ∷ rows) all =
       | inl is ↦ rw is (good_from kind named both.0 is, good_names kind rows both.1)
       | inr other ↦ rw other (good_names kind rows both.1)
     ]
-
-all_append : (P : Name ℕ → Type 0) (xs ys : List (Name ℕ)) → AllByRecursion P xs → AllByRecursion P ys → AllByRecursion P (xs ++ ys)
-all_append P [] ys all more = more
-all_append P (x ∷ xs) ys all more = (all.0, all_append P xs ys all.1 more)
 
 -- ---- bits
 
@@ -271,8 +259,7 @@ module _ (kind : Option ObjectKind) (mask : ℕ) (low : mask < 2 ^ 32) where
   ]
 
   names_back : Whole kind (mask_names kind mask) mask
-  names_back = from_names (names_of kind short_names ++ names_of kind table.rights) [] 0
-      (all_append (Good kind) (names_of kind short_names) (names_of kind table.rights) (good_names kind short_names (shorts_read_back kind)) (good_names kind table.rights (rights_read_back kind)))
+  names_back = from_names (names_of kind (short_names ++ table.rights)) [] 0 (good_names kind (short_names ++ table.rights) (all_read_back kind))
       (lit< tt) (and_zero_r mask) (inl (refl, refl))
 
 pub comes_back : (spelling : Spelling) (mask : ℕ) → mask < 2 ^ 32 → IsMaskIn spelling (spelled spelling mask) mask

@@ -2,9 +2,8 @@ pub mod Words
 pub mod OneToken
 pub mod Joins
 pub mod NoLines
-mod LintLines
 mod Descriptors
 mod RightNames
-mod Pluses
+pub mod Cuts
 mod WordsLeft
 mod ComeBack

@@ -1,6 +1,6 @@
 -- Where no line is printed of changes, there are none: a mask with a bit has a lowest one, and its line is printed there.
 use Rattle.std.proofs.Common.{◌≡◌, ℕ, zero, suc, ◌+◌, ◌*◌, ◌%◌, ◌^◌, ◌<◌, Bool, true, false, ◌&&◌, ◌==◌, ◌⊎◌, inl, inr, List, [], ◌∷◌, ◌++◌, map, refl, sym, ◌∙◌, ap, subst, arith}
-use Rattle.std.specs.Prelude.{if◌then◌else◌, codes}
+use Rattle.std.specs.Prelude.{if◌then◌else◌}
 use Rattle.std.specs.Int.{bit_at}
 use Rattle.std.specs.List.{All}
 use Rattle.std.proofs.lemmas.Bool.{cases_order}
@@ -101,15 +101,3 @@ pub no_gain_no_loss : (spelling : Spelling) (head : List ℕ) (old new : Parts) 
 no_gain_no_loss spelling head old new gained lost gains losses none =
     let parts = parts_empty _ _ none in
     (no_changes spelling _ old new gained gains parts.0, no_changes spelling _ old new lost losses parts.1)
-
--- ---- no change, no line
-
-none_below : (spelling : Spelling) (head : List ℕ) (n : ℕ) → lines_below spelling head [] n ≡ []
-unfolding lines_below
-none_below spelling head zero = refl
-none_below spelling head (suc n) = ap (λ xs. xs ++ lines_at spelling head [] n) (none_below spelling head n)
-
-pub nothing_printed : (spelling : Spelling) (head : List ℕ) (old new : Parts) → gains_and_losses spelling head old new [] [] ≡ []
-nothing_printed spelling head old new =
-    ap (λ xs. xs ++ changes_text spelling (head ++ codes "lost ") old new []) (none_below spelling (head ++ codes "gained ") 32)
-    ∙ none_below spelling (head ++ codes "lost ") 32

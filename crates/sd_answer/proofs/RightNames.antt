@@ -6,66 +6,56 @@ use Rattle.sd_sid.specs.Mask.{holds, mask_of}
 use Rattle.std.specs.Borrow.{Bor}
 use Rattle.sd_text.specs.Grammar.{Name}
 use Rattle.sd_text.specs.MaskNames.{is_due, named_from, with_rest, with_word}
-use Rattle.sd_answer.specs.Names.{is_of, mask_names, named_bits, names_of, rights, short_names}
+use Rattle.sd_answer.specs.Names.{NamedBits, is_of, named_bits, names_of}
 use Rattle.sd_answer.specs.declared.names.ObjectKind.{ObjectKind}
 
 abbrev pub Row : Type 0
 Row = Bor (List ℕ) × ℕ × Option ObjectKind
 
 -- where a test decides whether a name is among those
-by_test : (test : Bool) (name : Name ℕ) (rest more : List (Name ℕ)) (mask named : ℕ) (text : List ℕ)
-    → named_from (cond test (name ∷ rest) rest ++ more) mask named text
-    ≡ cond (test && is_due mask named name.stands_for) (named_from (rest ++ more) mask (bit_or named name.stands_for) (with_word text name.letters))
-    (named_from (rest ++ more) mask named text)
+by_test : (test : Bool) (name : Name ℕ) (rest : List (Name ℕ)) (mask named : ℕ) (text : List ℕ)
+    → named_from (cond test (name ∷ rest) rest) mask named text
+    ≡ cond (test && is_due mask named name.stands_for) (named_from rest mask (bit_or named name.stands_for) (with_word text name.letters))
+    (named_from rest mask named text)
 unfolding named_from
-by_test true name rest more mask named text = refl
-by_test false name rest more mask named text = refl
+by_test true name rest mask named text = refl
+by_test false name rest mask named text = refl
 
--- a row, and those after it
-named_at : (kind : Option ObjectKind) (rs : List Row) (i : ℕ) (d : Row) (more : List (Name ℕ)) (mask named : ℕ) (text : List ℕ) → i < length rs
-    → named_from (names_of kind (map named_bits (drop i rs)) ++ more) mask named text
-    ≡ cond (is_of kind (get_or rs i d).2 && is_due mask named (get_or rs i d).1)
-    (named_from (names_of kind (map named_bits (drop (i + 1) rs)) ++ more) mask (bit_or named (get_or rs i d).1) (with_word text (get_or rs i d).0.now))
-    (named_from (names_of kind (map named_bits (drop (i + 1) rs)) ++ more) mask named text)
-named_at kind [] i d more mask named text low = absurd (omega arith)
-named_at kind (q ∷ rs) zero d more mask named text low =
-    by_test (is_of kind q.2) (named_bits q).0 (names_of kind (map named_bits rs)) more mask named text
-named_at kind (q ∷ rs) (suc i) d more mask named text low =
-    rw add-one (let h = named_at kind rs i d more mask named text (omega arith) in rw add-one at h)
+module _ (kind : Option ObjectKind) (more : List NamedBits) (mask : ℕ) where
+  -- what these rows and more print, after some bits and a text
+  abbrev after : List Row → ℕ → List ℕ → List ℕ
+  after rs named text = named_from (names_of kind (map named_bits rs ++ more)) mask named text
 
--- whose name is due, or isn't
-pub named_due : (kind : Option ObjectKind) (rs : List Row) (i : ℕ) (d : Row) (more : List (Name ℕ)) (mask named : ℕ) (text whole : List ℕ) → i < length rs
-    → (is_of kind (get_or rs i d).2 && is_due mask named (get_or rs i d).1) ≡ true
-    → whole ≡ named_from (names_of kind (map named_bits (drop i rs)) ++ more) mask named text
-    → whole ≡ named_from (names_of kind (map named_bits (drop (i + 1) rs)) ++ more) mask (bit_or named (get_or rs i d).1) (with_word text (get_or rs i d).0.now)
-named_due kind rs i d more mask named text whole low due is =
-    let row = named_at kind rs i d more mask named text low in is ∙ rw due at row
+  -- a row, and those after it
+  row_at : (rs : List Row) (i : ℕ) (d : Row) (named : ℕ) (text : List ℕ) → i < length rs
+      → after (drop i rs) named text
+      ≡ cond (is_of kind (get_or rs i d).2 && is_due mask named (get_or rs i d).1)
+      (after (drop (i + 1) rs) (bit_or named (get_or rs i d).1) (with_word text (get_or rs i d).0.now))
+      (after (drop (i + 1) rs) named text)
+  row_at [] i d named text low = absurd (omega arith)
+  row_at (q ∷ rs) zero d named text low = by_test (is_of kind q.2) (named_bits q).0 (names_of kind (map named_bits rs ++ more)) mask named text
+  row_at (q ∷ rs) (suc i) d named text low = rw add-one (let h = row_at rs i d named text (omega arith) in rw add-one at h)
 
-pub not_due : (kind : Option ObjectKind) (rs : List Row) (i : ℕ) (d : Row) (more : List (Name ℕ)) (mask named : ℕ) (text whole : List ℕ) → i < length rs
-    → (is_of kind (get_or rs i d).2 && is_due mask named (get_or rs i d).1) ≡ false
-    → whole ≡ named_from (names_of kind (map named_bits (drop i rs)) ++ more) mask named text
-    → whole ≡ named_from (names_of kind (map named_bits (drop (i + 1) rs)) ++ more) mask named text
-not_due kind rs i d more mask named text whole low due is =
-    let row = named_at kind rs i d more mask named text low in is ∙ rw due at row
+  -- whose name is due, or isn't
+  pub named_due : (rs : List Row) (i : ℕ) (d : Row) (named : ℕ) (text whole : List ℕ) → i < length rs
+      → (is_of kind (get_or rs i d).2 && is_due mask named (get_or rs i d).1) ≡ true → whole ≡ after (drop i rs) named text
+      → whole ≡ after (drop (i + 1) rs) (bit_or named (get_or rs i d).1) (with_word text (get_or rs i d).0.now)
+  named_due rs i d named text whole low due is = let row = row_at rs i d named text low in is ∙ rw due at row
+
+  pub not_due : (rs : List Row) (i : ℕ) (d : Row) (named : ℕ) (text whole : List ℕ) → i < length rs
+      → (is_of kind (get_or rs i d).2 && is_due mask named (get_or rs i d).1) ≡ false → whole ≡ after (drop i rs) named text
+      → whole ≡ after (drop (i + 1) rs) named text
+  not_due rs i d named text whole low due is = let row = row_at rs i d named text low in is ∙ rw due at row
 
 -- no row is left
-pub named_end : (kind : Option ObjectKind) (rs : List Row) (i : ℕ) (more : List (Name ℕ)) (mask named : ℕ) (text : List ℕ) → length rs ≤ i
-    → named_from (names_of kind (map named_bits (drop i rs)) ++ more) mask named text ≡ named_from more mask named text
+pub named_end : (kind : Option ObjectKind) (rs : List Row) (i : ℕ) (more : List NamedBits) (mask named : ℕ) (text : List ℕ) → length rs ≤ i
+    → named_from (names_of kind (map named_bits (drop i rs) ++ more)) mask named text ≡ named_from (names_of kind more) mask named text
 named_end kind rs i more mask named text high = rw (drop_all i rs high) refl
 
--- ---- whole tables
-
--- after earlier names the rights, and then the bits that are left
-pub rights_named : (kind : Option ObjectKind) (mask n m : ℕ) (before after whole : List ℕ)
-    → ((more : List (Name ℕ)) → named_from (names_of kind rights ++ more) mask n before ≡ named_from more mask m after)
+-- nor a name: the bits that are left
+pub rest_named : (kind : Option ObjectKind) (mask n m : ℕ) (before after whole : List ℕ) (rows : List NamedBits)
+    → ((more : List NamedBits) → named_from (names_of kind (rows ++ more)) mask n before ≡ named_from (names_of kind more) mask m after)
     → whole ≡ with_rest after (mask_of (λ b. holds mask b && not (holds m b)) 32)
-    → whole ≡ named_from (names_of kind rights) mask n before
+    → whole ≡ named_from (names_of kind rows) mask n before
 unfolding named_from
-rights_named kind mask n m before after whole named rest =
-    let e = named [] in rest ∙ sym (rw append-nil at e)
-
-pub all_named : (kind : Option ObjectKind) (mask n : ℕ) (before whole : List ℕ)
-    → ((more : List (Name ℕ)) → named_from (names_of kind short_names ++ more) mask 0 [] ≡ named_from more mask n before)
-    → whole ≡ named_from (names_of kind rights) mask n before
-    → whole ≡ mask_names kind mask
-all_named kind mask n before whole named is = is ∙ sym (named (names_of kind rights))
+rest_named kind mask n m before after whole rows named rest = let e = named [] in rest ∙ sym (rw append-nil at e)

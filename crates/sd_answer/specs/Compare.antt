@@ -8,7 +8,7 @@ use Rattle.sd_analysis.specs.Sufficient.{Parts, is_named, restricting_of}
 use Rattle.sd_analysis.specs.declared.compare_report.Change.{Change}
 use Rattle.sd_analysis.specs.declared.witness.Witness.{Witness}
 use Rattle.sd_answer.specs.Answer.{line}
-use Rattle.sd_answer.specs.Lines.{LineValue, lines_text}
+use Rattle.sd_answer.specs.Lines.{LineValue, lines_text, sid_text}
 use Rattle.sd_answer.specs.declared.answer.Spelling.{Spelling}
 
 -- the user: everyone, where neither descriptor names it
@@ -17,7 +17,7 @@ user_text old new s = if is_named old s || is_named new s then full_canon s else
 
 -- SIDs with an ending, as ` S-1-5-32-546=deny`
 abbrev pub arguments_text : List ℕ → List SidValue → List ℕ
-arguments_text ending sids = flat_map (λ (s : SidValue). codes " " ++ full_canon s ++ ending) sids
+arguments_text ending sids = flat_map (sid_text ending) sids
 
 -- the token beside the base: its user, a group for denies alone, and restricting SIDs
 abbrev pub witness_text : Parts → Parts → Witness → List ℕ

@@ -1,9 +1,11 @@
 -- Lines of bits: those of which the same is said are in one, and the lines are in the order of their lowest bits.
 use Rattle.std.specs.Prelude.{ℕ, zero, suc, ◌^◌, ◌%◌, Bool, ◌==◌, ◌&&◌, ◌||◌, if◌then◌else◌}
-use Rattle.std.specs.Prelude.{List, [], ◌∷◌, ◌++◌, map, string_bytes}
+use Rattle.std.specs.Prelude.{List, [], ◌∷◌, ◌++◌, map, codes, string_bytes}
 use Rattle.std.specs.List.{flat_map}
 use Rattle.std.specs.Str.{bytes_eq}
 use Rattle.sd_sid.specs.Mask.{holds, mask_of}
+use Rattle.sd_sid.specs.Sid.{SidValue}
+use Rattle.sd_text.specs.Canon.{full_canon}
 use Rattle.sd_answer.specs.Answer.{line, spelled}
 use Rattle.sd_answer.specs.declared.answer.Spelling.{Spelling}
 use Rattle.sd_answer.specs.declared.lines.BitsLine.{BitsLine}
@@ -47,3 +49,7 @@ lines_below spelling head lines (suc k) = lines_below spelling head lines k ++ l
 
 abbrev pub lines_text : Spelling → List ℕ → List LineValue → List ℕ
 lines_text spelling head lines = lines_below spelling head lines 32
+
+-- a SID in full with an ending, as ` S-1-5-32-546=deny`
+abbrev pub sid_text : List ℕ → SidValue → List ℕ
+sid_text ending s = codes " " ++ full_canon s ++ ending

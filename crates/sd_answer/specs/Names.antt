@@ -104,7 +104,7 @@ names_of kind (named ∷ rest) = if is_of kind named.1 then named.0 ∷ names_of
 
 -- a mask by names, as FR+WD
 abbrev pub mask_names : Option ObjectKind → ℕ → List ℕ
-mask_names kind mask = named_from (names_of kind short_names ++ names_of kind rights) mask 0 []
+mask_names kind mask = named_from (names_of kind (short_names ++ rights)) mask 0 []
 
 -- the bits of the first of these names that the word is
 abbrev pub bits_among : List NamedBits → Option ObjectKind → List ℕ → Option ℕ

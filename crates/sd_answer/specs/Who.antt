@@ -11,7 +11,7 @@ use Rattle.sd_analysis.specs.declared.who_has.Access.{Access}
 use Rattle.sd_analysis.specs.declared.who_has.Alternative.{Alternative}
 use Rattle.sd_analysis.specs.declared.who_has.Holder.{Holder}
 use Rattle.sd_analysis.specs.declared.who_has.Holder.TheVariants.{Everyone, Sid, Owner}
-use Rattle.sd_answer.specs.Lines.{LineValue, joined, lines_text}
+use Rattle.sd_answer.specs.Lines.{LineValue, joined, lines_text, sid_text}
 use Rattle.sd_answer.specs.declared.answer.Spelling.{Spelling}
 
 -- the rights that are asked about: those of the mask, generic ones mapped; with MAXIMUM_ALLOWED, place 25, all
@@ -24,11 +24,8 @@ holder_text (Sid s) = full_canon s
 holder_text (Owner s) = full_canon s ++ codes " as the owner"
 
 -- SIDs in full, each after a space
-abbrev pub sids_text : List SidValue → List ℕ
-sids_text sids = flat_map (λ (s : SidValue). codes " " ++ full_canon s) sids
-
 abbrev pub unless_text : List SidValue → List ℕ
-unless_text sids = if length sids == 0 then [] else codes " unless" ++ sids_text sids
+unless_text sids = if length sids == 0 then [] else codes " unless" ++ flat_map (sid_text []) sids
 
 -- as ` to S-1-1-0 unless S-1-5-32-546`
 abbrev pub alternative_text : List SidValue → Alternative → List ℕ

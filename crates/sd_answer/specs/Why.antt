@@ -53,15 +53,12 @@ cause_text spelling owner es Reserved = codes "as reserved"
 abbrev pub verb_of : Cause → List ℕ
 verb_of cause = if grants cause then codes "granted" else codes "denied"
 
-abbrev pub part_line : Spelling → Option SidValue → List Ace → Part → List ℕ
-part_line spelling owner es part =
-    line (verb_of part.cause ++ codes " " ++ spelled spelling part.mask ++ codes " "
-    ++ cause_text spelling owner es part.cause)
-
 -- the line of the part that begins at a place, where one does
 abbrev pub line_at : Spelling → Option SidValue → List Ace → Option Part → List ℕ
 line_at spelling owner es None = []
-line_at spelling owner es (Some part) = part_line spelling owner es part
+line_at spelling owner es (Some part) =
+    line (verb_of part.cause ++ codes " " ++ spelled spelling part.mask ++ codes " "
+    ++ cause_text spelling owner es part.cause)
 
 -- those of the places below n, in order
 unfoldable pub part_lines : Spelling → Option SidValue → List Ace → (ℕ → Option Reason) → ℕ → List ℕ

@@ -39,75 +39,59 @@ IsWord known text TakeOwnership = text ≡ codes "+take"
 abbrev pub texts : List (Bor (List ℕ)) → List (List ℕ)
 texts lent = map (λ (text : Bor (List ℕ)). text.now) lent
 
--- the texts are these words, one for one
+-- the texts are these, one for one
+abbrev pub AreEach : {A : Type 0} → (List ℕ → A → Type 0) → List (List ℕ) → List A → Type 0
+AreEach Is [] [] = ⊤
+AreEach Is [] (one ∷ ones) = ⊥
+AreEach Is (text ∷ texts) [] = ⊥
+AreEach Is (text ∷ texts) (one ∷ ones) = Is text one × AreEach Is texts ones
+
+-- the text at the place is none of these, and those before it are some
+abbrev pub IsFirstNone : {A : Type 0} → (List ℕ → A → Type 0) → List (List ℕ) → ℕ → Type 0
+IsFirstNone Is [] place = ⊥
+IsFirstNone {A} Is (text ∷ texts) zero = (one : A) → Is text one → ⊥
+IsFirstNone {A} Is (text ∷ texts) (suc place) = ((one : A) × Is text one) × IsFirstNone Is texts place
+
+-- the texts are these words; the one at the place is the first that is none
 abbrev pub AreWords : Aliases → List (List ℕ) → List Word → Type 0
-AreWords known [] [] = ⊤
-AreWords known [] (word ∷ words) = ⊥
-AreWords known (text ∷ texts) [] = ⊥
-AreWords known (text ∷ texts) (word ∷ words) = IsWord known text word × AreWords known texts words
+AreWords known = AreEach (IsWord known)
 
--- the text at the place is no word, and those before it are words
 abbrev pub IsFirstNoWord : Aliases → List (List ℕ) → ℕ → Type 0
-IsFirstNoWord known [] place = ⊥
-IsFirstNoWord known (text ∷ texts) zero = (word : Word) → IsWord known text word → ⊥
-IsFirstNoWord known (text ∷ texts) (suc place) =
-    ((word : Word) × IsWord known text word) × IsFirstNoWord known texts place
+IsFirstNoWord known = IsFirstNone (IsWord known)
 
-abbrev pub is_group : Word → Bool
-is_group (Group sid state) = true
-is_group (Restricting sid) = false
-is_group Security = false
-is_group TakeOwnership = false
+-- the same of groups
+abbrev pub IsGroupOf : Aliases → List ℕ → SidValue × GroupState → Type 0
+IsGroupOf known text group = IsGroup known text group.0 group.1
 
--- the text is this word, which is a group
-abbrev pub IsGroupWord : Aliases → List ℕ → Word → Type 0
-IsGroupWord known text word = (is_group word ≡ true) × IsWord known text word
-
--- the texts are these groups, one for one
 abbrev pub AreGroups : Aliases → List (List ℕ) → List (SidValue × GroupState) → Type 0
-AreGroups known [] [] = ⊤
-AreGroups known [] (group ∷ groups) = ⊥
-AreGroups known (text ∷ texts) [] = ⊥
-AreGroups known (text ∷ texts) (group ∷ groups) = IsGroup known text group.0 group.1 × AreGroups known texts groups
+AreGroups known = AreEach (IsGroupOf known)
 
--- the text at the place is no group, and those before it are groups
 abbrev pub IsFirstNoGroup : Aliases → List (List ℕ) → ℕ → Type 0
-IsFirstNoGroup known [] place = ⊥
-IsFirstNoGroup known (text ∷ texts) zero = (sid : SidValue) (state : GroupState) → IsGroup known text sid state → ⊥
-IsFirstNoGroup known (text ∷ texts) (suc place) =
-    ((group : SidValue × GroupState) × IsGroup known text group.0 group.1) × IsFirstNoGroup known texts place
+IsFirstNoGroup known = IsFirstNone (IsGroupOf known)
 
 -- the group that a word adds
 abbrev pub group_of : Word → List (SidValue × GroupState)
 group_of (Group sid state) = (sid, state) ∷ []
-group_of (Restricting sid) = []
-group_of Security = []
-group_of TakeOwnership = []
+group_of word = []
 
 abbrev pub groups_of : List Word → List (SidValue × GroupState)
 groups_of words = flat_map group_of words
 
 -- the restricting SID that a word adds, which is no group
 abbrev pub restricting_sid_of : Word → List SidValue
-restricting_sid_of (Group sid state) = []
 restricting_sid_of (Restricting sid) = sid ∷ []
-restricting_sid_of Security = []
-restricting_sid_of TakeOwnership = []
+restricting_sid_of word = []
 
 abbrev pub restricting_of : List Word → List SidValue
 restricting_of words = flat_map restricting_sid_of words
 
 abbrev pub is_security : Word → Bool
-is_security (Group sid state) = false
-is_security (Restricting sid) = false
 is_security Security = true
-is_security TakeOwnership = false
+is_security word = false
 
 abbrev pub is_take_ownership : Word → Bool
-is_take_ownership (Group sid state) = false
-is_take_ownership (Restricting sid) = false
-is_take_ownership Security = false
 is_take_ownership TakeOwnership = true
+is_take_ownership word = false
 
 -- the token of a user and words
 abbrev pub token_of : SidValue → List Word → TokenValue

@@ -1,6 +1,6 @@
 //! The lines of verdicts and of invalid arguments, and how they spell masks.
 ghost use Rattle.std.specs.Prelude.{◌≡◌, ◌++◌, IfOk, string_bytes};
-ghost use Rattle.sd_answer.specs.Answer.{fault_line, line, mask_digits, right_names_of, sddl_fault_line};
+ghost use Rattle.sd_answer.specs.Answer.{fault_line, line, right_names_of, sddl_fault_line};
 ghost use Rattle.sd_answer.specs.Answer.{spelled, verdict_line};
 
 use crate::names::{ObjectKind, mask_names};
@@ -38,16 +38,12 @@ pub fn spell(alloc: Global, spelling: Spelling, mask: Mask) -> Result<String, Al
     ensures { IfOk result (λ text. string_bytes text ≡ spelled spelling mask) }
 {
     match spelling {
-        Spelling::Number => number_text(alloc, mask),
+        Spelling::Number => {
+            let bits = mask.bits();
+            format!(in alloc; "0x{bits:x}")
+        }
         Spelling::Names(kind) => mask_names(alloc, kind, mask),
     }
-}
-
-fn number_text(alloc: Global, mask: Mask) -> Result<String, AllocError>
-    ensures { IfOk result (λ text. string_bytes text ≡ mask_digits mask) }
-{
-    let bits = mask.bits();
-    format!(in alloc; "0x{bits:x}")
 }
 
 /// The line of a verdict ([MS-DTYP] 2.5.3.2): as `granted 0x1`, `denied 0x2`, `reserved 0x200000` or `empty`.

@@ -2,13 +2,12 @@
 ghost use Rattle.std.specs.Prelude.{◌≡◌, ◌++◌, IfOk, OnOk, codes, map, string_bytes};
 ghost use Rattle.std.specs.Option.{option_to_list};
 ghost use Rattle.sd_analysis.specs.Sufficient.{parts_of, restricting_of};
-ghost use Rattle.sd_answer.specs.Compare.{arguments_text, change_line, changes_text, compare_text, gains_and_losses};
+ghost use Rattle.sd_answer.specs.Compare.{arguments_text, change_line, compare_text, gains_and_losses};
 ghost use Rattle.sd_answer.specs.Compare.{user_text, witness_text};
 ghost use Rattle.sd_answer.specs.Lines.{values};
-ghost use Rattle.sd_text.specs.Canon.{full_canon};
 
 use crate::answer::Spelling;
-use crate::lines::{BitsLine, push_lines};
+use crate::lines::{BitsLine, LineHead, push_sid};
 use sd_analysis::{Change, Comparison, DescriptorRef, PassSids, Witness};
 use sd_sid::Sid;
 use sd_text::print_full_sid;
@@ -47,115 +46,107 @@ pub fn gains_and_losses(
 {
     let gained = format!(in alloc; "{head}gained ")?;
     let lost = format!(in alloc; "{head}lost ")?;
+    let changed = Changed { alloc, old, new };
+    let gains = changed.change_lines(&comparison.gained)?;
+    let losses = changed.change_lines(&comparison.lost)?;
     let mut text = String::new(alloc);
-    let (gains, losses) = (&comparison.gained, &comparison.lost);
-    push_changes(alloc, &mut text, spelling, gained.as_str(), old, new, gains)?;
-    push_changes(alloc, &mut text, spelling, lost.as_str(), old, new, losses)?;
+    let head = gained.as_str();
+    LineHead {
+        alloc,
+        spelling,
+        head,
+    }
+    .push_lines(&mut text, &gains)?;
+    let head = lost.as_str();
+    LineHead {
+        alloc,
+        spelling,
+        head,
+    }
+    .push_lines(&mut text, &losses)?;
     Ok(text)
 }
 
-/// Adds the lines of changes, each after this head.
-fn push_changes(
+/// A descriptor, and the one that takes its place.
+#[derive(Clone, Copy)]
+struct Changed<'a> {
+    alloc: Global,
+    old: &'a DescriptorRef<'a>,
+    new: &'a DescriptorRef<'a>,
+}
+
+impl Changed<'_> {
+    fn change_lines(&self, changes: &[Change]) -> Result<Vec<BitsLine>, AllocError>
+        ensures { IfOk result (λ lines. values lines.items
+            ≡ map (change_line (parts_of self.now.old.now) (parts_of self.now.new.now)) changes.now) }
+    {
+        let mut lines = Vec::new(self.alloc);
+        for change in changes {
+            let said = self.witness_text(&change.witness)?;
+            lines.push(BitsLine {
+                mask: change.mask,
+                said,
+            })?;
+        }
+        Ok(lines)
+    }
+
+    /// The token beside the base, as ` by S-1-5-32-545 S-1-5-32-546=deny`.
+    fn witness_text(&self, witness: &Witness) -> Result<String, AllocError>
+        ensures { IfOk result (λ text. string_bytes text
+            ≡ witness_text (parts_of self.now.old.now) (parts_of self.now.new.now) witness.now) }
+    {
+        let mut text = self.user_text(&witness.first.allowed)?;
+        push_option(self.alloc, &mut text, &witness.first.denied, "=deny")?;
+        push_second(self.alloc, &mut text, &witness.second)?;
+        Ok(text)
+    }
+
+    /// The user: everyone, where neither descriptor names it.
+    fn user_text(&self, user: &Sid) -> Result<String, AllocError>
+        ensures { IfOk result (λ text. string_bytes text
+            ≡ codes " by " ++ user_text (parts_of self.now.old.now) (parts_of self.now.new.now) user.now) }
+    {
+        let mut text = String::from_str(self.alloc, " by ")?;
+        if self.old.names(user) || self.new.names(user) {
+            let user = print_full_sid(self.alloc, user)?;
+            text.push_str(user.as_str())?;
+        } else {
+            text.push_str("everyone")?;
+        }
+        Ok(text)
+    }
+}
+
+/// Adds what the restricting SIDs are, where the token has any.
+fn push_second(
     alloc: Global,
     text: &mut String,
-    spelling: Spelling,
-    head: &str,
-    old: &DescriptorRef<'_>,
-    new: &DescriptorRef<'_>,
-    changes: &[Change],
+    second: &Option<PassSids>,
 ) -> Result<(), AllocError>
-    ensures { OnOk result (string_bytes text.new ≡ string_bytes text.old
-        ++ changes_text spelling head.now (parts_of old.now) (parts_of new.now) changes.now) }
-{
-    let lines = change_lines(alloc, old, new, changes)?;
-    push_lines(alloc, text, spelling, head, &lines)
-}
-
-fn change_lines(
-    alloc: Global,
-    old: &DescriptorRef<'_>,
-    new: &DescriptorRef<'_>,
-    changes: &[Change],
-) -> Result<Vec<BitsLine>, AllocError>
-    ensures { IfOk result (λ lines. values lines.items
-        ≡ map (change_line (parts_of old.now) (parts_of new.now)) changes.now) }
-{
-    let mut lines = Vec::new(alloc);
-    for change in changes {
-        let said = witness_text(alloc, old, new, &change.witness)?;
-        lines.push(BitsLine {
-            mask: change.mask,
-            said,
-        })?;
-    }
-    Ok(lines)
-}
-
-/// The token beside the base, as ` by S-1-5-32-545 S-1-5-32-546=deny`.
-fn witness_text(
-    alloc: Global,
-    old: &DescriptorRef<'_>,
-    new: &DescriptorRef<'_>,
-    witness: &Witness,
-) -> Result<String, AllocError>
-    ensures { IfOk result (λ text. string_bytes text
-        ≡ witness_text (parts_of old.now) (parts_of new.now) witness.now) }
-{
-    let user = user_text(alloc, old, new, &witness.first.allowed)?;
-    let denied = option_text(alloc, "=deny", &witness.first.denied)?;
-    let restricting = restricting_text(alloc, &witness.second)?;
-    let (user, denied, restricting) = (user.as_str(), denied.as_str(), restricting.as_str());
-    let text = format!(in alloc; " by {user}{denied}{restricting}")?;
-    Ok(text)
-}
-
-/// The user: everyone, where neither descriptor names it.
-fn user_text(
-    alloc: Global,
-    old: &DescriptorRef<'_>,
-    new: &DescriptorRef<'_>,
-    user: &Sid,
-) -> Result<String, AllocError>
-    ensures { IfOk result (λ text. string_bytes text ≡ user_text (parts_of old.now) (parts_of new.now) user.now) }
-{
-    if old.names(user) || new.names(user) {
-        print_full_sid(alloc, user)
-    } else {
-        String::from_str(alloc, "everyone")
-    }
-}
-
-fn restricting_text(alloc: Global, second: &Option<PassSids>) -> Result<String, AllocError>
-    ensures { IfOk result (λ text. string_bytes text
-        ≡ arguments_text (codes "=restrict") (restricting_of second.now)) }
+    ensures { OnOk result (string_bytes text.new
+        ≡ string_bytes text.old ++ arguments_text (codes "=restrict") (restricting_of second.now)) }
 {
     match second {
-        None => Ok(String::new(alloc)),
+        None => Ok(()),
         Some(sids) => {
-            let allowed = argument_text(alloc, "=restrict", &sids.allowed)?;
-            let denied = option_text(alloc, "=restrict", &sids.denied)?;
-            let (allowed, denied) = (allowed.as_str(), denied.as_str());
-            let text = format!(in alloc; "{allowed}{denied}")?;
-            Ok(text)
+            push_sid(alloc, text, &sids.allowed, "=restrict")?;
+            push_option(alloc, text, &sids.denied, "=restrict")
         }
     }
 }
 
-fn option_text(alloc: Global, ending: &str, sid: &Option<Sid>) -> Result<String, AllocError>
-    ensures { IfOk result (λ text. string_bytes text ≡ arguments_text ending.now (option_to_list sid.now)) }
+fn push_option(
+    alloc: Global,
+    text: &mut String,
+    sid: &Option<Sid>,
+    ending: &str,
+) -> Result<(), AllocError>
+    ensures { OnOk result (string_bytes text.new
+        ≡ string_bytes text.old ++ arguments_text ending.now (option_to_list sid.now)) }
 {
     match sid {
-        None => Ok(String::new(alloc)),
-        Some(sid) => argument_text(alloc, ending, sid),
+        None => Ok(()),
+        Some(sid) => push_sid(alloc, text, sid, ending),
     }
-}
-
-/// A SID with an ending, as ` S-1-5-32-546=deny`.
-fn argument_text(alloc: Global, ending: &str, sid: &Sid) -> Result<String, AllocError>
-    ensures { IfOk result (λ text. string_bytes text ≡ codes " " ++ full_canon sid.now ++ ending.now) }
-{
-    let sid = print_full_sid(alloc, sid)?;
-    let sid = sid.as_str();
-    let text = format!(in alloc; " {sid}{ending}")?;
-    Ok(text)
 }

@@ -1,6 +1,6 @@
 //! The text of a descriptor, with the aliases that it may have, and a SACL that may be left out.
-ghost use Rattle.std.specs.Prelude.{Bool, Err, IfErr, IfOk, IsErrOf};
-ghost use Rattle.sd_acl.specs.Descriptor.{DescriptorValue, descriptor_of};
+ghost use Rattle.std.specs.Prelude.{Err, IfErr, IfOk};
+ghost use Rattle.sd_acl.specs.Descriptor.{descriptor_of};
 ghost use Rattle.sd_answer.specs.Descriptor.{IsRead, IsUnread};
 
 use sd_text::{Aliases, TextError, WithoutSacl, read_sddl_in, read_sddl_without_sacl};

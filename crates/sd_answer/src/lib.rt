@@ -29,7 +29,7 @@ pub use answer::{Spelling, fault_line, sddl_fault_line, spell, verdict_line};
 pub use compare::{compare_text, gains_and_losses};
 pub use descriptor::read_sddl_argument;
 pub use laws::{masks_come_back, names_are_distinct};
-pub use lint::lint_text;
+pub use lint::{first_misplaced, lint_text};
 pub use mask::read_mask_in;
 pub use names::ObjectKind;
 pub use rights::rights_line;

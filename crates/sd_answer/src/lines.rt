@@ -1,12 +1,13 @@
 //! Lines of bits: those of which the same is said are in one, and the lines are in the order of their lowest bits.
-ghost use Rattle.std.specs.Prelude.{◌≡◌, ◌<◌, ◌++◌, OnOk, if◌then◌else◌, string_bytes};
+ghost use Rattle.std.specs.Prelude.{◌≡◌, ◌<◌, ◌++◌, OnOk, string_bytes};
 ghost use Rattle.std.specs.List.{position};
 ghost use Rattle.std.specs.Str.{bytes_eq};
 ghost use Rattle.sd_answer.specs.declared.lines.BitsLine.{BitsLine as BitsLineValue};
-ghost use Rattle.sd_answer.specs.Lines.{bits_line, is_lowest, joined, lines_at, lines_text, value_of, values};
+ghost use Rattle.sd_answer.specs.Lines.{bits_line, is_lowest, joined, lines_at, lines_text, sid_text, value_of, values};
 
 use crate::answer::{Spelling, spell};
-use sd_sid::Mask;
+use sd_sid::{Mask, Sid};
+use sd_text::print_full_sid;
 use std::alloc::{AllocError, Global};
 
 /// The places of a mask's bits ([MS-DTYP] 2.4.3).
@@ -39,60 +40,70 @@ fn place_of(lines: &[BitsLine], said: &str) -> Option<usize>
     lines.iter().position(|one| one.said.as_str() == said)
 }
 
-/// Adds the lines to the text, each after this head.
-pub(crate) fn push_lines(
-    alloc: Global,
-    text: &mut String,
-    spelling: Spelling,
-    head: &str,
-    lines: &[BitsLine],
-) -> Result<(), AllocError>
-    ensures { OnOk result (string_bytes text.new
-        ≡ string_bytes text.old ++ lines_text spelling head.now (values lines.now)) }
-{
-    for place in 0..PLACES {
-        push_lines_at(alloc, text, spelling, head, lines, place)?;
-    }
-    Ok(())
+/// What each line begins with: a head, and a mask in this spelling.
+#[derive(Clone, Copy)]
+pub(crate) struct LineHead<'a> {
+    pub(crate) alloc: Global,
+    pub(crate) spelling: Spelling,
+    pub(crate) head: &'a str,
 }
 
-/// Adds those whose lowest bit is at the place.
-fn push_lines_at(
-    alloc: Global,
-    text: &mut String,
-    spelling: Spelling,
-    head: &str,
-    lines: &[BitsLine],
-    place: u32,
-) -> Result<(), AllocError>
-    requires { place < 32 }
-    ensures { OnOk result (string_bytes text.new
-        ≡ string_bytes text.old ++ lines_at spelling head.now (values lines.now) place) }
-{
-    for line in lines {
-        if is_lowest(line.mask, place) {
-            push_line(alloc, text, spelling, head, line)?;
+impl LineHead<'_> {
+    /// Adds the lines to the text.
+    pub(crate) fn push_lines(&self, text: &mut String, lines: &[BitsLine]) -> Result<(), AllocError>
+        ensures { OnOk result (string_bytes text.new
+            ≡ string_bytes text.old ++ lines_text self.now.spelling self.now.head.now (values lines.now)) }
+    {
+        for place in 0..PLACES {
+            self.push_lines_at(text, lines, place)?;
         }
+        Ok(())
     }
-    Ok(())
+
+    /// Adds those whose lowest bit is at the place.
+    fn push_lines_at(
+        &self,
+        text: &mut String,
+        lines: &[BitsLine],
+        place: u32,
+    ) -> Result<(), AllocError>
+        requires { place < 32 }
+        ensures { OnOk result (string_bytes text.new
+            ≡ string_bytes text.old ++ lines_at self.now.spelling self.now.head.now (values lines.now) place) }
+    {
+        for line in lines {
+            if is_lowest(line.mask, place) {
+                self.push_line(text, line)?;
+            }
+        }
+        Ok(())
+    }
+
+    fn push_line(&self, text: &mut String, line: &BitsLine) -> Result<(), AllocError>
+        ensures { OnOk result (string_bytes text.new
+            ≡ string_bytes text.old ++ bits_line self.now.spelling self.now.head.now (value_of line.now)) }
+    {
+        let mask = spell(self.alloc, self.spelling, line.mask)?;
+        let (head, mask, said) = (self.head, mask.as_str(), line.said.as_str());
+        let line = format!(in self.alloc; "{head}{mask}{said}\n")?;
+        text.push_str(line.as_str())?;
+        Ok(())
+    }
 }
 
-/// Adds a line.
-fn push_line(
+/// Adds a SID in full, after a space and before this ending ([MS-DTYP] 2.4.2.1).
+pub(crate) fn push_sid(
     alloc: Global,
     text: &mut String,
-    spelling: Spelling,
-    head: &str,
-    line: &BitsLine,
+    sid: &Sid,
+    ending: &str,
 ) -> Result<(), AllocError>
-    ensures { OnOk result (string_bytes text.new
-        ≡ string_bytes text.old ++ bits_line spelling head.now (value_of line.now)) }
+    ensures { OnOk result (string_bytes text.new ≡ string_bytes text.old ++ sid_text ending.now sid.now) }
 {
-    let mask = spell(alloc, spelling, line.mask)?;
-    let (mask, said) = (mask.as_str(), line.said.as_str());
-    let line = format!(in alloc; "{head}{mask}{said}\n")?;
-    text.push_str(line.as_str())?;
-    Ok(())
+    let sid = print_full_sid(alloc, sid)?;
+    let sid = sid.as_str();
+    let more = format!(in alloc; " {sid}{ending}")?;
+    text.push_str(more.as_str())
 }
 
 /// Whether the bit at the place is the lowest of the mask.

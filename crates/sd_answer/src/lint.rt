@@ -1,16 +1,15 @@
 //! The lines of `lint`: what stands in a descriptor that its author may not have meant.
 ghost use Rattle.std.specs.Prelude.{◌≡◌, ◌<◌, ◌^◌, ◌++◌, IfOk, IfSome, OnOk, length, position, string_bytes};
 ghost use Rattle.sd_acl.specs.Descriptor.{descriptor_of};
-ghost use Rattle.sd_sid.specs.Mask.{holds};
 ghost use Rattle.sd_check.specs.Check.{is_limit};
-ghost use Rattle.sd_answer.specs.Lint.{AreListLines, IsLintText, entry_head, entry_lines, is_misplaced, is_repeated};
+ghost use Rattle.sd_answer.specs.Lint.{IsLintText, entry_head, entry_lines, is_misplaced, is_repeated};
 ghost use Rattle.sd_answer.specs.Lint.{is_stranded, is_useless, list_lines, same_kind, where_behind, where_so};
 
 use crate::answer::Spelling;
 use bitflags::Flags;
 use sd_acl::{Ace, AceFlags, AceKind, Dacl, Descriptor};
 use sd_analysis::{Base, redundant};
-use sd_sid::{GenericMapping, Sid};
+use sd_sid::GenericMapping;
 use sd_text::print_entry_in;
 use std::alloc::{AllocError, Global};
 
@@ -30,31 +29,11 @@ pub fn lint_text(
     match &descriptor.dacl {
         Dacl::Absent => String::from_str(alloc, "no DACL grants everything\n"),
         Dacl::Null => String::from_str(alloc, "a null DACL grants everything\n"),
-        Dacl::List(list) => lines_of(
-            alloc,
-            &descriptor.owner,
-            list.entries(),
-            mapping,
-            spelling,
-            base,
-        ),
+        Dacl::List(list) => {
+            let marks = redundant(alloc, descriptor.owner, list.entries(), mapping, base)?;
+            list_lines(alloc, spelling, list.entries(), &marks)
+        }
     }
-}
-
-/// The lines of a list of this owner's.
-fn lines_of(
-    alloc: Global,
-    owner: &Option<Sid>,
-    entries: &[Ace],
-    mapping: &GenericMapping,
-    spelling: Spelling,
-    base: &Base<'_>,
-) -> Result<String, AllocError>
-    ensures { IfOk result (λ text. AreListLines mapping.now spelling base.now owner.now entries.now
-        (string_bytes text)) }
-{
-    let marks = redundant(alloc, *owner, entries, mapping, base)?;
-    list_lines(alloc, spelling, entries, &marks)
 }
 
 /// The lines of these entries, of which the marks say which are redundant.
@@ -99,20 +78,11 @@ fn entry_lines(
     let head = entry_head(alloc, spelling, place, entry)?;
     let head = head.as_str();
     let misplaced = first_misplaced(&entries[..place], entry);
-    push_behind(
-        alloc,
-        &mut text,
-        misplaced,
-        head,
-        "is out of order behind entry ",
-    )?;
+    let out_of_order = "is out of order behind entry ";
+    push_behind(alloc, &mut text, misplaced, head, out_of_order)?;
     push_where(&mut text, entry.mask.is_empty(), head, "names no right")?;
-    push_where(
-        &mut text,
-        is_stranded(entry),
-        head,
-        "is inherited by nothing",
-    )?;
+    let stranded = is_stranded(entry);
+    push_where(&mut text, stranded, head, "is inherited by nothing")?;
     let repeated = first_repeated(&entries[..place], entry);
     push_behind(alloc, &mut text, repeated, head, "repeats entry ")?;
     let useless = is_useless(entry, mark);
@@ -161,31 +131,18 @@ fn push_behind(
     requires { IfSome earlier (λ place. place < 2 ^ 63) }
     ensures { OnOk result (string_bytes text.new ≡ string_bytes text.old ++ where_behind earlier head.now what.now) }
 {
-    let line = behind_line(alloc, earlier, head, what)?;
-    text.push_str(line.as_str())
-}
-
-fn behind_line(
-    alloc: Global,
-    earlier: Option<usize>,
-    head: &str,
-    what: &str,
-) -> Result<String, AllocError>
-    requires { IfSome earlier (λ place. place < 2 ^ 63) }
-    ensures { IfOk result (λ text. string_bytes text ≡ where_behind earlier head.now what.now) }
-{
     match earlier {
-        None => Ok(String::new(alloc)),
+        None => Ok(()),
         Some(earlier) => {
             let number = earlier + 1;
             let line = format!(in alloc; "{head}{what}{number}\n")?;
-            Ok(line)
+            text.push_str(line.as_str())
         }
     }
 }
 
-/// The first entry behind which this one is out of order.
-fn first_misplaced(before: &[Ace], entry: &Ace) -> Option<usize>
+/// The first of the entries before this one behind which it is out of canonical order ([MS-DTYP] 2.4.5).
+pub fn first_misplaced(before: &[Ace], entry: &Ace) -> Option<usize>
     ensures first { result ≡ position (is_misplaced entry.now) before.now }
     ensures low { IfSome result (λ place. place < 2 ^ 63) }
 {
@@ -236,21 +193,9 @@ fn same_kind(later: AceKind, earlier: AceKind) -> bool
 fn is_stranded(entry: &Ace) -> bool
     ensures { result ≡ is_stranded entry.now }
 {
-    entry.is_inherit_only() && !goes_to_objects(entry) && !goes_to_containers(entry)
-}
-
-/// OBJECT_INHERIT_ACE.
-fn goes_to_objects(entry: &Ace) -> bool
-    ensures { result ≡ holds entry.now.flags.0 0 }
-{
-    entry.flags.contains(AceFlags::OI)
-}
-
-/// CONTAINER_INHERIT_ACE.
-fn goes_to_containers(entry: &Ace) -> bool
-    ensures { result ≡ holds entry.now.flags.0 1 }
-{
-    entry.flags.contains(AceFlags::CI)
+    let to_objects = entry.flags.contains(AceFlags::OI);
+    let to_containers = entry.flags.contains(AceFlags::CI);
+    entry.is_inherit_only() && !to_objects && !to_containers
 }
 
 /// Whether the entry is effective and for OWNER RIGHTS, so that it limits the owner ([MS-DTYP] 2.5.3.2).

@@ -1,9 +1,8 @@
 //! The names of masks, by kind of object ([MS-DTYP] 2.4.3): one table for masks that are printed and parsed.
-ghost use Rattle.std.specs.Prelude.{◌≡◌, ◌++◌, ◌&&◌, ℕ, IfOk, OnOk, List, map, option_map, string_bytes};
-ghost use Rattle.sd_text.specs.Grammar.{Name};
+ghost use Rattle.std.specs.Prelude.{◌≡◌, ◌++◌, ◌&&◌, [], IfOk, OnOk, List, map, option_map, string_bytes};
 ghost use Rattle.sd_text.specs.MaskNames.{is_due, named_from, with_rest, with_word};
 ghost use Rattle.sd_answer.specs.Names.{bits_among, is_of, is_own, is_same_kind, long_names, mask_named, mask_names};
-ghost use Rattle.sd_answer.specs.Names.{named_bits, names_of, rights, short_names};
+ghost use Rattle.sd_answer.specs.Names.{NamedBits, named_bits, names_of, rights, short_names};
 ghost use Rattle.sd_answer.specs.Rights.{permission_among, permission_named, right_names};
 
 use sd_sid::Mask;
@@ -22,17 +21,25 @@ pub enum ObjectKind {
 /// A name, its bits, and the kind of object that has it; `None`: every object does.
 type NamedBits = (&'static str, u32, Option<ObjectKind>);
 
+const FILE: Option<ObjectKind> = Some(ObjectKind::File);
+
+const KEY: Option<ObjectKind> = Some(ObjectKind::Key);
+
+const SERVICE: Option<ObjectKind> = Some(ObjectKind::Service);
+
+const PROCESS: Option<ObjectKind> = Some(ObjectKind::Process);
+
 /// What Windows lists as the permissions of a file, and masks that winnt.h names, where SDDL has a shorter name or
 /// names that are these bits together.
 static LONG_NAMES: [NamedBits; 8] = [
-    ("Full control", 0x001F_01FF, Some(ObjectKind::File)),
-    ("Read & execute", 0x0012_00A9, Some(ObjectKind::File)),
-    ("Read", 0x0012_0089, Some(ObjectKind::File)),
-    ("FILE_GENERIC_WRITE", 0x0012_0116, Some(ObjectKind::File)),
-    ("FILE_GENERIC_EXECUTE", 0x0012_00A0, Some(ObjectKind::File)),
-    ("KEY_ALL_ACCESS", 0x000F_003F, Some(ObjectKind::Key)),
-    ("KEY_READ", 0x0002_0019, Some(ObjectKind::Key)),
-    ("KEY_WRITE", 0x0002_0006, Some(ObjectKind::Key)),
+    ("Full control", 0x001F_01FF, FILE),
+    ("Read & execute", 0x0012_00A9, FILE),
+    ("Read", 0x0012_0089, FILE),
+    ("FILE_GENERIC_WRITE", 0x0012_0116, FILE),
+    ("FILE_GENERIC_EXECUTE", 0x0012_00A0, FILE),
+    ("KEY_ALL_ACCESS", 0x000F_003F, KEY),
+    ("KEY_READ", 0x0002_0019, KEY),
+    ("KEY_WRITE", 0x0002_0006, KEY),
 ];
 
 /// The names of SDDL for masks of a kind and for rights of every object ([MS-DTYP] 2.5.1.1, ace-rights), and names of
@@ -42,85 +49,65 @@ static SHORT_NAMES: [NamedBits; 19] = [
     ("GW", 0x4000_0000, None),
     ("GX", 0x2000_0000, None),
     ("GA", 0x1000_0000, None),
-    ("PROCESS_ALL_ACCESS", 0x001F_FFFF, Some(ObjectKind::Process)),
-    ("FA", 0x001F_01FF, Some(ObjectKind::File)),
-    ("Modify", 0x0013_01BF, Some(ObjectKind::File)),
-    ("FW", 0x0012_0116, Some(ObjectKind::File)),
-    ("FX", 0x0012_00A0, Some(ObjectKind::File)),
-    ("FR", 0x0012_0089, Some(ObjectKind::File)),
-    ("Write", 0x0010_0116, Some(ObjectKind::File)),
-    ("SERVICE_ALL_ACCESS", 0x000F_01FF, Some(ObjectKind::Service)),
-    ("KA", 0x000F_003F, Some(ObjectKind::Key)),
+    ("PROCESS_ALL_ACCESS", 0x001F_FFFF, PROCESS),
+    ("FA", 0x001F_01FF, FILE),
+    ("Modify", 0x0013_01BF, FILE),
+    ("FW", 0x0012_0116, FILE),
+    ("FX", 0x0012_00A0, FILE),
+    ("FR", 0x0012_0089, FILE),
+    ("Write", 0x0010_0116, FILE),
+    ("SERVICE_ALL_ACCESS", 0x000F_01FF, SERVICE),
+    ("KA", 0x000F_003F, KEY),
     ("WO", 0x0008_0000, None),
     ("WD", 0x0004_0000, None),
-    ("KR", 0x0002_0019, Some(ObjectKind::Key)),
-    ("KW", 0x0002_0006, Some(ObjectKind::Key)),
+    ("KR", 0x0002_0019, KEY),
+    ("KW", 0x0002_0006, KEY),
     ("RC", 0x0002_0000, None),
     ("SD", 0x0001_0000, None),
 ];
 
 /// The rights, one bit each, by the names of winnt.h and winsvc.h.
 static RIGHTS: [NamedBits; 51] = [
-    ("FILE_READ_DATA", 0x1, Some(ObjectKind::File)),
-    ("FILE_WRITE_DATA", 0x2, Some(ObjectKind::File)),
-    ("FILE_APPEND_DATA", 0x4, Some(ObjectKind::File)),
-    ("FILE_READ_EA", 0x8, Some(ObjectKind::File)),
-    ("FILE_WRITE_EA", 0x10, Some(ObjectKind::File)),
-    ("FILE_EXECUTE", 0x20, Some(ObjectKind::File)),
-    ("FILE_DELETE_CHILD", 0x40, Some(ObjectKind::File)),
-    ("FILE_READ_ATTRIBUTES", 0x80, Some(ObjectKind::File)),
-    ("FILE_WRITE_ATTRIBUTES", 0x100, Some(ObjectKind::File)),
-    ("KEY_QUERY_VALUE", 0x1, Some(ObjectKind::Key)),
-    ("KEY_SET_VALUE", 0x2, Some(ObjectKind::Key)),
-    ("KEY_CREATE_SUB_KEY", 0x4, Some(ObjectKind::Key)),
-    ("KEY_ENUMERATE_SUB_KEYS", 0x8, Some(ObjectKind::Key)),
-    ("KEY_NOTIFY", 0x10, Some(ObjectKind::Key)),
-    ("KEY_CREATE_LINK", 0x20, Some(ObjectKind::Key)),
-    ("KEY_WOW64_64KEY", 0x100, Some(ObjectKind::Key)),
-    ("KEY_WOW64_32KEY", 0x200, Some(ObjectKind::Key)),
-    ("SERVICE_QUERY_CONFIG", 0x1, Some(ObjectKind::Service)),
-    ("SERVICE_CHANGE_CONFIG", 0x2, Some(ObjectKind::Service)),
-    ("SERVICE_QUERY_STATUS", 0x4, Some(ObjectKind::Service)),
-    (
-        "SERVICE_ENUMERATE_DEPENDENTS",
-        0x8,
-        Some(ObjectKind::Service),
-    ),
-    ("SERVICE_START", 0x10, Some(ObjectKind::Service)),
-    ("SERVICE_STOP", 0x20, Some(ObjectKind::Service)),
-    ("SERVICE_PAUSE_CONTINUE", 0x40, Some(ObjectKind::Service)),
-    ("SERVICE_INTERROGATE", 0x80, Some(ObjectKind::Service)),
-    (
-        "SERVICE_USER_DEFINED_CONTROL",
-        0x100,
-        Some(ObjectKind::Service),
-    ),
-    ("PROCESS_TERMINATE", 0x1, Some(ObjectKind::Process)),
-    ("PROCESS_CREATE_THREAD", 0x2, Some(ObjectKind::Process)),
-    ("PROCESS_SET_SESSIONID", 0x4, Some(ObjectKind::Process)),
-    ("PROCESS_VM_OPERATION", 0x8, Some(ObjectKind::Process)),
-    ("PROCESS_VM_READ", 0x10, Some(ObjectKind::Process)),
-    ("PROCESS_VM_WRITE", 0x20, Some(ObjectKind::Process)),
-    ("PROCESS_DUP_HANDLE", 0x40, Some(ObjectKind::Process)),
-    ("PROCESS_CREATE_PROCESS", 0x80, Some(ObjectKind::Process)),
-    ("PROCESS_SET_QUOTA", 0x100, Some(ObjectKind::Process)),
-    ("PROCESS_SET_INFORMATION", 0x200, Some(ObjectKind::Process)),
-    (
-        "PROCESS_QUERY_INFORMATION",
-        0x400,
-        Some(ObjectKind::Process),
-    ),
-    ("PROCESS_SUSPEND_RESUME", 0x800, Some(ObjectKind::Process)),
-    (
-        "PROCESS_QUERY_LIMITED_INFORMATION",
-        0x1000,
-        Some(ObjectKind::Process),
-    ),
-    (
-        "PROCESS_SET_LIMITED_INFORMATION",
-        0x2000,
-        Some(ObjectKind::Process),
-    ),
+    ("FILE_READ_DATA", 0x1, FILE),
+    ("FILE_WRITE_DATA", 0x2, FILE),
+    ("FILE_APPEND_DATA", 0x4, FILE),
+    ("FILE_READ_EA", 0x8, FILE),
+    ("FILE_WRITE_EA", 0x10, FILE),
+    ("FILE_EXECUTE", 0x20, FILE),
+    ("FILE_DELETE_CHILD", 0x40, FILE),
+    ("FILE_READ_ATTRIBUTES", 0x80, FILE),
+    ("FILE_WRITE_ATTRIBUTES", 0x100, FILE),
+    ("KEY_QUERY_VALUE", 0x1, KEY),
+    ("KEY_SET_VALUE", 0x2, KEY),
+    ("KEY_CREATE_SUB_KEY", 0x4, KEY),
+    ("KEY_ENUMERATE_SUB_KEYS", 0x8, KEY),
+    ("KEY_NOTIFY", 0x10, KEY),
+    ("KEY_CREATE_LINK", 0x20, KEY),
+    ("KEY_WOW64_64KEY", 0x100, KEY),
+    ("KEY_WOW64_32KEY", 0x200, KEY),
+    ("SERVICE_QUERY_CONFIG", 0x1, SERVICE),
+    ("SERVICE_CHANGE_CONFIG", 0x2, SERVICE),
+    ("SERVICE_QUERY_STATUS", 0x4, SERVICE),
+    ("SERVICE_ENUMERATE_DEPENDENTS", 0x8, SERVICE),
+    ("SERVICE_START", 0x10, SERVICE),
+    ("SERVICE_STOP", 0x20, SERVICE),
+    ("SERVICE_PAUSE_CONTINUE", 0x40, SERVICE),
+    ("SERVICE_INTERROGATE", 0x80, SERVICE),
+    ("SERVICE_USER_DEFINED_CONTROL", 0x100, SERVICE),
+    ("PROCESS_TERMINATE", 0x1, PROCESS),
+    ("PROCESS_CREATE_THREAD", 0x2, PROCESS),
+    ("PROCESS_SET_SESSIONID", 0x4, PROCESS),
+    ("PROCESS_VM_OPERATION", 0x8, PROCESS),
+    ("PROCESS_VM_READ", 0x10, PROCESS),
+    ("PROCESS_VM_WRITE", 0x20, PROCESS),
+    ("PROCESS_DUP_HANDLE", 0x40, PROCESS),
+    ("PROCESS_CREATE_PROCESS", 0x80, PROCESS),
+    ("PROCESS_SET_QUOTA", 0x100, PROCESS),
+    ("PROCESS_SET_INFORMATION", 0x200, PROCESS),
+    ("PROCESS_QUERY_INFORMATION", 0x400, PROCESS),
+    ("PROCESS_SUSPEND_RESUME", 0x800, PROCESS),
+    ("PROCESS_QUERY_LIMITED_INFORMATION", 0x1000, PROCESS),
+    ("PROCESS_SET_LIMITED_INFORMATION", 0x2000, PROCESS),
     ("DELETE", 0x0001_0000, None),
     ("READ_CONTROL", 0x0002_0000, None),
     ("WRITE_DAC", 0x0004_0000, None),
@@ -165,11 +152,7 @@ pub(crate) fn mask_names(
 ) -> Result<String, AllocError>
     ensures { IfOk result (λ text. string_bytes text ≡ mask_names kind mask) }
 {
-    let mut text = String::new(alloc);
-    let named = push_names(&mut text, 0, short_names(), kind, mask)?;
-    let named = push_names(&mut text, named, rights(), kind, mask)?;
-    push_rest(alloc, &mut text, mask.minus(Mask(named)))?;
-    Ok(text)
+    names_before_rights(alloc, short_names(), kind, mask)
 }
 
 /// The rights, as `FILE_READ_DATA+DELETE`, and bits without a name as a number after them.
@@ -180,8 +163,22 @@ pub(crate) fn right_names(
 ) -> Result<String, AllocError>
     ensures { IfOk result (λ text. string_bytes text ≡ right_names kind mask) }
 {
+    names_before_rights(alloc, &[], kind, mask)
+}
+
+/// A mask by the names of these rows and then by its rights.
+fn names_before_rights(
+    alloc: Global,
+    rows: &[NamedBits],
+    kind: Option<ObjectKind>,
+    mask: Mask,
+) -> Result<String, AllocError>
+    ensures { IfOk result (λ text. string_bytes text
+        ≡ named_from (names_of kind (map named_bits rows.now ++ rights)) mask 0 []) }
+{
     let mut text = String::new(alloc);
-    let named = push_names(&mut text, 0, rights(), kind, mask)?;
+    let named = push_names(&mut text, 0, rows, kind, mask)?;
+    let named = push_names(&mut text, named, rights(), kind, mask)?;
     push_rest(alloc, &mut text, mask.minus(Mask(named)))?;
     Ok(text)
 }
@@ -196,9 +193,9 @@ fn push_names(
     kind: Option<ObjectKind>,
     mask: Mask,
 ) -> Result<u32, AllocError>
-    ensures { IfOk result (λ named. (more : List (Name ℕ))
-        → named_from (names_of kind (map named_bits rows.now) ++ more) mask before (string_bytes text.old)
-        ≡ named_from more mask named (string_bytes text.new)) }
+    ensures { IfOk result (λ named. (more : List NamedBits)
+        → named_from (names_of kind (map named_bits rows.now ++ more)) mask before (string_bytes text.old)
+        ≡ named_from (names_of kind more) mask named (string_bytes text.new)) }
 {
     let mut named = before;
     for (name, bits, of) in rows {

@@ -1,13 +1,10 @@
 //! The rights that `who` is asked about, and its lines: rights, and whom they are granted to.
-ghost use Rattle.std.specs.Prelude.{◌≡◌, ◌++◌, IfOk, OnOk, List, codes, fold, string_bytes, take};
-ghost use Rattle.sd_text.specs.Canon.{full_canon};
-ghost use Rattle.sd_analysis.specs.declared.who_has.Alternative.{Alternative as AlternativeValue};
-ghost use Rattle.sd_answer.specs.Lines.{LineValue, joined, values};
-ghost use Rattle.sd_answer.specs.Who.{alternative_text, holder_text, rights_asked, sids_text, unless_text, who_text};
-ghost use Rattle.sd_answer.specs.Who.{with_access};
+ghost use Rattle.std.specs.Prelude.{◌≡◌, IfOk, OnOk, string_bytes, take};
+ghost use Rattle.sd_answer.specs.Lines.{values};
+ghost use Rattle.sd_answer.specs.Who.{alternative_text, holder_text, rights_asked, unless_text, who_text, with_access};
 
 use crate::answer::Spelling;
-use crate::lines::{BitsLine, join, push_lines};
+use crate::lines::{BitsLine, LineHead, join, push_sid};
 use sd_analysis::{Access, Alternative, Holder};
 use sd_check::MAXIMUM_PLACE;
 use sd_sid::{GenericMapping, Mask, OBJECT_RIGHTS, Sid};
@@ -40,11 +37,17 @@ pub fn who_text(
         join_access(alloc, &mut lines, access)?;
     }
     let mut text = String::new(alloc);
-    push_lines(alloc, &mut text, spelling, "", &lines)?;
+    let head = "";
+    LineHead {
+        alloc,
+        spelling,
+        head,
+    }
+    .push_lines(&mut text, &lines)?;
     Ok(text)
 }
 
-/// Adds the rights of an access.
+/// Adds the rights of an access, to the line of each alternative.
 fn join_access(alloc: Global, lines: &mut Vec<BitsLine>, access: &Access) -> Result<(), AllocError>
     ensures { OnOk result (values lines.new.items ≡ with_access (values lines.old.items) access.now) }
 {
@@ -52,30 +55,9 @@ fn join_access(alloc: Global, lines: &mut Vec<BitsLine>, access: &Access) -> Res
         let nobody = String::from_str(alloc, " to nobody")?;
         return join(lines, access.mask, nobody);
     }
-    join_each(
-        alloc,
-        lines,
-        access.mask,
-        &access.denied,
-        &access.alternatives,
-    )
-}
-
-/// Adds the rights to the line of each alternative.
-fn join_each(
-    alloc: Global,
-    lines: &mut Vec<BitsLine>,
-    mask: Mask,
-    denied: &[Sid],
-    alternatives: &[Alternative],
-) -> Result<(), AllocError>
-    ensures { OnOk result (values lines.new.items
-        ≡ fold (λ (so_far : List LineValue) (a : AlternativeValue). joined so_far mask (alternative_text denied.now a))
-        (values lines.old.items) alternatives.now) }
-{
-    for alternative in alternatives {
-        let said = alternative_text(alloc, denied, alternative)?;
-        join(lines, mask, said)?;
+    for alternative in &access.alternatives {
+        let said = alternative_text(alloc, &access.denied, alternative)?;
+        join(lines, access.mask, said)?;
     }
     Ok(())
 }
@@ -108,16 +90,12 @@ fn holder_text(alloc: Global, holder: &Holder) -> Result<String, AllocError>
     match holder {
         Holder::Everyone => String::from_str(alloc, "everyone"),
         Holder::Sid(sid) => print_full_sid(alloc, sid),
-        Holder::Owner(sid) => owner_text(alloc, sid),
+        Holder::Owner(sid) => {
+            let mut text = print_full_sid(alloc, sid)?;
+            text.push_str(" as the owner")?;
+            Ok(text)
+        }
     }
-}
-
-fn owner_text(alloc: Global, sid: &Sid) -> Result<String, AllocError>
-    ensures { IfOk result (λ text. string_bytes text ≡ full_canon sid.now ++ codes " as the owner") }
-{
-    let mut text = print_full_sid(alloc, sid)?;
-    text.push_str(" as the owner")?;
-    Ok(text)
 }
 
 fn unless_text(alloc: Global, sids: &[Sid]) -> Result<String, AllocError>
@@ -127,18 +105,8 @@ fn unless_text(alloc: Global, sids: &[Sid]) -> Result<String, AllocError>
         return Ok(String::new(alloc));
     }
     let mut text = String::from_str(alloc, " unless")?;
-    push_sids(alloc, &mut text, sids)?;
-    Ok(text)
-}
-
-/// Adds SIDs in full, each after a space ([MS-DTYP] 2.4.2.1).
-fn push_sids(alloc: Global, text: &mut String, sids: &[Sid]) -> Result<(), AllocError>
-    ensures { OnOk result (string_bytes text.new ≡ string_bytes text.old ++ sids_text sids.now) }
-{
     for sid in sids {
-        let sid = print_full_sid(alloc, sid)?;
-        text.push_str(" ")?;
-        text.push_str(sid.as_str())?;
+        push_sid(alloc, &mut text, sid, "")?;
     }
-    Ok(())
+    Ok(text)
 }

@@ -1,13 +1,11 @@
 //! The words that make a token: a user's groups, restricting SIDs and privileges.
-ghost use Rattle.std.specs.Prelude.{◌≡◌, ◌<◌, ◌++◌, ℕ, Err, IfSome, IfNone, IfOk, List, Some, None, codes, length};
-ghost use Rattle.std.specs.Prelude.{if◌then◌else◌};
+ghost use Rattle.std.specs.Prelude.{◌≡◌, ◌<◌, ◌++◌, ℕ, Err, IfSome, IfNone, IfOk, List, length};
 ghost use Rattle.sd_text.specs.Grammar.{Spells};
 ghost use Rattle.sd_text.specs.Sid.{sid_text_in};
 ghost use Rattle.sd_sid.specs.Sid.{SidValue};
 ghost use Rattle.sd_answer.specs.declared.word.Word.{Word as WordValue};
 ghost use Rattle.sd_answer.specs.declared.word.TokenError.TheVariants.{Memory};
-ghost use Rattle.sd_answer.specs.Word.{AreGroups, AreWords, IsFirstNoGroup, IsFirstNoWord, IsGroup, IsGroupWord};
-ghost use Rattle.sd_answer.specs.Word.{IsToken, IsWord, is_group};
+ghost use Rattle.sd_answer.specs.Word.{AreGroups, AreWords, IsFirstNoGroup, IsFirstNoWord, IsGroup, IsToken, IsWord};
 ghost use Rattle.sd_check.specs.declared.token.GroupState.{GroupState as GroupStateValue};
 ghost use Rattle.sd_answer.specs.Word.{groups_of, is_security, is_take_ownership, restricting_of, token_of};
 ghost use Rattle.sd_answer.specs.Word.{texts as texts_of};
@@ -30,42 +28,6 @@ pub(crate) enum Word {
     Security,
     /// `+take`.
     TakeOwnership,
-}
-
-impl Word {
-    fn is_group(&self) -> bool
-        ensures { result ≡ is_group self.now }
-    {
-        match self {
-            Word::Group { .. } => true,
-            _ => false,
-        }
-    }
-
-    /// The word, if it is a group.
-    fn if_group(self) -> Option<Word>
-        ensures { result ≡ if is_group self then Some self else None }
-    {
-        if self.is_group() { Some(self) } else { None }
-    }
-
-    fn is_security(&self) -> bool
-        ensures { result ≡ is_security self.now }
-    {
-        match self {
-            Word::Security => true,
-            _ => false,
-        }
-    }
-
-    fn is_take_ownership(&self) -> bool
-        ensures { result ≡ is_take_ownership self.now }
-    {
-        match self {
-            Word::TakeOwnership => true,
-            _ => false,
-        }
-    }
 }
 
 /// Why there is no token.
@@ -111,6 +73,21 @@ fn sid_before(known: Aliases, text: &str, ending: &str) -> Option<Sid>
     }
 }
 
+/// The group that the text is.
+fn read_group(known: Aliases, text: &str) -> Option<(Sid, GroupState)>
+    ensures group { IfSome result (λ group. IsGroup known text.now group.0 group.1) }
+    ensures none { IfNone result ((sid : SidValue) (state : GroupStateValue) → IsGroup known text.now sid state → ⊥) }
+{
+    if let Ok(sid) = read_sid_text_in(known, text) {
+        return Some((sid, GroupState::Enabled));
+    }
+    if let Some(sid) = sid_before(known, text, "=deny") {
+        return Some((sid, GroupState::DenyOnly));
+    }
+    let sid = sid_before(known, text, "=off")?;
+    Some((sid, GroupState::Disabled))
+}
+
 /// The word that the text is.
 fn read_word(known: Aliases, text: &str) -> Option<Word>
     ensures word { IfSome result (IsWord known text.now) }
@@ -122,36 +99,11 @@ fn read_word(known: Aliases, text: &str) -> Option<Word>
     if text == "+take" {
         return Some(Word::TakeOwnership);
     }
-    read_group(known, text)
-}
-
-/// The group or the restricting SID that the text is.
-fn read_group(known: Aliases, text: &str) -> Option<Word>
-    ensures word { IfSome result (IsWord known text.now) }
-    ensures enabled { IfNone result ((sid : SidValue) → Spells (sid_text_in known) text.now sid → ⊥) }
-    ensures deny_only { IfNone result ((front : List ℕ) (sid : SidValue) → text.now ≡ front ++ codes "=deny"
-        → Spells (sid_text_in known) front sid → ⊥) }
-    ensures disabled { IfNone result ((front : List ℕ) (sid : SidValue) → text.now ≡ front ++ codes "=off"
-        → Spells (sid_text_in known) front sid → ⊥) }
-    ensures restricting { IfNone result ((front : List ℕ) (sid : SidValue) → text.now ≡ front ++ codes "=restrict"
-        → Spells (sid_text_in known) front sid → ⊥) }
-{
-    if let Ok(sid) = read_sid_text_in(known, text) {
-        let state = GroupState::Enabled;
+    if let Some((sid, state)) = read_group(known, text) {
         return Some(Word::Group { sid, state });
     }
-    if let Some(sid) = sid_before(known, text, "=deny") {
-        let state = GroupState::DenyOnly;
-        return Some(Word::Group { sid, state });
-    }
-    if let Some(sid) = sid_before(known, text, "=off") {
-        let state = GroupState::Disabled;
-        return Some(Word::Group { sid, state });
-    }
-    if let Some(sid) = sid_before(known, text, "=restrict") {
-        return Some(Word::Restricting { sid });
-    }
-    None
+    let sid = sid_before(known, text, "=restrict")?;
+    Some(Word::Restricting { sid })
 }
 
 /// The token of a user and of these words ([MS-DTYP] 2.5.2), whose SIDs may have these aliases. Each word is a group,
@@ -206,13 +158,13 @@ fn token_of(alloc: Global, user: Sid, words: &[Word]) -> Result<Token, AllocErro
 fn has_security(words: &[Word]) -> bool
     ensures { result ≡ list_any is_security words.now }
 {
-    words.iter().any(|word| word.is_security())
+    words.iter().any(|word| matches!(word, Word::Security))
 }
 
 fn has_take_ownership(words: &[Word]) -> bool
     ensures { result ≡ list_any is_take_ownership words.now }
 {
-    words.iter().any(|word| word.is_take_ownership())
+    words.iter().any(|word| matches!(word, Word::TakeOwnership))
 }
 
 /// The groups among the words.
@@ -253,34 +205,12 @@ pub fn read_base(
         → IsFirstNoGroup known (texts_of texts.now) place }
     ensures within { (place : ℕ) → result ≡ Err (TokenError.NoWord place) → place < length texts.now }
 {
-    let words = read_group_words(alloc, known, texts)?;
-    Ok(groups_in(alloc, &words)?)
-}
-
-/// The words that the texts are, in order, each a group.
-fn read_group_words(alloc: Global, known: Aliases, texts: &[&str]) -> Result<Vec<Word>, TokenError>
-    ensures words { IfOk result (λ words. AreGroups known (texts_of texts.now) (groups_of words.items)) }
-    ensures no_group { (place : ℕ) → result ≡ Err (TokenError.NoWord place)
-        → IsFirstNoGroup known (texts_of texts.now) place }
-    ensures within { (place : ℕ) → result ≡ Err (TokenError.NoWord place) → place < length texts.now }
-{
-    let mut words = Vec::new(alloc);
+    let mut groups = Vec::new(alloc);
     for place in 0..texts.len() {
-        match read_group_word(known, texts[place]) {
-            Some(word) => words.push(word)?,
+        match read_group(known, texts[place]) {
+            Some(group) => groups.push(group)?,
             None => return Err(TokenError::NoWord { place }),
         }
     }
-    Ok(words)
-}
-
-/// The word that the text is, if that is a group.
-fn read_group_word(known: Aliases, text: &str) -> Option<Word>
-    ensures group { IfSome result (IsGroupWord known text.now) }
-    ensures none { IfNone result ((sid : SidValue) (state : GroupStateValue) → IsGroup known text.now sid state → ⊥) }
-{
-    match read_word(known, text) {
-        None => None,
-        Some(word) => word.if_group(),
-    }
+    Ok(groups)
 }

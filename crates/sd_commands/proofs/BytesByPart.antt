@@ -1,5 +1,5 @@
 -- Hexadecimal with signs between bytes, part by part.
-use Rattle.std.proofs.Common.{◌≡◌, ℕ, ◌+◌, ◌-◌, ◌<◌, ◌≤◌, Bool, false, All, List, [], ◌∷◌, ◌++◌, length, take, drop, Ok, Err, refl, sym, ◌∙◌, ap, append_assoc, append-nil, arith, Some, None, cond, ltb, true}
+use Rattle.std.proofs.Common.{◌≡◌, ℕ, ◌+◌, ◌-◌, ◌<◌, ◌≤◌, Bool, false, All, List, [], ◌∷◌, length, take, drop, Ok, refl, ◌∙◌, ap, append-nil, arith, Some, None, cond, ltb, true}
 use Rattle.std.specs.List.{slice_split, position_or_len, before_first, after_first}
 use Rattle.std.specs.Option.{unwrap_or}
 use Rattle.std.proofs.lemmas.Bool.{ltb-false}
@@ -19,16 +19,6 @@ place_or_end n m within = elim (ltb n m) as (λ b. ltb n m ≡ b → unwrap_or (
   | true ↦ λ is. refl
   | false ↦ λ is. omega (arith, ltb-false n m is)
 ] refl
-
--- ---- results that are joined
-
-pub joined_none : (r : BytesRead) → joined (Ok []) r ≡ r
-joined_none (Ok bytes) = refl
-joined_none (Err reason) = refl
-
-pub joined_both : (one two : List ℕ) (r : BytesRead) → joined (Ok one) (joined (Ok two) r) ≡ joined (Ok (one ++ two)) r
-joined_both one two (Ok bytes) = ap Ok (sym (append_assoc one two bytes))
-joined_both one two (Err reason) = refl
 
 -- ---- the first part
 
@@ -53,31 +43,6 @@ unfolding parts_read decode_pairs
 parts_last xs end place at high =
     rw (take_rest xs end, drop_all end xs high)
     (ap (parts_read place) (slice_split_none is_between xs (none_pass is_between xs (omega (arith, at, high)))))
-
--- ---- part by part
-
--- one more part is read
-pub part_joins : (total : BytesRead) (text rest behind part bytes more grown : List ℕ)
-    → total ≡ joined (Ok bytes) (parts_read (length text - length rest) (slice_split is_between rest))
-    → length rest ≤ length text → length behind < length rest
-    → parts_read (length text - length rest) (slice_split is_between rest) ≡ joined (part_read (length text - length rest) part)
-    (parts_read (((length text - length rest) + length rest) - length behind) (slice_split is_between behind))
-    → part_read (length text - length rest) part ≡ Ok more → grown ≡ bytes ++ more
-    → total ≡ joined (Ok grown) (parts_read (length text - length behind) (slice_split is_between behind))
-part_joins total text rest behind part bytes more grown so_far within less cut read longer =
-    let number : ((length text - length rest) + length rest) - length behind ≡ length text - length behind = omega (arith, within, less) in
-    so_far ∙ ap (joined (Ok bytes)) (cut ∙ ap (λ r. joined r (parts_read (((length text - length rest) + length rest) - length behind) (slice_split is_between behind))) read
-    ∙ ap (λ n. joined (Ok more) (parts_read n (slice_split is_between behind))) number)
-    ∙ joined_both bytes more _ ∙ ap (λ xs. joined (Ok xs) (parts_read (length text - length behind) (slice_split is_between behind))) (sym longer)
-
--- a part isn't read
-pub part_fails : (total : BytesRead) (text rest behind part bytes : List ℕ) (reason : List ℕ × ℕ)
-    → total ≡ joined (Ok bytes) (parts_read (length text - length rest) (slice_split is_between rest))
-    → parts_read (length text - length rest) (slice_split is_between rest) ≡ joined (part_read (length text - length rest) part)
-    (parts_read (((length text - length rest) + length rest) - length behind) (slice_split is_between behind))
-    → part_read (length text - length rest) part ≡ Err reason → total ≡ Err reason
-part_fails total text rest behind part bytes reason so_far cut fails =
-    so_far ∙ ap (joined (Ok bytes)) (cut ∙ ap (λ r. joined r (parts_read (((length text - length rest) + length rest) - length behind) (slice_split is_between behind))) fails)
 
 -- nothing is left
 pub all_joined : (total : BytesRead) (text rest bytes : List ℕ)

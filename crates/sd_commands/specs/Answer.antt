@@ -9,10 +9,12 @@ use Rattle.sd_sid.specs.Sid.{SidValue}
 use Rattle.sd_acl.specs.Descriptor.{DescriptorValue, descriptor_of}
 use Rattle.sd_check.specs.declared.verdict.Verdict.{Verdict}
 use Rattle.sd_check.specs.declared.verdict.Verdict.TheVariants.{Granted}
-use Rattle.sd_text.specs.Grammar.{Grammar, Spells, HasFault}
+use Rattle.sd_text.specs.Fault.{StandsIn}
+use Rattle.sd_text.specs.Grammar.{Spells}
 use Rattle.sd_text.specs.Sid.{sid_text_in}
 use Rattle.sd_text.specs.Canon.{canon_in, full_canon}
-use Rattle.sd_text.specs.declared.fault.TextError.TheVariants.{Fault}
+use Rattle.sd_text.specs.declared.fault.TextError.{TextError}
+use Rattle.sd_text.specs.declared.fault.TextError.TheVariants.{Fault, Memory}
 use Rattle.sd_text.specs.declared.fault.TextFault.{TextFault}
 use Rattle.sd_wire.specs.Reading.{descriptor_read}
 use Rattle.sd_wire.specs.Writing.{wire_of}
@@ -44,6 +46,8 @@ use Rattle.sd_commands.specs.Diagnostic.{at_byte, fault_text, sacl_note, sddl_fa
 use Rattle.sd_commands.specs.Diagnostic.{wire_fault_text, word_argument, word_at}
 use Rattle.sd_commands.specs.Diagnostic.{IsStateReason, IsWordReason}
 use Rattle.sd_commands.specs.declared.answer.Answer.{Answer}
+use Rattle.sd_commands.specs.declared.answer.DescriptorCommand.{DescriptorCommand}
+use Rattle.sd_commands.specs.declared.answer.DescriptorCommand.TheVariants as about
 use Rattle.sd_commands.specs.declared.answer.Outcome.{Outcome}
 use Rattle.sd_commands.specs.declared.answer.Outcome.TheVariants.{Done, Refused}
 use Rattle.sd_commands.specs.declared.descriptor.Given.{Given}
@@ -99,25 +103,25 @@ IsDone printed = IsAnswer printed [] Done
 abbrev pub IsFault : List ℕ → List ℕ → AnswerValue → Type 0
 IsFault printed told = IsAnswer printed told Refused
 
--- an argument's text has this first fault
-abbrev pub IsTextFault : {A : Type 0} → Settings → Grammar A → List ℕ → List ℕ → List ℕ → AnswerValue → Type 0
-IsTextFault settings grammar text expected argument answer =
-    (fault : TextFault) × (place : ℕ) × HasFault grammar text fault place
-    × IsFault expected (told_line argument (fault_text settings.points text fault place)) answer
+-- an argument's text has this fault first; out of memory is no answer
+abbrev pub IsFaultOf : Settings → List ℕ → List ℕ → List ℕ → TextError → AnswerValue → Type 0
+IsFaultOf settings what name text (Fault fault place) answer =
+    IsFault (fault_line what) (told_line name (fault_text settings.points text fault place)) answer
+IsFaultOf settings what name text Memory answer = ⊥
 
 -- what is answered of the mask that a text is, or its first fault
 abbrev pub AnswersOfMask : Settings → List ℕ → (ℕ → AnswerValue → Type 0) → AnswerValue → Type 0
 AnswersOfMask settings mask Answers answer =
     ((asked : ℕ) × IsMaskIn settings.spelling mask asked × Answers asked answer)
-    ⊎ ((fault : TextFault) × (place : ℕ) × IsMaskErrorIn settings.spelling mask (Fault fault place)
-    × IsFault (fault_line (codes "mask"))
-    (told_line (codes "MASK") (fault_text settings.points mask fault place)) answer)
+    ⊎ ((error : TextError) × IsMaskErrorIn settings.spelling mask error
+    × IsFaultOf settings (codes "mask") (codes "MASK") mask error answer)
 
 -- what is answered of the SID that the argument of this name is, or its first fault
 abbrev pub AnswersOfSid : List ℕ → Settings → List ℕ → (SidValue → AnswerValue → Type 0) → AnswerValue → Type 0
 AnswersOfSid argument settings text Answers answer =
     ((sid : SidValue) × Spells (sid_text_in settings.aliases) text sid × Answers sid answer)
-    ⊎ IsTextFault settings (sid_text_in settings.aliases) text (fault_line (codes "sid")) argument answer
+    ⊎ ((error : TextError) × StandsIn (sid_text_in settings.aliases) text error
+    × IsFaultOf settings (codes "sid") argument text error answer)
 
 -- the word at the place is the first that is none, for this reason
 abbrev pub IsTokenFault : ℕ → List ℕ → List ℕ → AnswerValue → Type 0
@@ -130,13 +134,6 @@ abbrev pub argument : List (Bor (List ℕ)) → ℕ → List ℕ
 argument arguments place = option_map_or (λ text. text.now) (slice_get arguments place) []
 
 -- ---- a descriptor's text
-
--- the fault of the argument of this name is printed
-abbrev pub AnswersSddlFault : List ℕ → Settings → List ℕ → AnswerValue → Type 0
-AnswersSddlFault argument settings written answer =
-    (fault : TextFault) × (place : ℕ) × IsUnreadAt settings.aliases settings.without_sacl written fault place
-    × IsFault (sddl_fault_line fault place)
-    (told_line argument (sddl_fault_text settings.points written fault place)) answer
 
 -- the other answer, and where a SACL was left out, that is told first
 unfoldable pub IsNoted : List ℕ → Bool → AnswerValue → AnswerValue → Type 0
@@ -154,7 +151,9 @@ IsMissingDacl argument missing answer = IsFault (fault_line (codes "nodacl")) (t
 -- the argument of this name isn't taken: the first fault of its text is printed, or that its descriptor lacks a list
 abbrev pub IsRefusedArgument : List ℕ → Settings → List ℕ → AnswerValue → Type 0
 IsRefusedArgument argument settings written answer =
-    AnswersSddlFault argument settings written answer
+    ((fault : TextFault) × (place : ℕ) × IsUnreadAt settings.aliases settings.without_sacl written fault place
+    × IsFault (sddl_fault_line fault place)
+    (told_line argument (sddl_fault_text settings.points written fault place)) answer)
     ⊎ ((d : DescriptorValue) × (left_out : Bool) × (missing : List ℕ)
     × IsRead settings.aliases settings.without_sacl written d left_out
     × (missing_dacl settings.require_dacl d.dacl ≡ Some missing)
@@ -180,9 +179,6 @@ AnswersOfArgument argument settings written Answers answer =
     × Noting argument left_out (Answers d) answer)
     ⊎ IsRefusedArgument argument settings written answer
 
-abbrev pub AnswersOfText : Settings → List ℕ → (DescriptorValue → AnswerValue → Type 0) → AnswerValue → Type 0
-AnswersOfText = AnswersOfArgument (codes "SDDL")
-
 -- ---- verdicts
 
 -- the verdict's line, or with it the reasons
@@ -198,11 +194,20 @@ IsVerdict settings form d token asked answer =
     (verdict_outcome (verdict d.owner (dacl_entries d.dacl) settings.mapping token asked)) answer
 
 -- the first of the words that is none, and why
-abbrev pub IsWordFault : Settings → List (List ℕ) → AnswerValue → Type 0
-IsWordFault settings words answer =
-    (place : ℕ) × IsFirstNoWord settings.aliases words place
-    × (reason : List ℕ) × IsWordReason settings.points settings.aliases (word_at words place) reason
+abbrev pub IsFirstFault : (List (List ℕ) → ℕ → Type 0) → (List ℕ → List ℕ → Type 0) → List (List ℕ) → AnswerValue
+    → Type 0
+IsFirstFault IsFirst IsReason words answer =
+    (place : ℕ) × IsFirst words place
+    × (reason : List ℕ) × IsReason (word_at words place) reason
     × IsTokenFault place (word_at words place) reason answer
+
+abbrev pub IsWordFault : Settings → List (List ℕ) → AnswerValue → Type 0
+IsWordFault settings =
+    IsFirstFault (IsFirstNoWord settings.aliases) (IsWordReason settings.points settings.aliases)
+
+abbrev pub IsGroupFault : Settings → List (List ℕ) → AnswerValue → Type 0
+IsGroupFault settings =
+    IsFirstFault (IsFirstNoGroup settings.aliases) (IsStateReason settings.points settings.aliases)
 
 -- the words make a token, for which this is the verdict; or one of them is no word
 abbrev pub AnswersWords : Settings → Form → DescriptorValue → SidValue → ℕ → List (Bor (List ℕ)) → AnswerValue → Type 0
@@ -211,20 +216,11 @@ AnswersWords settings form d user asked words answer =
     × IsVerdict settings form d token asked answer)
     ⊎ IsWordFault settings (texts words) answer
 
-abbrev pub AnswersMask : Settings → Form → DescriptorValue → SidValue → List ℕ → List (Bor (List ℕ)) → AnswerValue
-    → Type 0
-AnswersMask settings form d user mask words = AnswersOfMask settings mask
-    (λ asked. AnswersWords settings form d user asked words)
-
 abbrev pub AnswersUser : Settings → Form → List ℕ → List ℕ → List (Bor (List ℕ)) → DescriptorValue → AnswerValue
     → Type 0
 AnswersUser settings form user mask words d =
-    AnswersOfSid (codes "USER") settings user (λ sid. AnswersMask settings form d sid mask words)
-
--- the arguments after the descriptor are the user, the mask and words
-abbrev pub AnswersVerdict : Settings → Form → List ℕ → List (Bor (List ℕ)) → AnswerValue → Type 0
-AnswersVerdict settings form written arguments = AnswersOfText settings written
-    (AnswersUser settings form (argument arguments 0) (argument arguments 1) (drop 2 arguments))
+    AnswersOfSid (codes "USER") settings user
+    (λ sid. AnswersOfMask settings mask (λ asked. AnswersWords settings form d sid asked words))
 
 -- ---- other forms
 
@@ -232,20 +228,10 @@ AnswersVerdict settings form written arguments = AnswersOfText settings written
 abbrev pub printed_line : Spelling → DescriptorValue → List ℕ
 printed_line spelling d = line (canon_in (right_names_of spelling) d)
 
-abbrev pub AnswersPrint : Settings → List ℕ → AnswerValue → Type 0
-AnswersPrint settings written = AnswersOfText settings written (λ d. IsDone (printed_line settings.spelling d))
-
 -- the same with the DACL in canonical order; standard error says what moved
 abbrev pub IsSorted : Settings → DescriptorValue → AnswerValue → Type 0
 IsSorted settings d = IsAnswer (printed_line settings.spelling (sorted_descriptor d))
     (move_notes settings.spelling d.dacl) Done
-
-abbrev pub AnswersSort : Settings → List ℕ → AnswerValue → Type 0
-AnswersSort settings written = AnswersOfText settings written (IsSorted settings)
-
--- the self-relative form in hexadecimal
-abbrev pub AnswersToBinary : Settings → List ℕ → AnswerValue → Type 0
-AnswersToBinary settings written = AnswersOfText settings written (λ d. IsDone (line (encode_lower (wire_of d))))
 
 -- the printed text of a descriptor, where it doesn't lack the list that is required
 abbrev pub AnswersFit : Settings → Option (List ℕ) → DescriptorValue → AnswerValue → Type 0
@@ -278,13 +264,6 @@ AnswersFromBinary settings written = AnswersDecoded settings written (bytes_read
 
 -- ---- whom rights are granted to, and changes
 
--- the first of the words that is no group, and why
-abbrev pub IsGroupFault : Settings → List (List ℕ) → AnswerValue → Type 0
-IsGroupFault settings words answer =
-    (place : ℕ) × IsFirstNoGroup settings.aliases words place
-    × (reason : List ℕ) × IsStateReason settings.points settings.aliases (word_at words place) reason
-    × IsTokenFault place (word_at words place) reason answer
-
 -- the words are a base, of which this is answered; or one of them is no group
 abbrev pub AnswersOfBase : Settings → List (Bor (List ℕ)) → (List (SidValue × GroupState) → AnswerValue → Type 0)
     → AnswerValue → Type 0
@@ -298,15 +277,6 @@ PrintsWho settings asked d base answer =
     (accesses : List Access) × AreAccesses settings.mapping d base (rights_asked settings.mapping asked) accesses
     × IsDone (who_text settings.spelling accesses) answer
 
-abbrev pub AnswersWhoMask : Settings → List ℕ → List (Bor (List ℕ)) → DescriptorValue → AnswerValue → Type 0
-AnswersWhoMask settings mask words d = AnswersOfMask settings mask
-    (λ asked. AnswersOfBase settings words (PrintsWho settings asked d))
-
--- the arguments after the descriptor are the mask and a base
-abbrev pub AnswersWho : Settings → List ℕ → List (Bor (List ℕ)) → AnswerValue → Type 0
-AnswersWho settings written arguments = AnswersOfText settings written
-    (AnswersWhoMask settings (argument arguments 0) (drop 1 arguments))
-
 -- what tokens gain and lose is printed, or that they are the same
 abbrev pub PrintsComparison : Settings → DescriptorValue → DescriptorValue → List (SidValue × GroupState) → AnswerValue
     → Type 0
@@ -316,15 +286,6 @@ PrintsComparison settings old new base answer =
     × AreGains settings.mapping base (parts_in new) (parts_in old) lost
     × IsAnswer (compare_text settings.spelling (parts_in old) (parts_in new) gained lost) []
     (compare_outcome gained lost) answer
-
-abbrev pub AnswersNew : Settings → List ℕ → List (Bor (List ℕ)) → DescriptorValue → AnswerValue → Type 0
-AnswersNew settings new words old = AnswersOfArgument (codes "NEW") settings new
-    (λ d. AnswersOfBase settings words (PrintsComparison settings old d))
-
--- the arguments after the old descriptor are the new one and a base
-abbrev pub AnswersCompare : Settings → List ℕ → List (Bor (List ℕ)) → AnswerValue → Type 0
-AnswersCompare settings old arguments = AnswersOfArgument (codes "OLD") settings old
-    (AnswersNew settings (argument arguments 0) (drop 1 arguments))
 
 -- ---- findings
 
@@ -345,11 +306,6 @@ abbrev pub PrintsFindings : Settings → DescriptorValue → List (SidValue × G
 PrintsFindings settings d base answer = (lines : List ℕ) × IsLintText settings.mapping settings.spelling base d lines
     × IsLinted (lines ++ risk_lines settings d base) answer
 
--- the arguments after the descriptor are a base
-abbrev pub AnswersLint : Settings → List ℕ → List (Bor (List ℕ)) → AnswerValue → Type 0
-AnswersLint settings written words = AnswersOfText settings written
-    (λ d. AnswersOfBase settings words (PrintsFindings settings d))
-
 -- ---- rights
 
 -- the mask's rights by name
@@ -362,16 +318,38 @@ AnswersSid settings text = AnswersOfSid (codes "SID") settings text (λ sid. IsD
 
 -- ---- commands
 
+-- what is answered of a descriptor, where these are the arguments after it: the user, the mask and words; the mask and
+-- a base; the new descriptor and a base; or a base
+abbrev pub AnswersOn : Settings → DescriptorCommand → List (Bor (List ℕ)) → DescriptorValue → AnswerValue → Type 0
+AnswersOn settings about.Verdict arguments d =
+    AnswersUser settings Short (argument arguments 0) (argument arguments 1) (drop 2 arguments) d
+AnswersOn settings about.Why arguments d =
+    AnswersUser settings Explained (argument arguments 0) (argument arguments 1) (drop 2 arguments) d
+AnswersOn settings about.Who arguments d = AnswersOfMask settings (argument arguments 0)
+    (λ asked. AnswersOfBase settings (drop 1 arguments) (PrintsWho settings asked d))
+AnswersOn settings about.Compare arguments old = AnswersOfArgument (codes "NEW") settings (argument arguments 0)
+    (λ new. AnswersOfBase settings (drop 1 arguments) (PrintsComparison settings old new))
+AnswersOn settings about.Lint arguments d = AnswersOfBase settings arguments (PrintsFindings settings d)
+AnswersOn settings about.Print arguments d = IsDone (printed_line settings.spelling d)
+AnswersOn settings about.Sort arguments d = IsSorted settings d
+-- the self-relative form in hexadecimal
+AnswersOn settings about.ToBinary arguments d = IsDone (line (encode_lower (wire_of d)))
+
+abbrev pub AnswersOfText : Settings → List ℕ → DescriptorCommand → List (Bor (List ℕ)) → AnswerValue → Type 0
+AnswersOfText settings written question arguments =
+    AnswersOfArgument (codes "SDDL") settings written (AnswersOn settings question arguments)
+
 -- what a command answers to a text and the arguments after it
 abbrev pub AnswersQuestion : Settings → TextCommand → List ℕ → List (Bor (List ℕ)) → AnswerValue → Type 0
-AnswersQuestion settings questions.Verdict text arguments answer = AnswersVerdict settings Short text arguments answer
-AnswersQuestion settings questions.Why text arguments answer = AnswersVerdict settings Explained text arguments answer
-AnswersQuestion settings questions.Who text arguments answer = AnswersWho settings text arguments answer
-AnswersQuestion settings questions.Compare text arguments answer = AnswersCompare settings text arguments answer
-AnswersQuestion settings questions.Lint text arguments answer = AnswersLint settings text arguments answer
-AnswersQuestion settings questions.Print text arguments answer = AnswersPrint settings text answer
-AnswersQuestion settings questions.Sort text arguments answer = AnswersSort settings text answer
-AnswersQuestion settings questions.ToBinary text arguments answer = AnswersToBinary settings text answer
-AnswersQuestion settings questions.FromBinary text arguments answer = AnswersFromBinary settings text answer
-AnswersQuestion settings questions.Rights text arguments answer = AnswersRights settings text answer
-AnswersQuestion settings questions.Sid text arguments answer = AnswersSid settings text answer
+AnswersQuestion settings questions.Verdict text arguments = AnswersOfText settings text about.Verdict arguments
+AnswersQuestion settings questions.Why text arguments = AnswersOfText settings text about.Why arguments
+AnswersQuestion settings questions.Who text arguments = AnswersOfText settings text about.Who arguments
+AnswersQuestion settings questions.Compare text arguments =
+    AnswersOfArgument (codes "OLD") settings text (AnswersOn settings about.Compare arguments)
+AnswersQuestion settings questions.Lint text arguments = AnswersOfText settings text about.Lint arguments
+AnswersQuestion settings questions.Print text arguments = AnswersOfText settings text about.Print arguments
+AnswersQuestion settings questions.Sort text arguments = AnswersOfText settings text about.Sort arguments
+AnswersQuestion settings questions.ToBinary text arguments = AnswersOfText settings text about.ToBinary arguments
+AnswersQuestion settings questions.FromBinary text arguments = AnswersFromBinary settings text
+AnswersQuestion settings questions.Rights text arguments = AnswersRights settings text
+AnswersQuestion settings questions.Sid text arguments = AnswersSid settings text

@@ -10,8 +10,7 @@ use Rattle.base64.specs.declared.decode.DecodeError.TheVariants.{InvalidByte, In
 use Rattle.base64.specs.declared.decode.DecodeError.TheVariants.{InvalidPadding}
 use Rattle.hex.specs.Hex as hex
 use Rattle.hex.specs.declared.FromHexError.{FromHexError}
-use Rattle.hex.specs.declared.FromHexError.TheVariants.{InvalidHexCharacter, OddLength, InvalidStringLength}
-use Rattle.hex.specs.declared.FromHexError.TheVariants.{OutOfMemory}
+use Rattle.hex.specs.declared.FromHexError.TheVariants.{InvalidHexCharacter, OddLength}
 use Rattle.sd_commands.specs.Value.{descriptor_in, value_in}
 use Rattle.sd_commands.specs.declared.value.Value.{Value}
 use Rattle.sd_commands.specs.declared.value.Value.TheVariants as values
@@ -28,8 +27,7 @@ BytesRead = Result (List ℕ) (List ℕ × ℕ)
 abbrev pub hex_reason : List ℕ → FromHexError → List ℕ × ℕ
 hex_reason text (InvalidHexCharacter c place) = (codes "no digit", place)
 hex_reason text OddLength = (codes "no second digit", length text)
-hex_reason text InvalidStringLength = (codes "no bytes", 0)
-hex_reason text OutOfMemory = (codes "no bytes", 0)
+hex_reason text error = (codes "no bytes", 0)
 
 abbrev pub base64_reason : List ℕ → DecodeError → List ℕ × ℕ
 base64_reason text (InvalidByte place byte) = (codes "no digit", place)

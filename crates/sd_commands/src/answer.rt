@@ -1,21 +1,18 @@
 //! The answer to a command about a descriptor: what is printed, and whether that is what was asked for.
 ghost use Rattle.std.specs.Prelude.{◌≡◌, ◌<◌, ◌^◌, [], IfOk, string_bytes};
 ghost use Rattle.sd_answer.specs.Answer.{fault_line, sddl_fault_line};
-ghost use Rattle.sd_commands.specs.Answer.{AnswersQuestion, IsAnswer, IsDone, IsFault, IsTokenFault, answer_of};
-ghost use Rattle.sd_commands.specs.Answer.{is_refusal, outcome_status};
-ghost use Rattle.sd_commands.specs.Diagnostic.{fault_text, sddl_fault_text, told_line};
+ghost use Rattle.sd_acl.specs.Descriptor.{descriptor_of};
+ghost use Rattle.sd_commands.specs.Answer.{AnswersOfArgument, AnswersOn, AnswersQuestion, IsAnswer, IsDone, IsFault};
+ghost use Rattle.sd_commands.specs.Answer.{IsFaultOf, IsTokenFault, answer_of, is_refusal, outcome_status};
+ghost use Rattle.sd_commands.specs.Diagnostic.{sddl_fault_text, told_line};
 
-use crate::analysis::{answer_compare, answer_who};
-use crate::convert::{answer_from_binary, answer_print, answer_to_binary};
+use crate::descriptor::{Given, noting};
 use crate::diagnostic::{fault_text, sddl_fault_text, told_line, word_argument};
-use crate::lint::answer_lint;
-use crate::rights::answer_rights;
-use crate::settings::Settings;
-use crate::sid::answer_sid;
-use crate::sort::answer_sort;
-use crate::verdict::{Form, answer_verdict};
+use crate::settings::{Command, Settings};
+use crate::verdict::Form;
+use sd_acl::Descriptor;
 use sd_answer::{fault_line, sddl_fault_line};
-use sd_text::TextFault;
+use sd_text::{TextError, TextFault};
 use sd_usage::TextCommand;
 use std::alloc::{AllocError, Global};
 
@@ -78,6 +75,9 @@ impl Answer {
     }
 }
 
+/// What a command answers. The only error is out of memory.
+pub(crate) type Answered = Result<Answer, AllocError>;
+
 /// The answer of a command to a text and the arguments after it. The only error is out of memory.
 pub fn answer_question(
     alloc: Global,
@@ -88,19 +88,39 @@ pub fn answer_question(
 ) -> Result<Answer, AllocError>
     ensures { IfOk result (λ answer. AnswersQuestion settings question text.now arguments.now (answer_of answer)) }
 {
+    let command = Command { alloc, settings };
     match question {
-        TextCommand::Verdict => answer_verdict(alloc, settings, Form::Short, text, arguments),
-        TextCommand::Why => answer_verdict(alloc, settings, Form::Explained, text, arguments),
-        TextCommand::Who => answer_who(alloc, settings, text, arguments),
-        TextCommand::Compare => answer_compare(alloc, settings, text, arguments),
-        TextCommand::Lint => answer_lint(alloc, settings, text, arguments),
-        TextCommand::Print => answer_print(alloc, settings, text),
-        TextCommand::Sort => answer_sort(alloc, settings, text),
-        TextCommand::ToBinary => answer_to_binary(alloc, settings, text),
-        TextCommand::FromBinary => answer_from_binary(alloc, settings, text),
-        TextCommand::Rights => answer_rights(alloc, settings, text),
-        TextCommand::Sid => answer_sid(alloc, settings, text),
+        TextCommand::Verdict => command.answer("SDDL", text, DescriptorCommand::Verdict, arguments),
+        TextCommand::Why => command.answer("SDDL", text, DescriptorCommand::Why, arguments),
+        TextCommand::Who => command.answer("SDDL", text, DescriptorCommand::Who, arguments),
+        TextCommand::Compare => command.answer("OLD", text, DescriptorCommand::Compare, arguments),
+        TextCommand::Lint => command.answer("SDDL", text, DescriptorCommand::Lint, arguments),
+        TextCommand::Print => command.answer("SDDL", text, DescriptorCommand::Print, arguments),
+        TextCommand::Sort => command.answer("SDDL", text, DescriptorCommand::Sort, arguments),
+        TextCommand::ToBinary => command.answer(
+            "SDDL",
+            text,
+            DescriptorCommand::ToBinary,
+            arguments,
+        ),
+        TextCommand::FromBinary => command.from_binary(text),
+        TextCommand::Rights => command.rights(text),
+        TextCommand::Sid => command.sid(text),
     }
+}
+
+/// What is asked of a descriptor.
+#[derive(Clone, Copy, Debug, PartialEq, Eq)]
+pub(crate) enum DescriptorCommand {
+    Verdict,
+    /// The verdict, and the reason of each bit.
+    Why,
+    Who,
+    Compare,
+    Lint,
+    Print,
+    Sort,
+    ToBinary,
 }
 
 /// The answer to an argument that isn't read: what it should have been, and what is told of it. The only error is out
@@ -115,55 +135,85 @@ pub fn fault(alloc: Global, what: &str, told: String) -> Result<Answer, AllocErr
     })
 }
 
-/// The answer to words of which the one at the place is the first that is none, for this reason.
-pub(crate) fn token_fault(
-    alloc: Global,
-    place: usize,
-    word: &str,
-    reason: &str,
-) -> Result<Answer, AllocError>
-    requires { place < 2 ^ 63 }
-    ensures { IfOk result (λ answer. IsTokenFault place word.now reason.now (answer_of answer)) }
-{
-    let argument = word_argument(alloc, place, word)?;
-    fault(alloc, "token", told_line(alloc, argument.as_str(), reason)?)
-}
+impl Command {
+    /// The answer to a question about the descriptor that the argument of this name is, or the first fault of this
+    /// argument and of those after it.
+    fn answer(
+        self,
+        name: &str,
+        sddl: &str,
+        question: DescriptorCommand,
+        arguments: &[&str],
+    ) -> Answered
+        ensures { IfOk result (λ answer. AnswersOfArgument name.now self.settings sddl.now
+            (AnswersOn self.settings question arguments.now) (answer_of answer)) }
+    {
+        let read = match self.read_argument(name, sddl)? {
+            Given::Descriptor(read) => read,
+            Given::Refused(answer) => return Ok(answer),
+        };
+        let answer = self.answer_on(question, &read.descriptor, arguments)?;
+        Ok(noting(self.alloc, name, read.left_out, answer)?)
+    }
 
-/// The answer to an argument whose text has this first fault.
-pub(crate) fn text_fault(
-    alloc: Global,
-    settings: Settings,
-    what: &str,
-    argument: &str,
-    text: &str,
-    text_fault: TextFault,
-    place: u64,
-) -> Result<Answer, AllocError>
-    ensures { IfOk result
-        (λ answer. IsFault (fault_line what.now)
-        (told_line argument.now (fault_text settings.points text.now text_fault place)) (answer_of answer)) }
-{
-    let reason = fault_text(alloc, settings.points, text, text_fault, place)?;
-    fault(alloc, what, told_line(alloc, argument, reason.as_str())?)
-}
+    fn answer_on(self, question: DescriptorCommand, on: &Descriptor, arguments: &[&str]) -> Answered
+        ensures { IfOk result (λ answer. AnswersOn self.settings question arguments.now (descriptor_of on.now)
+            (answer_of answer)) }
+    {
+        match question {
+            DescriptorCommand::Verdict => self.verdict(Form::Short, on, arguments),
+            DescriptorCommand::Why => self.verdict(Form::Explained, on, arguments),
+            DescriptorCommand::Who => self.who(on, arguments),
+            DescriptorCommand::Compare => self.compare(on, arguments),
+            DescriptorCommand::Lint => self.lint(on, arguments),
+            DescriptorCommand::Print => self.print(on),
+            DescriptorCommand::Sort => self.sort(on),
+            DescriptorCommand::ToBinary => self.to_binary(on),
+        }
+    }
 
-/// The answer to a descriptor's text with a fault, which is the argument of this name.
-pub(crate) fn sddl_fault(
-    alloc: Global,
-    settings: Settings,
-    argument: &str,
-    sddl: &str,
-    fault: TextFault,
-    place: u64,
-) -> Result<Answer, AllocError>
-    ensures { IfOk result
-        (λ answer. IsFault (sddl_fault_line fault place)
-        (told_line argument.now (sddl_fault_text settings.points sddl.now fault place)) (answer_of answer)) }
-{
-    let what = sddl_fault_text(alloc, settings.points, sddl, fault, place)?;
-    Ok(Answer {
-        text: sddl_fault_line(alloc, fault, place)?,
-        told: told_line(alloc, argument, what.as_str())?,
-        outcome: Outcome::Refused,
-    })
+    /// The answer to words of which the one at the place is the first that is none, for this reason.
+    pub(crate) fn token_fault(self, place: usize, word: &str, reason: &str) -> Answered
+        requires { place < 2 ^ 63 }
+        ensures { IfOk result (λ answer. IsTokenFault place word.now reason.now (answer_of answer)) }
+    {
+        let argument = word_argument(self.alloc, place, word)?;
+        let told = told_line(self.alloc, argument.as_str(), reason)?;
+        fault(self.alloc, "token", told)
+    }
+
+    /// The answer to an argument whose text has this error first.
+    pub(crate) fn text_fault(self, what: &str, name: &str, text: &str, error: TextError) -> Answered
+        ensures { IfOk result
+            (λ answer. IsFaultOf self.settings what.now name.now text.now error (answer_of answer)) }
+    {
+        match error {
+            TextError::Fault {
+                fault: found,
+                place,
+            } => {
+                let reason = fault_text(self.alloc, self.settings.points, text, found, place)?;
+                fault(
+                    self.alloc,
+                    what,
+                    told_line(self.alloc, name, reason.as_str())?,
+                )
+            }
+            TextError::Memory => Err(AllocError),
+        }
+    }
+
+    /// The answer to a descriptor's text with a fault, which is the argument of this name.
+    pub(crate) fn sddl_fault(self, name: &str, sddl: &str, fault: TextFault, place: u64) -> Answered
+        ensures { IfOk result
+            (λ answer. IsFault (sddl_fault_line fault place)
+            (told_line name.now (sddl_fault_text self.settings.points sddl.now fault place)) (answer_of answer)) }
+    {
+        let what = sddl_fault_text(self.alloc, self.settings.points, sddl, fault, place)?;
+        Ok(Answer {
+            text: sddl_fault_line(self.alloc, fault, place)?,
+            told: told_line(self.alloc, name, what.as_str())?,
+            outcome: Outcome::Refused,
+        })
+    }
 }

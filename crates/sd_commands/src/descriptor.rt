@@ -2,10 +2,10 @@
 ghost use Rattle.std.specs.Prelude.{IfOk};
 ghost use Rattle.sd_commands.specs.Answer.{IsGiven, IsNoted, answer_of};
 
-use crate::answer::{Answer, sddl_fault};
+use crate::answer::{Answer, Answered};
 use crate::diagnostic::sacl_note;
 use crate::missing_dacl::{missing_dacl, missing_dacl_fault};
-use crate::settings::Settings;
+use crate::settings::Command;
 use sd_answer::read_sddl_argument;
 use sd_text::{TextError, WithoutSacl};
 use std::alloc::{AllocError, Global};
@@ -18,44 +18,36 @@ pub(crate) enum Given {
     Refused(Answer),
 }
 
-/// What the argument of this name is ([MS-DTYP] 2.5.1.1).
-pub(crate) fn read_argument(
-    alloc: Global,
-    settings: Settings,
-    argument: &str,
-    sddl: &str,
-) -> Result<Given, AllocError>
-    ensures { IfOk result (IsGiven argument.now settings sddl.now) }
-{
-    let read = match read_sddl_argument(alloc, settings.aliases, settings.without_sacl, sddl) {
-        Ok(read) => read,
-        Err(TextError::Fault { fault, place }) => {
-            let answer = sddl_fault(alloc, settings, argument, sddl, fault, place)?;
-            return Ok(Given::Refused(answer));
-        }
-        Err(TextError::Memory) => return Err(AllocError),
-    };
-    match missing_dacl(settings, &read.descriptor.dacl) {
-        None => Ok(Given::Descriptor(read)),
-        Some(missing) => {
-            let answer = missing_dacl_fault(alloc, argument, missing)?;
-            let answer = noting(alloc, argument, read.left_out, answer)?;
-            Ok(Given::Refused(answer))
+impl Command {
+    /// What the argument of this name is ([MS-DTYP] 2.5.1.1).
+    pub(crate) fn read_argument(self, name: &str, sddl: &str) -> Result<Given, AllocError>
+        ensures { IfOk result (IsGiven name.now self.settings sddl.now) }
+    {
+        let (known, without_sacl) = (self.settings.aliases, self.settings.without_sacl);
+        let read = match read_sddl_argument(self.alloc, known, without_sacl, sddl) {
+            Ok(read) => read,
+            Err(TextError::Fault { fault, place }) => {
+                return Ok(Given::Refused(self.sddl_fault(name, sddl, fault, place)?));
+            }
+            Err(TextError::Memory) => return Err(AllocError),
+        };
+        match missing_dacl(self.settings, &read.descriptor.dacl) {
+            None => Ok(Given::Descriptor(read)),
+            Some(missing) => {
+                let answer = missing_dacl_fault(self.alloc, name, missing)?;
+                let answer = noting(self.alloc, name, read.left_out, answer)?;
+                Ok(Given::Refused(answer))
+            }
         }
     }
 }
 
 /// The answer, and before what is told beside it, that a SACL was left out of the argument, where one was.
 #[tactic(auto, unfolding(crate::specs::Answer::IsNoted))]
-pub(crate) fn noting(
-    alloc: Global,
-    argument: &str,
-    left_out: bool,
-    mut answer: Answer,
-) -> Result<Answer, AllocError>
-    ensures { IfOk result (λ noted. IsNoted argument.now left_out (answer_of answer) (answer_of noted)) }
+pub(crate) fn noting(alloc: Global, name: &str, left_out: bool, mut answer: Answer) -> Answered
+    ensures { IfOk result (λ noted. IsNoted name.now left_out (answer_of answer) (answer_of noted)) }
 {
-    let mut told = sacl_note(alloc, argument, left_out)?;
+    let mut told = sacl_note(alloc, name, left_out)?;
     told.push_str(answer.told.as_str())?;
     answer.told = told;
     Ok(answer)

@@ -8,6 +8,7 @@ ghost use Rattle.sd_commands.specs.Diagnostic.{word_argument};
 use crate::escaped::escaped_word;
 use crate::kinds::kind_note;
 use crate::pointer::with_pointer;
+use crate::settings::Command;
 use crate::words::sid_length;
 use sd_text::{Aliases, TextError, TextFault, read_sid_text_in};
 use std::alloc::{AllocError, Global};
@@ -112,32 +113,27 @@ pub fn sid_reason(
     }
 }
 
-/// Why a text is no word.
-pub(crate) fn word_reason(
-    alloc: Global,
-    points: bool,
-    known: Aliases,
-    word: &str,
-) -> Result<String, AllocError>
-    ensures { IfOk result (λ reason. IsWordReason points known word.now (string_bytes reason)) }
-{
-    if begins_by_plus(word) {
-        return String::from_str(alloc, "no such privilege");
+impl Command {
+    /// Why a text is no word.
+    pub(crate) fn word_reason(&self, word: &str) -> Result<String, AllocError>
+        ensures { IfOk result (λ reason. IsWordReason self.now.settings.points self.now.settings.aliases word.now
+            (string_bytes reason)) }
+    {
+        if begins_by_plus(word) {
+            return String::from_str(self.alloc, "no such privilege");
+        }
+        self.state_reason(word)
     }
-    state_reason(alloc, points, known, word)
-}
 
-/// Why a text is no SID with a state.
-pub(crate) fn state_reason(
-    alloc: Global,
-    points: bool,
-    known: Aliases,
-    word: &str,
-) -> Result<String, AllocError>
-    ensures { IfOk result (λ reason. IsStateReason points known word.now (string_bytes reason)) }
-{
-    let (sid, _) = word.split_at(sid_length(word));
-    sid_reason(alloc, points, known, "no such state", sid)
+    /// Why a text is no SID with a state.
+    pub(crate) fn state_reason(&self, word: &str) -> Result<String, AllocError>
+        ensures { IfOk result (λ reason. IsStateReason self.now.settings.points self.now.settings.aliases word.now
+            (string_bytes reason)) }
+    {
+        let (sid, _) = word.split_at(sid_length(word));
+        let (points, known) = (self.settings.points, self.settings.aliases);
+        sid_reason(self.alloc, points, known, "no such state", sid)
+    }
 }
 
 fn begins_by_plus(word: &str) -> bool

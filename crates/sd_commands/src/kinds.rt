@@ -79,23 +79,13 @@ fn entry_note(alloc: Global, entry: Option<(usize, u8)>) -> Result<String, Alloc
     ensures { IfOk result (λ note. string_bytes note ≡ entry_note entry) }
 {
     match entry {
-        Some((number, kind)) => numbered_note(alloc, number, kind),
+        Some((number, kind)) => {
+            let kind = kind_by_number(kinds(), kind);
+            let note = format!(in alloc; " (entry {number}: {kind})")?;
+            Ok(note)
+        }
         None => Ok(String::new(alloc)),
     }
-}
-
-fn numbered_note(alloc: Global, number: usize, kind: u8) -> Result<String, AllocError>
-    ensures { IfOk result (λ note. string_bytes note ≡ entry_note (Some (number, kind))) }
-{
-    let kind = numbered_kind(kind);
-    let note = format!(in alloc; " (entry {number}: {kind})")?;
-    Ok(note)
-}
-
-fn numbered_kind(kind: u8) -> &'static str
-    ensures { result.now ≡ kind_by_number kinds kind }
-{
-    kind_by_number(kinds(), kind)
 }
 
 /// Which kind an entry is whose type, one or two letters of either case, begins a text.

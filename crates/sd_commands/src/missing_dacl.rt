@@ -2,45 +2,31 @@
 ghost use Rattle.std.specs.Prelude.{◌≡◌, IfOk, codes, option_map};
 ghost use Rattle.sd_answer.specs.Answer.{fault_line};
 ghost use Rattle.sd_commands.specs.Answer.{IsFault, answer_of};
-ghost use Rattle.sd_commands.specs.MissingDacl.{missing_dacl, without_list};
+ghost use Rattle.sd_commands.specs.MissingDacl.{missing_dacl};
 ghost use Rattle.sd_commands.specs.Diagnostic.{told_line};
 
-use crate::answer::{Answer, fault};
+use crate::answer::{Answered, fault};
 use crate::diagnostic::told_line;
 use crate::settings::Settings;
 use sd_acl::Dacl;
-use std::alloc::{AllocError, Global};
+use std::alloc::Global;
 
 /// What the DACL is in place of a list, where a list is required ([MS-DTYP] 2.5.3.2: without one everything is
 /// granted).
 pub(crate) fn missing_dacl(settings: Settings, dacl: &Dacl) -> Option<&'static str>
     ensures { option_map (λ text. text.now) result ≡ missing_dacl settings.require_dacl dacl.now }
 {
-    if settings.require_dacl {
-        without_list(dacl)
-    } else {
-        None
-    }
-}
-
-fn without_list(dacl: &Dacl) -> Option<&'static str>
-    ensures { option_map (λ text. text.now) result ≡ without_list dacl.now }
-{
     match dacl {
-        Dacl::Absent => Some("no DACL"),
-        Dacl::Null => Some("a null DACL"),
-        Dacl::List(_) => None,
+        Dacl::Absent if settings.require_dacl => Some("no DACL"),
+        Dacl::Null if settings.require_dacl => Some("a null DACL"),
+        _ => None,
     }
 }
 
 /// The answer to the argument of this name, whose descriptor has this in place of a list.
-pub(crate) fn missing_dacl_fault(
-    alloc: Global,
-    argument: &str,
-    missing: &str,
-) -> Result<Answer, AllocError>
+pub(crate) fn missing_dacl_fault(alloc: Global, name: &str, missing: &str) -> Answered
     ensures { IfOk result
-        (λ answer. IsFault (fault_line (codes "nodacl")) (told_line argument.now missing.now) (answer_of answer)) }
+        (λ answer. IsFault (fault_line (codes "nodacl")) (told_line name.now missing.now) (answer_of answer)) }
 {
-    fault(alloc, "nodacl", told_line(alloc, argument, missing)?)
+    fault(alloc, "nodacl", told_line(alloc, name, missing)?)
 }

@@ -2,25 +2,21 @@
 ghost use Rattle.std.specs.Prelude.{IfOk};
 ghost use Rattle.sd_commands.specs.Answer.{AnswersRights, answer_of};
 
-use crate::answer::{Answer, text_fault};
-use crate::settings::Settings;
+use crate::answer::{Answer, Answered};
+use crate::settings::Command;
 use sd_answer::{read_mask_in, rights_line};
-use sd_text::TextError;
-use std::alloc::{AllocError, Global};
 
-/// The mask, the permission that it is, and its rights, as `0x10001: FILE_READ_DATA+DELETE`.
-pub(crate) fn answer_rights(
-    alloc: Global,
-    settings: Settings,
-    mask: &str,
-) -> Result<Answer, AllocError>
-    ensures { IfOk result (λ answer. AnswersRights settings mask.now (answer_of answer)) }
-{
-    match read_mask_in(settings.spelling, mask) {
-        Ok(mask) => Ok(Answer::done(alloc, rights_line(alloc, settings.kind, mask)?)),
-        Err(TextError::Fault { fault, place }) => {
-            text_fault(alloc, settings, "mask", "MASK", mask, fault, place)
+impl Command {
+    /// The mask, the permission that it is, and its rights, as `0x10001: FILE_READ_DATA+DELETE`.
+    pub(crate) fn rights(self, mask: &str) -> Answered
+        ensures { IfOk result (λ answer. AnswersRights self.settings mask.now (answer_of answer)) }
+    {
+        match read_mask_in(self.settings.spelling, mask) {
+            Ok(mask) => {
+                let text = rights_line(self.alloc, self.settings.kind, mask)?;
+                Ok(Answer::done(self.alloc, text))
+            }
+            Err(error) => self.text_fault("mask", "MASK", mask, error),
         }
-        Err(TextError::Memory) => Err(AllocError),
     }
 }

@@ -3,6 +3,7 @@
 use sd_answer::{ObjectKind, Spelling};
 use sd_sid::GenericMapping;
 use sd_text::Aliases;
+use std::alloc::Global;
 
 /// How the bytes of a descriptor are spelled.
 #[derive(Clone, Copy, Debug, PartialEq, Eq)]
@@ -36,4 +37,11 @@ pub struct Settings {
     pub bytes: ByteForm,
     /// Whether a message that names a byte of a text shows the text there.
     pub points: bool,
+}
+
+/// What a command works with: where it allocates, and what the options say.
+#[derive(Clone, Copy)]
+pub(crate) struct Command {
+    pub(crate) alloc: Global,
+    pub(crate) settings: Settings,
 }

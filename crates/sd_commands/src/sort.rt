@@ -1,52 +1,34 @@
 //! The answer to `sort`: a descriptor with its DACL in canonical order, and what moved for that.
-ghost use Rattle.std.specs.Prelude.{◌≡◌, ◌<◌, ◌^◌, IfOk, IfSome, length, position, string_bytes};
+ghost use Rattle.std.specs.Prelude.{◌≡◌, ◌<◌, IfOk, length, string_bytes};
 ghost use Rattle.sd_acl.specs.Ace.{acl_size_of};
 ghost use Rattle.sd_acl.specs.Descriptor.{descriptor_of};
-ghost use Rattle.sd_answer.specs.Lint.{is_misplaced};
-ghost use Rattle.sd_commands.specs.Answer.{AnswersSort, IsSorted, answer_of};
+ghost use Rattle.sd_commands.specs.Answer.{IsSorted, answer_of};
 ghost use Rattle.sd_commands.specs.Sort.{move_notes, note_of, notes_below, sorted, sorted_dacl, sorted_descriptor};
 
-use crate::answer::{Answer, Outcome};
-use crate::descriptor::{Given, noting, read_argument};
+use crate::answer::{Answer, Answered, Outcome};
 use crate::diagnostic::told_line;
-use crate::settings::Settings;
+use crate::settings::Command;
 use sd_acl::{Ace, AceList, Dacl, Descriptor, canonicalize};
-use sd_answer::Spelling;
+use sd_answer::{Spelling, first_misplaced};
 use sd_text::{print_entry_in, print_sddl_in};
 use std::alloc::{AllocError, Global};
 
-/// The canonical text of a descriptor's text with its DACL in canonical order ([MS-DTYP] 2.4.5).
-pub(crate) fn answer_sort(
-    alloc: Global,
-    settings: Settings,
-    sddl: &str,
-) -> Result<Answer, AllocError>
-    ensures { IfOk result (λ answer. AnswersSort settings sddl.now (answer_of answer)) }
-{
-    let read = match read_argument(alloc, settings, "SDDL", sddl)? {
-        Given::Descriptor(read) => read,
-        Given::Refused(answer) => return Ok(answer),
-    };
-    let answer = sorted_answer(alloc, settings, &read.descriptor)?;
-    Ok(noting(alloc, "SDDL", read.left_out, answer)?)
-}
-
-fn sorted_answer(
-    alloc: Global,
-    settings: Settings,
-    descriptor: &Descriptor,
-) -> Result<Answer, AllocError>
-    ensures { IfOk result (λ answer. IsSorted settings (descriptor_of descriptor.now) (answer_of answer)) }
-{
-    let told = move_notes(alloc, settings.spelling, &descriptor.dacl)?;
-    let sorted = sorted_descriptor(alloc, descriptor)?;
-    let mut text = print_sddl_in(alloc, settings.spelling.right_names(), &sorted)?;
-    text.push_str("\n")?;
-    Ok(Answer {
-        text,
-        told,
-        outcome: Outcome::Done,
-    })
+impl Command {
+    /// The canonical text of a descriptor with its DACL in canonical order ([MS-DTYP] 2.4.5).
+    pub(crate) fn sort(self, descriptor: &Descriptor) -> Answered
+        ensures { IfOk result (λ answer. IsSorted self.settings (descriptor_of descriptor.now) (answer_of answer)) }
+    {
+        let (alloc, spelling) = (self.alloc, self.settings.spelling);
+        let told = move_notes(alloc, spelling, &descriptor.dacl)?;
+        let sorted = sorted_descriptor(alloc, descriptor)?;
+        let mut text = print_sddl_in(alloc, spelling.right_names(), &sorted)?;
+        text.push_str("\n")?;
+        Ok(Answer {
+            text,
+            told,
+            outcome: Outcome::Done,
+        })
+    }
 }
 
 fn sorted_descriptor(alloc: Global, descriptor: &Descriptor) -> Result<Descriptor, AllocError>
@@ -126,7 +108,7 @@ fn note_of(
     requires { place < length entries.now }
     ensures { IfOk result (λ text. string_bytes text ≡ note_of spelling entries.now place entry.now) }
 {
-    match first_behind(&entries[..place], entry) {
+    match first_misplaced(&entries[..place], entry) {
         None => Ok(String::new(alloc)),
         Some(first) => {
             let (number, before) = (place + 1, first + 1);
@@ -136,22 +118,4 @@ fn note_of(
             told_line(alloc, "SDDL", what.as_str())
         }
     }
-}
-
-/// The first of the entries before which this one belongs.
-fn first_behind(before: &[Ace], entry: &Ace) -> Option<usize>
-    ensures first { result ≡ position (is_misplaced entry.now) before.now }
-    ensures low { IfSome result (λ place. place < 2 ^ 63) }
-{
-    before
-        .iter()
-        .position(|earlier| belongs_before(entry, earlier))
-}
-
-/// Whether the later one belongs before the earlier one ([MS-DTYP] 2.4.5).
-fn belongs_before(later: &Ace, earlier: &Ace) -> bool
-    ensures { result ≡ is_misplaced later.now earlier.now }
-{
-    !later.is_inherited()
-        && (earlier.is_inherited() || (earlier.kind.is_allow() && !later.kind.is_allow()))
 }

@@ -1,11 +1,10 @@
 -- The text so far and its bits, and the rows that are left, print what all rows do.
-use Rattle.std.proofs.Common.{◌≡◌, List, ◌++◌, ℕ, drop, map, string_bytes}
-use Rattle.sd_text.specs.Grammar.{Name}
+use Rattle.std.proofs.Common.{◌≡◌, List, ◌++◌, drop, map, string_bytes}
 use Rattle.sd_text.specs.MaskNames.{named_from}
-use Rattle.sd_answer.specs.Names.{named_bits, names_of}
+use Rattle.sd_answer.specs.Names.{NamedBits, named_bits, names_of}
 use Rattle.sd_answer.proofs.names.push_names.Given as goal
 
 abbrev pub invariant-loop-name : goal.invariant-loop-name
-invariant-loop-name l = (more : List (Name ℕ))
-    → named_from (names_of l.kind (map named_bits l.rows) ++ more) l.mask l.before (string_bytes l.fn.text)
-    ≡ named_from (names_of l.kind (map named_bits (drop l.name-index l.rows)) ++ more) l.mask l.named (string_bytes l.text)
+invariant-loop-name l = (more : List NamedBits)
+    → named_from (names_of l.kind (map named_bits l.rows ++ more)) l.mask l.before (string_bytes l.fn.text)
+    ≡ named_from (names_of l.kind (map named_bits (drop l.name-index l.rows) ++ more)) l.mask l.named (string_bytes l.text)

@@ -1,7 +1,0 @@
--- The flag is the second place.
-use Rattle.std.proofs.Common.{◌∙◌}
-use Rattle.sd_sid.proofs.Masks.{flag_test}
-use Rattle.sd_answer.proofs.lint.goes_to_containers.Goals as goal
-
-pub returns : goal.returns
-returns c = c.contains.ensures tt ∙ flag_test c.args.entry.now.flags.0 1

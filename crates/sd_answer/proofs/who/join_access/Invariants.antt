@@ -1,0 +1,12 @@
+-- The alternatives so far are in the lines.
+use Rattle.std.proofs.Common.{◌≡◌, List, fold, take}
+use Rattle.sd_analysis.specs.declared.who_has.Alternative.{Alternative}
+use Rattle.sd_answer.specs.Lines.{LineValue, joined, values}
+use Rattle.sd_answer.specs.Who.{alternative_text}
+use Rattle.sd_answer.proofs.who.join_access.Given as goal
+
+abbrev pub invariant-loop-alternative : goal.invariant-loop-alternative
+invariant-loop-alternative l =
+    values l.lines.items
+    ≡ fold (λ (so_far : List LineValue) (a : Alternative). joined so_far l.access.mask (alternative_text l.access.denied.items a))
+    (values l.initial.lines.items) (take l.alternative-index l.access.alternatives.items)

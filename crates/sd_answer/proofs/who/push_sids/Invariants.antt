@@ -1,7 +1,0 @@
--- The SIDs so far stand behind the text.
-use Rattle.std.proofs.Common.{◌≡◌, ◌++◌, string_bytes, take}
-use Rattle.sd_answer.specs.Who.{sids_text}
-use Rattle.sd_answer.proofs.who.push_sids.Given as goal
-
-abbrev pub invariant-loop-sid : goal.invariant-loop-sid
-invariant-loop-sid l = string_bytes l.text ≡ string_bytes l.initial.text ++ sids_text (take l.sid-index l.sids)

@@ -1,0 +1,12 @@
+use Rattle.std.proofs.Common.{inl}
+use Rattle.sd_acl.specs.Descriptor.{descriptor_of}
+use Rattle.sd_commands.specs.Answer.{answer_of}
+use Rattle.sd_commands.proofs.settings.Command.answer.Goals as goal
+
+pub returns : goal.returns
+returns c = inl (
+  descriptor_of c.in-Descriptor.read.descriptor,
+  c.in-Descriptor.read.left_out,
+  rw c.in-Descriptor.is at c.in_ok-read.ensures,
+  (answer_of c.in_ok-answer.answer, c.in_ok-noting.ensures, c.in_ok-answer.ensures),
+)
