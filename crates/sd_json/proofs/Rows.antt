@@ -6,16 +6,16 @@ use Rattle.sd_json.specs.Json.{then_named}
 use Rattle.sd_json.specs.Lines.{fits, fits_word, is_rest, json_strings, member, members, words_of}
 use Rattle.sd_json.proofs.Cutting.{marks}
 
-some_word : (text : List ℕ) → 0 < length (words_of text)
+pub some_word : (text : List ℕ) → 0 < length (words_of text)
 some_word text = omega (arith, length-slice_split (marks 32) text)
 
 -- ---- one has more words than the other
 
-no_pieces : (words : List (List ℕ)) → 0 < length words → fits [] words ≡ false
+pub no_pieces : (words : List (List ℕ)) → 0 < length words → fits [] words ≡ false
 no_pieces [] some = absurd (omega arith)
 no_pieces (word ∷ words) some = refl
 
-no_words : (pieces : List (List ℕ)) → 0 < length pieces → fits pieces [] ≡ false
+pub no_words : (pieces : List (List ℕ)) → 0 < length pieces → fits pieces [] ≡ false
 no_words [] some = absurd (omega arith)
 no_words (piece ∷ pieces) some = refl
 
@@ -23,19 +23,10 @@ and_false : (b : Bool) → false ≡ (b && false)
 and_false true = refl
 and_false false = refl
 
-fails : (template piece word : List ℕ) (pieces words : List (List ℕ)) → words_of template ≡ piece ∷ pieces
-    → is_rest piece ≡ false → fits pieces words ≡ false → false ≡ fits (words_of template) (word ∷ words)
-fails template piece word pieces words parts is none = rw (parts, is, none) (and_false (fits_word piece word))
-
-pub fails_without_piece : (template piece word after : List ℕ) → words_of template ≡ piece ∷ [] → is_rest piece ≡ false
-    → false ≡ fits (words_of template) (word ∷ words_of after)
-fails_without_piece template piece word after parts is =
-    fails template piece word [] (words_of after) parts is (no_pieces (words_of after) (some_word after))
-
-pub fails_without_word : (template piece word after : List ℕ) → words_of template ≡ piece ∷ words_of after
-    → is_rest piece ≡ false → false ≡ fits (words_of template) (word ∷ [])
-fails_without_word template piece word after parts is =
-    fails template piece word (words_of after) [] parts is (no_words (words_of after) (some_word after))
+pub fails : (template line piece word : List ℕ) (pieces words : List (List ℕ)) → words_of template ≡ piece ∷ pieces
+    → words_of line ≡ word ∷ words → is_rest piece ≡ false → fits pieces words ≡ false
+    → false ≡ fits (words_of template) (words_of line)
+fails template line piece word pieces words parts others is none = rw (parts, others, is, none) (and_false (fits_word piece word))
 
 -- ---- members
 
