@@ -13,7 +13,7 @@ use crate::queries::{collect_queries, only_in_scripts};
 use sd_history::Opened;
 use sd_lines::{Ending, first_line};
 use sd_script::{
-    Asked, Manner, Notation, Stop, Tally, counted_line, expects, is_silent, line_of_fault,
+    Asked, LineStop, Manner, Notation, Tally, counted_line, expects, is_silent, line_of_fault,
     read_line, start_error_line,
 };
 use sd_store::{Checker, Gate, Naming, StoreWriter, start_within};
@@ -96,12 +96,12 @@ fn opened_root(
         Ok(Asked::Deleting { .. }) => unreachable!(),
         Ok(Asked::Viewing(_)) => unreachable!(),
         Ok(Asked::Importing { .. }) => unreachable!(),
-        Err(Stop::Fault(fault)) => {
+        Err(LineStop::Fault(fault)) => {
             let answer = line_of_fault(alloc, fault)?;
             counted.answer(line, answer.as_bytes())?;
             Ok(None)
         }
-        Err(Stop::Memory) => Err(AllocError),
+        Err(LineStop::Memory) => Err(AllocError),
     }
 }
 

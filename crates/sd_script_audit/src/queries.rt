@@ -16,7 +16,8 @@ use sd_answer::fault_line;
 use sd_desk::{Reply, Request};
 use sd_lines::{Ending, first_line};
 use sd_script::{
-    Asked, Notation, Stop, expects, import_line, is_silent, line_of_fault, read_line, reply_line,
+    Asked, LineStop, Notation, expects, import_line, is_silent, line_of_fault, read_line,
+    reply_line,
 };
 use sd_store::{EditError, Naming, PublishError, Query, StoreWriter};
 use sd_tree::{Edit, Entries, Path};
@@ -85,8 +86,8 @@ fn answer_line<J: Naming, T: Wait>(
             | Asked::Viewing(_),
         ) => only_in_scripts(alloc),
         Ok(Asked::Opening { .. }) => unreachable!(),
-        Err(Stop::Fault(fault)) => line_of_fault(alloc, fault),
-        Err(Stop::Memory) => Err(AllocError),
+        Err(LineStop::Fault(fault)) => line_of_fault(alloc, fault),
+        Err(LineStop::Memory) => Err(AllocError),
     }
 }
 
