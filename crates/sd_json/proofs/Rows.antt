@@ -30,15 +30,10 @@ fails template line piece word pieces words parts others is none = rw (parts, ot
 
 -- ---- members
 
-rest_of : (piece : List ℕ) (pieces words : List (List ℕ)) → 0 < length words → is_rest piece ≡ true
-    → members (piece ∷ pieces) words ≡ then_named (drop 1 piece) (json_strings words)
-rest_of piece pieces [] some is = absurd (omega arith)
-rest_of piece pieces (word ∷ words) some is = rw is refl
-
-pub rest_member : (template line piece : List ℕ) (pieces : List (List ℕ)) → words_of template ≡ piece ∷ pieces
-    → is_rest piece ≡ true
+pub rest_member : (template line piece word : List ℕ) (pieces words : List (List ℕ)) → words_of template ≡ piece ∷ pieces
+    → words_of line ≡ word ∷ words → is_rest piece ≡ true
     → members (words_of template) (words_of line) ≡ then_named (drop 1 piece) (json_strings (words_of line))
-rest_member template line piece pieces parts is = rw parts (rest_of piece pieces (words_of line) (some_word line) is)
+rest_member template line piece word pieces words parts others is = rw (parts, others, is) refl
 
 no_members : (pieces : List (List ℕ)) → members pieces [] ≡ []
 no_members [] = refl

@@ -77,10 +77,10 @@ pub(crate) fn push_members(
     ensures { OnOk result (out.new.items ≡ out.old.items ++ members (words_of template.now) (words_of line.now)) }
 {
     let (piece, pieces) = first_word(template);
+    let (word, words) = first_word(line);
     if is_rest(piece) {
         return push_words(out, &piece[1..], line);
     }
-    let (word, words) = first_word(line);
     push_member(out, piece, word)?;
     match (pieces, words) {
         (Some(template), Some(line)) => push_members(out, template, line),
