@@ -1,6 +1,7 @@
 -- Whether the words of a row are those of a line, and what they make of it, where there is no word more.
-use Rattle.std.proofs.Common.{◌≡◌, ℕ, ◌<◌, ◌&&◌, Bool, true, false, List, [], ◌∷◌, length, refl, append-nil, arith}
+use Rattle.std.proofs.Common.{◌≡◌, ℕ, ◌<◌, true, false, List, [], ◌∷◌, length, refl, sym, append-nil, arith}
 use Rattle.std.specs.Prelude.{drop}
+use Rattle.std.proofs.lemmas.Bool.{and_right}
 use Rattle.std.proofs.lemmas.List.Splits.{length-slice_split}
 use Rattle.sd_json.specs.Json.{then_named}
 use Rattle.sd_json.specs.Lines.{fits, fits_word, is_rest, json_strings, member, members, words_of}
@@ -19,14 +20,10 @@ pub no_words : (pieces : List (List ℕ)) → 0 < length pieces → fits pieces 
 no_words [] some = absurd (omega arith)
 no_words (piece ∷ pieces) some = refl
 
-and_false : (b : Bool) → false ≡ (b && false)
-and_false true = refl
-and_false false = refl
-
 pub fails : (template line piece word : List ℕ) (pieces words : List (List ℕ)) → words_of template ≡ piece ∷ pieces
     → words_of line ≡ word ∷ words → is_rest piece ≡ false → fits pieces words ≡ false
     → false ≡ fits (words_of template) (words_of line)
-fails template line piece word pieces words parts others is none = rw (parts, others, is, none) (and_false (fits_word piece word))
+fails template line piece word pieces words parts others is none = rw (parts, others, is, none) (sym (and_right (fits_word piece word) false refl))
 
 -- ---- members
 
