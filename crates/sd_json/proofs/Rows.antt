@@ -1,53 +1,36 @@
 -- Whether the words of a row are those of a line, and what they make of it, where there is no word more.
-use Rattle.std.proofs.Common.{◌≡◌, ℕ, ◌<◌, ◌&&◌, Bool, true, false, List, [], ◌∷◌, length, refl, append-nil, arith}
+use Rattle.std.proofs.Common.{◌≡◌, ℕ, ◌<◌, true, false, List, [], ◌∷◌, length, refl, sym, append-nil, arith}
 use Rattle.std.specs.Prelude.{drop}
+use Rattle.std.proofs.lemmas.Bool.{and_right}
 use Rattle.std.proofs.lemmas.List.Splits.{length-slice_split}
 use Rattle.sd_json.specs.Json.{then_named}
 use Rattle.sd_json.specs.Lines.{fits, fits_word, is_rest, json_strings, member, members, words_of}
 use Rattle.sd_json.proofs.Cutting.{marks}
 
-some_word : (text : List ℕ) → 0 < length (words_of text)
+pub some_word : (text : List ℕ) → 0 < length (words_of text)
 some_word text = omega (arith, length-slice_split (marks 32) text)
 
 -- ---- one has more words than the other
 
-no_pieces : (words : List (List ℕ)) → 0 < length words → fits [] words ≡ false
+pub no_pieces : (words : List (List ℕ)) → 0 < length words → fits [] words ≡ false
 no_pieces [] some = absurd (omega arith)
 no_pieces (word ∷ words) some = refl
 
-no_words : (pieces : List (List ℕ)) → 0 < length pieces → fits pieces [] ≡ false
+pub no_words : (pieces : List (List ℕ)) → 0 < length pieces → fits pieces [] ≡ false
 no_words [] some = absurd (omega arith)
 no_words (piece ∷ pieces) some = refl
 
-and_false : (b : Bool) → false ≡ (b && false)
-and_false true = refl
-and_false false = refl
-
-fails : (template piece word : List ℕ) (pieces words : List (List ℕ)) → words_of template ≡ piece ∷ pieces
-    → is_rest piece ≡ false → fits pieces words ≡ false → false ≡ fits (words_of template) (word ∷ words)
-fails template piece word pieces words parts is none = rw (parts, is, none) (and_false (fits_word piece word))
-
-pub fails_without_piece : (template piece word after : List ℕ) → words_of template ≡ piece ∷ [] → is_rest piece ≡ false
-    → false ≡ fits (words_of template) (word ∷ words_of after)
-fails_without_piece template piece word after parts is =
-    fails template piece word [] (words_of after) parts is (no_pieces (words_of after) (some_word after))
-
-pub fails_without_word : (template piece word after : List ℕ) → words_of template ≡ piece ∷ words_of after
-    → is_rest piece ≡ false → false ≡ fits (words_of template) (word ∷ [])
-fails_without_word template piece word after parts is =
-    fails template piece word (words_of after) [] parts is (no_words (words_of after) (some_word after))
+pub fails : (template line piece word : List ℕ) (pieces words : List (List ℕ)) → words_of template ≡ piece ∷ pieces
+    → words_of line ≡ word ∷ words → is_rest piece ≡ false → fits pieces words ≡ false
+    → false ≡ fits (words_of template) (words_of line)
+fails template line piece word pieces words parts others is none = rw (parts, others, is, none) (sym (and_right (fits_word piece word) false refl))
 
 -- ---- members
 
-rest_of : (piece : List ℕ) (pieces words : List (List ℕ)) → 0 < length words → is_rest piece ≡ true
-    → members (piece ∷ pieces) words ≡ then_named (drop 1 piece) (json_strings words)
-rest_of piece pieces [] some is = absurd (omega arith)
-rest_of piece pieces (word ∷ words) some is = rw is refl
-
-pub rest_member : (template line piece : List ℕ) (pieces : List (List ℕ)) → words_of template ≡ piece ∷ pieces
-    → is_rest piece ≡ true
+pub rest_member : (template line piece word : List ℕ) (pieces words : List (List ℕ)) → words_of template ≡ piece ∷ pieces
+    → words_of line ≡ word ∷ words → is_rest piece ≡ true
     → members (words_of template) (words_of line) ≡ then_named (drop 1 piece) (json_strings (words_of line))
-rest_member template line piece pieces parts is = rw parts (rest_of piece pieces (words_of line) (some_word line) is)
+rest_member template line piece word pieces words parts others is = rw (parts, others, is) refl
 
 no_members : (pieces : List (List ℕ)) → members pieces [] ≡ []
 no_members [] = refl

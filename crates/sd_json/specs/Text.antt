@@ -4,14 +4,10 @@ use Rattle.std.specs.List.{slice_split}
 use Rattle.sd_json.specs.Lines.{object}
 use Rattle.sd_json.specs.declared.tagging.Tagging.{Tagging}
 
--- what is after the last line feed: a line without its end, or nothing
-abbrev pub last_object : Tagging → List ℕ → List ℕ
-last_object tagging last = if length last == 0 then [] else object tagging last ++ codes "\n"
-
--- an object in a line for each part that a line feed ends, and for the last one
+-- an object in a line for each part that a line feed ends, and for the last one, if it isn't empty
 abbrev pub objects : Tagging → List (List ℕ) → List ℕ
 objects tagging [] = []
-objects tagging (last ∷ []) = last_object tagging last
+objects tagging (last ∷ []) = if length last == 0 then [] else object tagging last ++ codes "\n"
 objects tagging (line ∷ next ∷ lines) = object tagging line ++ codes "\n" ++ objects tagging (next ∷ lines)
 
 abbrev pub json_text : Tagging → List ℕ → List ℕ

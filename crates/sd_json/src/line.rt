@@ -1,10 +1,9 @@
 //! One line of an answer as an object.
 
-ghost use Rattle.std.specs.Prelude.{◌≡◌, ◌++◌, ◌∷◌, ℕ, List, OnOk, option_map};
-ghost use Rattle.sd_json.specs.Lines.{first_of, fits, line_members, object, plain_object, row_of, tagged_object};
-ghost use Rattle.sd_json.specs.Lines.{words_after, words_of};
+ghost use Rattle.std.specs.Prelude.{◌≡◌, ◌++◌, ℕ, List, OnOk, option_map};
+ghost use Rattle.sd_json.specs.Lines.{first_of, fits, line_members, object, plain_object, row_of, tagged_object, words_of};
 
-use crate::cut::{cut, first_word};
+use crate::cut::cut;
 use crate::members::{fits, push_members};
 use crate::string::push_string;
 use crate::table::{LineRow, ROWS};
@@ -70,19 +69,17 @@ fn push_line_members(out: &mut Vec<u8>, line: &[u8]) -> Result<(), AllocError>
 fn row_of(line: &[u8]) -> Option<LineRow>
     ensures { option_map {U = List ℕ × List ℕ} (λ row. (row.0.now, row.1.now)) result ≡ row_of line.now }
 {
-    let (word, after) = first_word(line);
-    first_fit(ROWS, word, after)
+    first_fit(ROWS, line)
 }
 
-/// The first of these rows that a line is of, of which this is the first word and the text after it.
-fn first_fit(rows: &[LineRow], word: &[u8], after: Option<&[u8]>) -> Option<LineRow>
+/// The first of these rows that a line is of.
+fn first_fit(rows: &[LineRow], line: &[u8]) -> Option<LineRow>
     ensures { option_map {U = List ℕ × List ℕ} (λ row. (row.0.now, row.1.now)) result ≡ first_of
-        (λ row. fits (words_of row.1.now) (word.now ∷ words_after (option_map (λ text. text.now) after.entry)))
-        (λ row. (row.0.now, row.1.now)) rows.now }
+        (λ row. fits (words_of row.1.now) (words_of line.now)) (λ row. (row.0.now, row.1.now)) rows.now }
 {
     match rows {
         [] => None,
-        [row, _rows @ ..] if fits(row.1.as_bytes(), word, after) => Some(*row),
-        [_row, rows @ ..] => first_fit(rows, word, after),
+        [row, _rows @ ..] if fits(row.1.as_bytes(), line) => Some(*row),
+        [_row, rows @ ..] => first_fit(rows, line),
     }
 }

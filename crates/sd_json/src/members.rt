@@ -1,44 +1,41 @@
 //! What a row of the table makes of a line.
 
-ghost use Rattle.std.specs.Prelude.{◌≡◌, ◌++◌, ◌∷◌, ℕ, List, false, OnOk, bytes_eq, option_map};
+ghost use Rattle.std.specs.Prelude.{◌≡◌, ◌++◌, ℕ, List, false, OnOk, bytes_eq};
 ghost use Rattle.sd_json.specs.Json.{json_string, strings, then_named};
-ghost use Rattle.sd_json.specs.Lines.{fits, fits_word, is_rest, json_strings, member, members, words_after, words_of};
+ghost use Rattle.sd_json.specs.Lines.{fits, fits_word, is_rest, json_strings, member, members, words_of};
 
 use crate::cut::{first_word, place};
 use crate::string::{is_number, push_string};
 use std::alloc::AllocError;
 
-/// Whether a line, of which this is the first word and the text after it, is of the row that has these words.
-pub(crate) fn fits(template: &[u8], word: &[u8], after: Option<&[u8]>) -> bool
-    ensures { result ≡ fits (words_of template.now)
-        (word.now ∷ words_after (option_map (λ text. text.now) after.entry)) }
+/// Whether a line is of the row that has these words.
+pub(crate) fn fits(template: &[u8], line: &[u8]) -> bool
+    ensures { result ≡ fits (words_of template.now) (words_of line.now) }
 {
-    if !may_begin(template, word) {
+    if !may_begin(template, line) {
         return false;
     }
     let (piece, pieces) = first_word(template);
+    let (word, words) = first_word(line);
     if is_rest(piece) {
         return true;
     }
     if !fits_word(piece, word) {
         return false;
     }
-    match (pieces, after) {
+    match (pieces, words) {
         (None, None) => true,
-        (Some(template), Some(line)) => {
-            let (word, after) = first_word(line);
-            fits(template, word, after)
-        }
+        (Some(template), Some(line)) => fits(template, line),
         _ => false,
     }
 }
 
-/// Whether a row may begin with this word, by the first byte of each.
-fn may_begin(template: &[u8], word: &[u8]) -> bool
-    ensures { result ≡ false → (words : List (List ℕ)) → fits (words_of template.now) (word.now ∷ words) ≡ false }
+/// Whether a line may be of the row, by the first byte of each.
+fn may_begin(template: &[u8], line: &[u8]) -> bool
+    ensures { result ≡ false → fits (words_of template.now) (words_of line.now) ≡ false }
 {
     match template {
-        [first, ..] if first.is_ascii_lowercase() => word.first() == Some(first),
+        [first, ..] if first.is_ascii_lowercase() => line.first() == Some(first),
         _ => true,
     }
 }
@@ -80,10 +77,10 @@ pub(crate) fn push_members(
     ensures { OnOk result (out.new.items ≡ out.old.items ++ members (words_of template.now) (words_of line.now)) }
 {
     let (piece, pieces) = first_word(template);
+    let (word, words) = first_word(line);
     if is_rest(piece) {
         return push_words(out, &piece[1..], line);
     }
-    let (word, words) = first_word(line);
     push_member(out, piece, word)?;
     match (pieces, words) {
         (Some(template), Some(line)) => push_members(out, template, line),

@@ -1,8 +1,9 @@
 //! The lines of an answer as objects.
 
-ghost use Rattle.std.specs.Prelude.{◌≡◌, ◌++◌, IfOk, OnOk, codes};
+ghost use Rattle.std.specs.Prelude.{◌≡◌, ◌++◌, ◌<◌, IfOk, codes, length};
 ghost use Rattle.sd_json.specs.Lines.{object};
-ghost use Rattle.sd_json.specs.Text.{json_text, last_object, printed_as};
+ghost use Rattle.sd_json.specs.Text.{json_text, printed_as};
+ghost use Rattle.sd_json.specs.declared.tagging.Tagging.{Tagging};
 
 use crate::cut::cut;
 use crate::line::push_object;
@@ -32,31 +33,24 @@ pub fn json_text(alloc: Global, tagging: Tagging, text: &[u8]) -> Result<Vec<u8>
 {
     let mut out = Vec::new(alloc);
     let mut rest = text;
-    'lines: loop {
-        let Some((line, after)) = cut(b'\n', rest) else {
-            break 'lines;
-        };
-        push_line(&mut out, tagging, line)?;
+    while !rest.is_empty() {
+        let (line, after) = first_line(rest);
+        push_object(&mut out, tagging, line)?;
+        out.push(b'\n')?;
         rest = after;
     }
-    push_last(&mut out, tagging, rest)?;
     Ok(out)
 }
 
-/// The same of what is after the last line feed: a line without its end, or nothing.
-fn push_last(out: &mut Vec<u8>, tagging: Tagging, last: &[u8]) -> Result<(), AllocError>
-    ensures { OnOk result (out.new.items ≡ out.old.items ++ last_object tagging last.now) }
+/// The first line of a text, and the text after it.
+fn first_line(text: &[u8]) -> (&[u8], &[u8])
+    requires { 0 < length text.now }
+    ensures lines { (tagging : Tagging) → json_text tagging text.now
+        ≡ object tagging result.0.now ++ codes "\n" ++ json_text tagging result.1.now }
+    ensures less { length result.1.now < length text.now }
 {
-    if last.is_empty() {
-        return Ok(());
+    match cut(b'\n', text) {
+        Some(parts) => parts,
+        None => (text, &text[text.len()..]),
     }
-    push_line(out, tagging, last)
-}
-
-fn push_line(out: &mut Vec<u8>, tagging: Tagging, line: &[u8]) -> Result<(), AllocError>
-    ensures { OnOk result (out.new.items ≡ out.old.items ++ object tagging line.now ++ codes "\n") }
-{
-    push_object(out, tagging, line)?;
-    out.push(b'\n')?;
-    Ok(())
 }

@@ -1,5 +1,6 @@
 -- Where a line ends, and what the lines of a text are that begins with a whole one.
-use Rattle.std.proofs.Common.{◌≡◌, ℕ, ◌+◌, ◌<◌, ◌≤◌, Bool, true, false, not, cond, eqb, ltb, Some, None, List, [], ◌∷◌, ◌++◌, length, take, drop, get_or, refl, sym, ◌∙◌, ap, arith, take-append-drop, length-take}
+use Rattle.std.proofs.Common.{◌≡◌, ℕ, ◌+◌, ◌<◌, ◌≤◌, Bool, true, false, not, cond, eqb, ltb, Some, None, List, [], ◌∷◌, ◌++◌, length, take, drop, get_or, refl, ◌∙◌, ap, arith, length-take}
+use Rattle.std.specs.Prelude.{All}
 use Rattle.std.specs.List.{slice_split, position_or_len}
 use Rattle.std.proofs.lemmas.Bool.{not-true}
 use Rattle.std.proofs.lemmas.Bool.Decides.{nat_tests}
@@ -27,18 +28,25 @@ place_none n m is = grind (arith, nat_tests)
 is_end : (e b : ℕ) → not (eqb b e) ≡ false → b ≡ e
 is_end e b is = grind (arith, nat_tests)
 
-pub cut_at_end : (ending : Ending) (xs : List ℕ) → position_or_len (ends ending) xs < length xs
-    → xs ≡ take (position_or_len (ends ending) xs) xs ++ end_byte ending ∷ drop (position_or_len (ends ending) xs + 1) xs
-cut_at_end ending xs low =
+pub end_at : (ending : Ending) (xs : List ℕ) → position_or_len (ends ending) xs < length xs
+    → drop (position_or_len (ends ending) xs) xs ≡ end_byte ending ∷ drop 1 (drop (position_or_len (ends ending) xs) xs)
+end_at ending xs low =
     let n = position_or_len (ends ending) xs in
     let first : get_or xs n 0 ≡ end_byte ending = is_end (end_byte ending) _ (prefix_len_stops (λ x. not (ends ending x)) xs 0 low) in
-    sym (take-append-drop n xs) ∙ ap (λ l. take n xs ++ l) (drop_more xs n 0 low ∙ ap (λ y. y ∷ drop (n + 1) xs) first)
+    rw (drop_more xs n 0 low) (ap (λ y. y ∷ drop (n + 1) xs) first)
 
 pub none_before : (ending : Ending) (xs : List ℕ) → HasNoEnd ending (take (position_or_len (ends ending) xs) xs)
 none_before ending xs k d low =
     let n = position_or_len (ends ending) xs in
     let within : k < n = omega (arith, length-take n xs) in
     rw (get_or-take n xs k d within) (not-true (ends ending (get_or xs k d)) (prefix_len_passes (λ x. not (ends ending x)) xs k d within))
+
+-- bytes that aren't ASCII end no line
+pub none_above : (ending : Ending) (bytes : List ℕ) → All (λ b. 128 ≤ b) bytes → HasNoEnd ending bytes
+none_above ending bytes above k d low = by_kind ending (get_or bytes k d) (above k d low) where
+  by_kind : (e : Ending) (b : ℕ) → 128 ≤ b → ends e b ≡ false
+  by_kind Feed b high = grind (arith, nat_tests)
+  by_kind Zero b high = grind (arith, nat_tests)
 
 -- ---- the lines
 

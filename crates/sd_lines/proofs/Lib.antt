@@ -1,4 +1,2 @@
 pub mod Cutting
-pub mod Ends
-pub mod Parts
 pub mod Steps

@@ -1,111 +1,63 @@
--- Lines that are answered as they end.
-use Rattle.std.proofs.Common.{◌≡◌, ℕ, ◌<◌, List, [], ◌∷◌, ◌++◌, length, Option, Result, Ok, Err, IfErr, OnErr, refl, sym, ◌∙◌, ap, append_assoc, append-nil, inl, inr}
-use Rattle.std.specs.Io.KnownBytes.{Appends}
-use Rattle.std.proofs.KnownBytes.{Appends-trans}
+-- Lines that are answered as they end, and what is left where a run ends.
+use Rattle.std.proofs.Common.{◌≡◌, ℕ, ◌+◌, ◌-◌, ◌<◌, ◌≤◌, ◌&&◌, Bool, true, false, cond, ltb, lit<, List, [], ◌∷◌, ◌++◌, length, take, ◌⊎◌, Option, None, refl, sym, ◌∙◌, ap, append_assoc, append-nil, length-take, arith, inl, inr}
+use Rattle.std.specs.Prelude.{◌==◌, slice_index}
+use Rattle.std.specs.Io.KnownBytes.{Appends, Consumes, IsAtEnd}
+use Rattle.std.proofs.KnownBytes.{Appends-trans, Consumes-all}
+use Rattle.std.proofs.lemmas.Bool.{cases_lt}
+use Rattle.std.proofs.lemmas.Bool.Decides.{nat_tests}
+use Rattle.std.proofs.lemmas.List.{nil_from_length, take-append-le, take_all}
+use Rattle.std.proofs.lemmas.List.Elements.{All-append}
+use Rattle.std.proofs.Math.Seq.{take-append-add}
 use Rattle.sd_stream.specs.Streams.{AppendsBeginning}
-use Rattle.sd_stream.specs.declared.error.RunError.{RunError}
-use Rattle.sd_stream.specs.declared.error.RunError.TheVariants.{Write}
-use Rattle.sd_lines.specs.Answers.{AreAnswered}
-use Rattle.sd_lines.specs.Lines.{HasNoEnd, IsEnded, end_byte, ended_line, lines_in}
-use Rattle.sd_lines.specs.Steps.{Takes}
+use Rattle.sd_stream.specs.declared.input.TheConstants.{MAX_INPUT_BYTES}
+use Rattle.sd_lines.specs.Answers.{Answering, AreAnswered, Prints, PrintsAndLeaves, of_form}
+use Rattle.sd_lines.specs.Lines.{HasNoEnd, IsLong, asked_of, end_byte, ended_line, lines_in, text_of}
+use Rattle.sd_lines.specs.Output.{AnswersEnded, AnswersPart, AppendsOutput}
+use Rattle.sd_lines.specs.Steps.{Answered, ends_run}
 use Rattle.sd_lines.specs.declared.ending.Ending.{Ending}
-use Rattle.sd_lines.proofs.Cutting.{lines_cut, lines_last, no_lines}
+use Rattle.sd_lines.specs.declared.ending.Ending.TheVariants.{Feed, Zero}
+use Rattle.sd_lines.specs.declared.form.Form.{Form}
+use Rattle.sd_lines.specs.declared.form.TheConstants.{KEPT_BYTES}
+use Rattle.sd_lines.proofs.Cutting.{ends, lines_cut, lines_last, no_lines}
 
-ended_both : (ending : Ending) (ended more : List ℕ) → IsEnded ending ended → IsEnded ending more → IsEnded ending (ended ++ more)
-ended_both ending ended more one (inl none) = rw (none, append-nil ended) one
-ended_both ending ended more one (inr (front, is)) = inr (ended ++ front, rw is (sym (append_assoc ended front (end_byte ending ∷ []))))
+-- ---- what is kept of a line
 
-module _ {State : Type 0} (IsNext : State → List ℕ → List ℕ → State → Type 0) (ending : Ending) where
-  -- nothing is taken
-  pub takes_none : (Behind Wrote : List ℕ → Type 0) (old : State) (bytes : List ℕ) → Behind bytes → Wrote []
-      → Takes IsNext ending Behind Wrote old bytes old bytes
-  takes_none Behind Wrote old bytes rest wrote = record {
-    ended = [];
-    printed = [];
-    parts = refl;
-    whole = inl refl;
-    rest = rest;
-    advances = λ more back last answered. answered;
-    wrote = wrote;
-  }
+kept_more : (most : ℕ) (begun part line : List ℕ) → line ≡ take most begun
+    → line ++ take (most - length line) part ≡ take most (begun ++ part)
+kept_more most begun part line is = rw is (by_length (cases_lt most (length begun))) where
+  by_length : (most < length begun) ⊎ (length begun ≤ most)
+      → take most begun ++ take (most - length (take most begun)) part ≡ take most (begun ++ part)
+  by_length (inl over) =
+      let full : most - length (take most begun) ≡ 0 = omega (arith, length-take most begun) in
+      rw (full, take-append-le most begun part (omega arith)) (append-nil (take most begun))
+  by_length (inr within) =
+      let room : length begun + (most - length begun) ≡ most = omega arith in
+      rw (take_all most begun within) (sym (rw room at (take-append-add begun part (most - length begun))))
 
-  -- one line is answered
-  pub takes_line : (Behind Wrote : List ℕ → Type 0) (old new : State) (line left printed : List ℕ)
-      → HasNoEnd ending line → IsNext old (ended_line ending line) printed new → Behind left → Wrote printed
-      → Takes IsNext ending Behind Wrote old (line ++ end_byte ending ∷ left) new left
-  takes_line Behind Wrote old new line left printed none is rest wrote = record {
-    ended = line ++ end_byte ending ∷ [];
-    printed = printed;
-    parts = sym (append_assoc line (end_byte ending ∷ []) left);
-    whole = inr (line, refl);
-    rest = rest;
-    advances = λ more back last answered.
-        rw (append_assoc line (end_byte ending ∷ []) more, lines_cut ending line more none)
-        (printed, new, back, is, answered, refl);
-    wrote = wrote;
-  }
+stops_off : (stops : Bool) (n : ℕ) → MAX_INPUT_BYTES < n → (stops && ltb MAX_INPUT_BYTES n) ≡ false → stops ≡ false
+stops_off true n long is = absurd (grind (arith, nat_tests))
+stops_off false n long is = refl
 
-  -- of what is left lines are taken too
-  pub takes_on : (Before Behind Writes Wrote Both : List ℕ → Type 0) (old mid new : State) (bytes left rest : List ℕ)
-      → Takes IsNext ending Before Writes old bytes mid left
-      → Takes IsNext ending Behind Wrote mid left new rest
-      → ((one two : List ℕ) → Writes one → Wrote two → Both (one ++ two))
-      → Takes IsNext ending Behind Both old bytes new rest
-  takes_on Before Behind Writes Wrote Both old mid new bytes left rest first second both = record {
-    ended = first.ended ++ second.ended;
-    printed = first.printed ++ second.printed;
-    parts = first.parts ∙ ap (λ l. first.ended ++ l) second.parts ∙ sym (append_assoc first.ended second.ended rest);
-    whole = ended_both ending first.ended second.ended first.whole second.whole;
-    rest = second.rest;
-    advances = λ more back last answered.
-        rw (append_assoc first.ended second.ended more, append_assoc first.printed second.printed back)
-        (first.advances (second.ended ++ more) (second.printed ++ back) last (second.advances more back last answered));
-    wrote = both first.printed second.printed first.wrote second.wrote;
-  }
+asked_none : (form : Form) (l : List ℕ) → form.stops_at_long ≡ false → MAX_INPUT_BYTES < length l → asked_of form l ≡ None
+asked_none form l goes_on long = rw goes_on (grind (arith, nat_tests))
 
-  -- more bytes are left
-  pub takes_before : (Before Behind Wrote : List ℕ → Type 0) (old new : State) (bytes left more : List ℕ)
-      → Takes IsNext ending Before Wrote old bytes new left → Behind (left ++ more)
-      → Takes IsNext ending Behind Wrote old (bytes ++ more) new (left ++ more)
-  takes_before Before Behind Wrote old new bytes left more takes rest = record {
-    ended = takes.ended;
-    printed = takes.printed;
-    parts = ap (λ l. l ++ more) takes.parts ∙ append_assoc takes.ended left more;
-    whole = takes.whole;
-    rest = rest;
-    advances = takes.advances;
-    wrote = takes.wrote;
-  }
+one_less : (ending : Ending) (l : List ℕ) → length l ≤ length (ended_line ending l) + 1
+one_less Feed l = by_return (slice_index l (length l - 1) == 13) where
+  by_return : (has_return : Bool) → length l ≤ length (cond has_return (take (length l - 1) l) l) + 1
+  by_return true = omega (arith, length-take (length l - 1) l)
+  by_return false = omega arith
+one_less Zero l = omega arith
 
-  -- the answers to what has ended, and the last line
-  nothing_in : (old : State) → AreAnswered IsNext old (lines_in ending []) [] old
-  nothing_in old = rw (no_lines ending) (refl, refl)
-
-  pub ended_answered : (Behind Wrote : List ℕ → Type 0) (old new : State) (bytes left : List ℕ)
-      → (t : Takes IsNext ending Behind Wrote old bytes new left)
-      → AreAnswered IsNext old (lines_in ending t.ended) t.printed new
-  ended_answered Behind Wrote old new bytes left t =
-      rw (append-nil t.ended, append-nil t.printed) at (t.advances [] [] new (nothing_in new))
-
-  -- of all bytes, with the answers to those that are left
-  pub all_answered : (Behind Wrote : List ℕ → Type 0) (old mid last : State) (bytes left back : List ℕ)
-      → (t : Takes IsNext ending Behind Wrote old bytes mid left)
-      → AreAnswered IsNext mid (lines_in ending left) back last
-      → AreAnswered IsNext old (lines_in ending bytes) (t.printed ++ back) last
-  all_answered Behind Wrote old mid last bytes left back t answered =
-      rw (t.parts) (t.advances left back last answered)
-
-  pub no_last : (old : State) (begun : List ℕ) → begun ≡ []
-      → AreAnswered IsNext old (lines_in ending begun) [] old
-  no_last old begun none = rw none (nothing_in old)
-
-  pub one_last : (old new : State) (begun printed : List ℕ) → HasNoEnd ending begun
-      → 0 < length begun → IsNext old begun printed new
-      → AreAnswered IsNext old (lines_in ending begun) printed new
-  one_last old new begun printed none some is =
-      rw (lines_last ending begun none some) (printed, new, [], is, (refl, refl), sym (append-nil printed))
-
--- ---- what was written
+-- what is asked of a line is asked of what is kept of it
+pub asked_kept : (most : ℕ) (form : Form) (begun : List ℕ) (of : List ℕ → List ℕ) → MAX_INPUT_BYTES + 1 < most → ((l : List ℕ) → length l ≤ length (of l) + 1)
+    → ends_run form (take most begun) ≡ false → asked_of form (of (take most begun)) ≡ asked_of form (of begun)
+asked_kept most form begun of enough shorter goes_on = by_length (cases_lt most (length begun)) where
+  by_length : (most < length begun) ⊎ (length begun ≤ most) → asked_of form (of (take most begun)) ≡ asked_of form (of begun)
+  by_length (inl over) =
+      let full : length (take most begun) ≡ most = omega (arith, length-take most begun) in
+      let off : form.stops_at_long ≡ false = stops_off form.stops_at_long _ (omega arith) goes_on in
+      asked_none form (of (take most begun)) off (omega (arith, shorter (take most begun))) ∙ sym (asked_none form (of begun) off (omega (arith, shorter begun)))
+  by_length (inr within) = rw (take_all most begun within) refl
 
 pub beginning_after : (a b c : Option (List ℕ)) (before text : List ℕ)
     → Appends a b before → AppendsBeginning b c text → AppendsBeginning a c (before ++ text)
@@ -116,7 +68,162 @@ beginning_after a b c before text first second = record {
   appended = Appends-trans a b c before second.done first second.appended;
 }
 
--- the one error of a writing
-pub if_write : {T : Type 0} {P : Type 0} → (Q : RunError → Type 0) (r : Result T RunError) → IfErr r (λ e. e ≡ Write) → OnErr r P → (P → Q Write) → IfErr r Q
-if_write Q (Ok x) is given make = tt
-if_write Q (Err e) is given make = rw is (make given)
+-- of the bytes that are left more are taken
+pub taken_on : (text taken more left bytes rest tail : List ℕ) → bytes ≡ taken ++ rest → rest ≡ more ++ left
+    → (text ++ bytes) ++ tail ≡ ((text ++ taken) ++ more) ++ (left ++ tail)
+taken_on text taken more left bytes rest tail first second = rw (first, second) (simp append_assoc)
+
+module _ {State : Type 0} {form : Form} {Answer : Answering State} {old : State} {start : Option (List ℕ)}
+    {text line unwritten : List ℕ} {new : State} {now : Option (List ℕ)} (a : Answered form Answer old start text new line unwritten now) where
+  -- a part of a line
+  pub part_kept : (part next : List ℕ) → HasNoEnd form.ending part
+      → next ≡ line ++ take (KEPT_BYTES - length line) part
+      → Answered form Answer old start (text ++ part) new next unwritten now
+  part_kept part next none grown = record {
+    ended = a.ended;
+    begun = a.begun ++ part;
+    written = a.written;
+    parts = ap (λ l. l ++ part) a.parts ∙ append_assoc a.ended a.begun part;
+    whole = a.whole;
+    unended = All-append (λ b. ends form.ending b ≡ false) a.begun part a.unended none;
+    kept = grown ∙ kept_more KEPT_BYTES a.begun part line a.kept;
+    appended = a.appended;
+    advances = a.advances;
+  }
+
+  -- one that ends, and the answer to its line
+  pub line_answered : (part next printed : List ℕ) (later : State) → HasNoEnd form.ending part
+      → next ≡ line ++ take (KEPT_BYTES - length line) part
+      → ends_run form next ≡ false → Answer new (asked_of form (ended_line form.ending next)) printed later
+      → Answered form Answer old start (text ++ part ++ end_byte form.ending ∷ []) later [] (unwritten ++ printed) now
+  line_answered part next printed later none grown goes_on answer =
+      let whole = a.begun ++ part in
+      let unended : HasNoEnd form.ending whole = All-append (λ b. ends form.ending b ≡ false) a.begun part a.unended none in
+      let end = end_byte form.ending in
+      let kept : next ≡ take KEPT_BYTES whole = grown ∙ kept_more KEPT_BYTES a.begun part line a.kept in
+      let asked = rw (asked_kept KEPT_BYTES form whole (ended_line form.ending) (lit< tt) (one_less form.ending) (rw kept at goes_on)) at (rw kept at answer) in
+      record {
+        ended = a.ended ++ whole ++ end ∷ [];
+        begun = [];
+        written = a.written;
+        parts = rw (append-nil _) (ap (λ l. l ++ end ∷ []) (ap (λ l. l ++ part) a.parts ∙ append_assoc a.ended a.begun part));
+        whole = inr (a.ended ++ whole, refl);
+        unended = λ k d low. absurd (omega (arith, low));
+        kept = refl;
+        appended = a.appended;
+        advances = λ rest back last answered.
+            rw (
+              append_assoc (a.ended ++ whole) (end ∷ []) rest,
+              append_assoc a.ended whole (end ∷ rest),
+              ← append_assoc a.written unwritten printed,
+              append_assoc (a.written ++ unwritten) printed back,
+            )
+            (a.advances (whole ++ end ∷ rest) (printed ++ back) last
+            (rw (lines_cut form.ending whole rest unended) (printed, later, back, asked, answered, refl)));
+      }
+
+  -- the answers are written
+  pub all_written : (after : Option (List ℕ)) → Appends now after unwritten → Answered form Answer old start text new line [] after
+  all_written after wrote = record {
+    ended = a.ended;
+    begun = a.begun;
+    written = a.written ++ unwritten;
+    parts = a.parts;
+    whole = a.whole;
+    unended = a.unended;
+    kept = a.kept;
+    appended = Appends-trans start now after a.written unwritten a.appended wrote;
+    advances = rw (append-nil (a.written ++ unwritten)) a.advances;
+  }
+
+  -- ---- what is left
+
+  ended_answered : AreAnswered (of_form form Answer) old (lines_in form.ending a.ended) (a.written ++ unwritten) new
+  ended_answered =
+      rw (append-nil a.ended, append-nil (a.written ++ unwritten)) at (a.advances [] [] new (rw (no_lines form.ending) (refl, refl)))
+
+  pub leaves_ended : {Behind : List ℕ → Type 0} (input left : Option (List ℕ)) (read tail : List ℕ) → unwritten ≡ []
+      → Consumes input left read → text_of form read ≡ text ++ tail → Behind (a.begun ++ tail)
+      → AnswersEnded (Prints form Answer old) form Behind input left start now
+  leaves_ended input left read tail none consumed decodes behind = record {
+    read = read;
+    ended = a.ended;
+    behind = a.begun ++ tail;
+    printed = a.written;
+    consumed = consumed;
+    parts = decodes ∙ ap (λ l. l ++ tail) a.parts ∙ append_assoc a.ended a.begun tail;
+    whole = a.whole;
+    rest = behind;
+    output = (new, rw (none, append-nil a.written) at ended_answered);
+    appended = a.appended;
+  }
+
+  -- a line that ends the run
+  pub leaves_long : (input left : Option (List ℕ)) (read tail : List ℕ) → unwritten ≡ [] → ends_run form line ≡ true
+      → Consumes input left read → text_of form read ≡ text ++ tail
+      → (form.stops_at_long ≡ true) × AnswersEnded (Prints form Answer old) form (IsLong form.ending) input left start now
+  leaves_long input left read tail none is_long consumed decodes =
+      let long = by_tests form.stops_at_long (length (take KEPT_BYTES a.begun)) (rw (a.kept) at is_long) in (
+        long.0,
+        leaves_ended input left read tail none consumed decodes
+            (a.begun, tail, refl, a.unended, omega (arith, length-take KEPT_BYTES a.begun, long.1)),
+      ) where
+        by_tests : (stops : Bool) (n : ℕ) → (stops && ltb MAX_INPUT_BYTES n) ≡ true → (stops ≡ true) × (MAX_INPUT_BYTES < n)
+        by_tests true n is = (refl, grind (arith, nat_tests))
+        by_tests false n is = absurd (cc is)
+
+  pub leaves_part : (after input left : Option (List ℕ)) (read tail : List ℕ) → AppendsBeginning now after unwritten
+      → Consumes input left read → text_of form read ≡ text ++ tail
+      → AnswersPart (Prints form Answer old) form input left start after
+  leaves_part after input left read tail beginning consumed decodes = record {
+    read = read;
+    text = a.ended;
+    behind = a.begun ++ tail;
+    printed = a.written ++ unwritten;
+    consumed = consumed;
+    parts = decodes ∙ ap (λ l. l ++ tail) a.parts ∙ append_assoc a.ended a.begun tail;
+    whole = inl a.whole;
+    output = (new, ended_answered);
+    beginning = beginning_after start now after a.written unwritten a.appended beginning;
+  }
+
+  -- ---- the last line, where it lacks its end
+
+  pub no_last : line ≡ [] → AreAnswered (of_form form Answer) new (lines_in form.ending a.begun) [] new
+  no_last none =
+      let nothing : a.begun ≡ [] = nil_from_length a.begun (omega (arith, length-take KEPT_BYTES a.begun, ap length (sym a.kept ∙ none))) in
+      rw (nothing, no_lines form.ending) (refl, refl)
+
+  pub one_last : (printed : List ℕ) (last : State) → 0 < length line → ends_run form line ≡ false → Answer new (asked_of form line) printed last
+      → AreAnswered (of_form form Answer) new (lines_in form.ending a.begun) printed last
+  one_last printed last some goes_on answer =
+      let asked = rw (asked_kept KEPT_BYTES form a.begun (λ l. l) (lit< tt) (λ l. omega arith) (rw (a.kept) at goes_on)) at (rw (a.kept) at answer) in
+      rw (lines_last form.ending a.begun a.unended (omega (arith, length-take KEPT_BYTES a.begun, ap length a.kept)))
+      (printed, last, [], asked, (refl, refl), sym (append-nil printed))
+
+  module _ (printed : List ℕ) (last : State) (answered : AreAnswered (of_form form Answer) new (lines_in form.ending a.begun) printed last)
+      (after input left : Option (List ℕ)) (read : List ℕ) (none : unwritten ≡ []) (consumed : Consumes input left read) (end : IsAtEnd left)
+      (decodes : text_of form read ≡ text) where
+    all_answered : PrintsAndLeaves form Answer old read (a.written ++ printed) last
+    all_answered = rw (decodes ∙ a.parts) (rw (none, append-nil a.written) at (a.advances a.begun printed last answered))
+
+    pub all_appended : Appends now after printed
+        → AppendsOutput (λ text printed. PrintsAndLeaves form Answer old text printed last) input start after
+    all_appended wrote = record {
+      printed = a.written ++ printed;
+      output = (read, Consumes-all input left read [] read consumed end refl, all_answered);
+      appended = Appends-trans start now after a.written printed a.appended wrote;
+    }
+
+    pub part_appended : AppendsBeginning now after printed → AnswersPart (Prints form Answer old) form input left start after
+    part_appended wrote = record {
+      read = read;
+      text = text_of form read;
+      behind = [];
+      printed = a.written ++ printed;
+      consumed = consumed;
+      parts = sym (append-nil (text_of form read));
+      whole = inr (end, refl);
+      output = (last, all_answered);
+      beginning = beginning_after start now after a.written printed a.appended wrote;
+    }

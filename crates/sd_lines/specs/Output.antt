@@ -28,11 +28,8 @@ pub record AppendsPartOfOutput (prints : List ℕ → List ℕ → Type 0) (inpu
 -- nothing was written before an error, but for a write's own
 abbrev pub LeavesOutput : (List ℕ → List ℕ → Type 0) → Option (List ℕ) → Option (List ℕ) → Option (List ℕ)
     → RunError → Type 0
-LeavesOutput prints input old new Read = Keeps old new
-LeavesOutput prints input old new TooLong = Keeps old new
 LeavesOutput prints input old new Write = AppendsPartOfOutput prints input old new
-LeavesOutput prints input old new Memory = Keeps old new
-LeavesOutput prints input old new Thread = Keeps old new
+LeavesOutput prints input old new error = Keeps old new
 
 -- ---- of lines that are answered as they end
 

@@ -1,6 +1,6 @@
 //! What ends a line, and the first line of a text.
 
-ghost use Rattle.std.specs.Prelude.{◌≡◌, ◌==◌, ◌<◌, ◌≤◌, ◌∷◌, ◌++◌, length, IfNone, IfSome};
+ghost use Rattle.std.specs.Prelude.{◌≡◌, ◌==◌, ◌<◌, ◌≤◌, ◌∷◌, ◌++◌, drop, length};
 ghost use Rattle.std.specs.List.{position_or_len};
 ghost use Rattle.std.specs.Str.Lines.{strip_carriage_return};
 ghost use Rattle.sd_lines.specs.Lines.{HasNoEnd, end_byte, ended_line, lines_in};
@@ -25,7 +25,7 @@ impl Ending {
     }
 
     /// How many bytes are before the first end of a line, or all if there is none.
-    pub(crate) fn place(self, bytes: &[u8]) -> usize
+    fn place(self, bytes: &[u8]) -> usize
         ensures place { result ≡ position_or_len (λ b. b == end_byte self) bytes.now }
         ensures within { result ≤ length bytes.now }
     {
@@ -36,18 +36,14 @@ impl Ending {
         }
     }
 
-    /// The bytes before the first end of a line, and those after it. `None`: no line ends in the bytes.
-    pub(crate) fn cut(self, bytes: &[u8]) -> Option<(&[u8], &[u8])>
-        ensures some { IfSome result (λ cut. (bytes.now ≡ cut.0.now ++ end_byte self ∷ cut.1.now)
-            × HasNoEnd self cut.0.now) }
-        ensures none { IfNone result (HasNoEnd self bytes.now) }
+    /// The bytes before the first end of a line, and those from there on; none if no line ends in the bytes.
+    pub(crate) fn split(self, bytes: &[u8]) -> (&[u8], &[u8])
+        ensures parts { bytes.now ≡ result.0.now ++ result.1.now }
+        ensures none { HasNoEnd self result.0.now }
+        ensures end { 0 < length result.1.now → result.1.now ≡ end_byte self ∷ drop 1 result.1.now }
     {
         let end = self.place(bytes);
-        if end < bytes.len() {
-            Some((&bytes[..end], &bytes[end + 1..]))
-        } else {
-            None
-        }
+        (&bytes[..end], &bytes[end..])
     }
 
     /// The line that had these bytes before its end.
@@ -67,9 +63,11 @@ pub fn first_line(ending: Ending, text: &[u8]) -> (&[u8], &[u8])
     ensures lines { lines_in ending text.now ≡ result.0.now ∷ lines_in ending result.1.now }
     ensures less { length result.1.now < length text.now }
 {
-    match ending.cut(text) {
-        Some((part, after)) => (ending.line(part), after),
-        None => (text, &text[text.len()..]),
+    let (part, left) = ending.split(text);
+    if left.is_empty() {
+        (part, left)
+    } else {
+        (ending.line(part), &left[1..])
     }
 }
 

@@ -1,12 +1,16 @@
 //! What lines are, and when their answers are written.
 
-ghost use Rattle.std.specs.Prelude.{◌≡◌, ◌<◌, ◌++◌, ℕ, List, length, option_map};
+ghost use Rattle.std.specs.Prelude.{◌≡◌, ◌++◌, ◌-◌, ℕ, List, OnOk, length, option_map, take};
 ghost use Rattle.sd_stream.specs.Decoder.{text_after};
 ghost use Rattle.sd_lines.specs.Lines.{asked_of, text_of};
+ghost use Rattle.sd_lines.specs.Steps.{ends_run};
 
 use crate::ending::Ending;
 use sd_stream::{Decoder, MAX_INPUT_BYTES};
-use std::alloc::Global;
+use std::alloc::{AllocError, Global};
+
+/// The most bytes of a line that are kept: one more than the longest line and a carriage return have.
+pub(crate) const KEPT_BYTES: usize = MAX_INPUT_BYTES + 2;
 
 /// What the lines of an input are, and when their answers are written.
 #[derive(Clone, Copy, Debug, PartialEq, Eq)]
@@ -46,19 +50,19 @@ impl Form {
         }
     }
 
-    /// The bytes whose answers are written together, and those after them.
-    pub(crate) fn part(self, bytes: &[u8]) -> (&[u8], &[u8])
-        ensures parts { bytes.now ≡ result.0.now ++ result.1.now }
-        ensures some { 0 < length bytes.now → 0 < length result.0.now }
+    /// Whether a line is too long, and that ends the run.
+    pub(crate) fn ends_run(self, line: &[u8]) -> bool
+        ensures { result ≡ ends_run self line.now }
     {
-        if !self.line_by_line {
-            return (bytes, &bytes[bytes.len()..]);
-        }
-        let end = self.ending.place(bytes);
-        if end < bytes.len() {
-            (&bytes[..end + 1], &bytes[end + 1..])
-        } else {
-            (bytes, &bytes[bytes.len()..])
-        }
+        self.stops_at_long && line.len() > MAX_INPUT_BYTES
     }
+}
+
+/// Appends a part of a line to what is kept of it.
+pub(crate) fn keep(line: &mut Vec<u8>, part: &[u8]) -> Result<(), AllocError>
+    ensures { OnOk result (line.new.items
+        ≡ line.old.items ++ take (KEPT_BYTES - length line.old.items) part.now) }
+{
+    let room = KEPT_BYTES.saturating_sub(line.len());
+    line.extend_from_slice(&part[..room.min(part.len())])
 }

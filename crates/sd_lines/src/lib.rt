@@ -15,7 +15,6 @@
 #![tactic(auto)]
 
 mod answers;
-mod begun;
 mod ending;
 mod form;
 mod part;

@@ -1,131 +1,76 @@
 //! The lines that end in a part of an input.
 
-ghost use Rattle.std.specs.Prelude.{◌≡◌, ◌||◌, ◌++◌, [], IfErr, OnOk};
-ghost use Rattle.std.specs.Io.KnownBytes.{Appends};
+ghost use Rattle.std.specs.Prelude.{◌≡◌, ◌||◌, ◌++◌, ◌<◌, ℕ, List, [], false, Option, IfOk, IfErr, OnOk, length};
 ghost use Rattle.sd_stream.specs.Watched.{inner_of, has_failed};
-ghost use Rattle.sd_stream.specs.Streams.{is_write_error};
-ghost use Rattle.sd_lines.specs.Steps.{AnswersLast, FailsIn, FailsLast, StopsIn, TakesFrom, goes_on};
+ghost use Rattle.sd_stream.specs.Streams.{is_read_error, is_write_error};
+ghost use Rattle.sd_lines.specs.Steps.{Continues, Stops, ends_run};
 
 use crate::answers::AnswersLines;
-use crate::begun::Begun;
-use crate::form::Form;
-use crate::text::answer_ended;
+use crate::form::{Form, keep};
 use sd_stream::{RunError, Watched, write_whole};
-use std::alloc::Global;
+use std::alloc::{AllocError, Global};
 use std::io::Write;
 
-/// Writes the answers to the lines that end in the bytes, part by part. `text` is empty, before and after.
+/// Writes the answers to the lines that end in the bytes. `line` is what is kept of the line that has begun.
 pub(crate) fn answer_parts<A: AnswersLines, W: Write>(
     alloc: Global,
     answers: &A,
     state: &mut A::State,
     form: Form,
-    line: &mut Begun,
+    line: &mut Vec<u8>,
     bytes: &[u8],
     text: &mut Vec<u8>,
     writer: &mut Watched<W>,
 ) -> Result<(), RunError>
-    requires text { text.old.items ≡ [] }
-    requires goes_on { goes_on form line.old }
-    ensures ok { OnOk result (TakesFrom form (A.answers answers.now)
-        (Appends (W.contents (inner_of writer.old)) (W.contents (inner_of writer.new)))
-        state.old line.old bytes.now state.new line.new) }
-    ensures err { IfErr result (StopsIn form (A.answers answers.now) state.old line.old bytes.now
-        (W.contents (inner_of writer.old)) (W.contents (inner_of writer.new))) }
-    ensures text { OnOk result (text.new.items ≡ []) }
-    ensures goes_on { OnOk result (goes_on form line.new) }
+    requires { ends_run form line.old.items ≡ false }
+    ensures ok { OnOk result (Continues form (A.answers answers.now) bytes.now
+        state.old line.old.items [] (W.contents (inner_of writer.old))
+        state.new line.new.items [] (W.contents (inner_of writer.new))) }
+    ensures err { IfErr result (Stops form (A.answers answers.now) bytes.now
+        state.old line.old.items (W.contents (inner_of writer.old)) (W.contents (inner_of writer.new))) }
+    ensures only { is_read_error result ≡ false }
+    ensures goes_on { OnOk result (ends_run form line.new.items ≡ false) }
     ensures failed { has_failed writer.new ≡ (has_failed writer.old || is_write_error result) }
 {
     let mut rest = bytes;
     while !rest.is_empty() {
-        let (part, after) = form.part(rest);
-        answer_part(alloc, answers, state, form, line, part, text, writer)?;
-        rest = after;
+        text.clear();
+        rest = append_answers(alloc, answers, state, form, line, rest, text)?;
+        write_whole(writer, text)?;
+        if form.ends_run(line) {
+            return Err(RunError::TooLong);
+        }
     }
     Ok(())
 }
 
-/// Writes the answers to the lines that end in a part.
-fn answer_part<A: AnswersLines, W: Write>(
+/// Appends the answers that are written together, to lines that end in the bytes, and returns the bytes after them.
+fn append_answers<'a, A: AnswersLines>(
     alloc: Global,
     answers: &A,
     state: &mut A::State,
     form: Form,
-    line: &mut Begun,
-    part: &[u8],
+    line: &mut Vec<u8>,
+    bytes: &'a [u8],
     text: &mut Vec<u8>,
-    writer: &mut Watched<W>,
-) -> Result<(), RunError>
-    requires { text.old.items ≡ [] }
-    ensures ok { OnOk result (TakesFrom form (A.answers answers.now)
-        (Appends (W.contents (inner_of writer.old)) (W.contents (inner_of writer.new)))
-        state.old line.old part.now state.new line.new) }
-    ensures err { IfErr result (StopsIn form (A.answers answers.now) state.old line.old part.now
-        (W.contents (inner_of writer.old)) (W.contents (inner_of writer.new))) }
-    ensures text { OnOk result (text.new.items ≡ []) }
-    ensures goes_on { OnOk result (goes_on form line.new) }
-    ensures failed { has_failed writer.new ≡ (has_failed writer.old || is_write_error result) }
+) -> Result<&'a [u8], AllocError>
+    ensures takes { IfOk result (λ left. (taken : List ℕ) × (bytes.now ≡ taken ++ left.now)
+        × ((now : Option (List ℕ)) → Continues form (A.answers answers.now) taken
+        state.old line.old.items text.old.items now state.new line.new.items text.new.items now)) }
+    ensures less { IfOk result (λ left. ends_run form line.new.items ≡ false → 0 < length bytes.now
+        → length left.now < length bytes.now) }
 {
-    append_answers(alloc, answers, state, form, line, part, text)?;
-    write_whole(writer, text)?;
-    text.clear();
-    if line.stops(form) {
-        return Err(RunError::TooLong);
+    let mut rest = bytes;
+    // (line by line until one is answered)
+    'lines: while !form.line_by_line || rest.len() == bytes.len() {
+        let (part, left) = form.ending.split(rest);
+        keep(line, part)?;
+        if left.is_empty() || form.ends_run(line) {
+            return Ok(left);
+        }
+        answers.answer(alloc, state, form.asked(form.ending.line(line)), text)?;
+        line.clear();
+        rest = &left[1..];
     }
-    Ok(())
-}
-
-/// Appends the answers to the lines that end in a part.
-fn append_answers<A: AnswersLines>(
-    alloc: Global,
-    answers: &A,
-    state: &mut A::State,
-    form: Form,
-    line: &mut Begun,
-    part: &[u8],
-    text: &mut Vec<u8>,
-) -> Result<(), RunError>
-    ensures ok { OnOk result (TakesFrom form (A.answers answers.now)
-        (λ printed. text.new.items ≡ text.old.items ++ printed) state.old line.old part.now state.new line.new) }
-    ensures err { IfErr result (FailsIn form line.old part.now) }
-{
-    let Some((before, after)) = form.ending.cut(part) else {
-        line.grow(form, part)?;
-        return Ok(());
-    };
-    line.grow(form, before)?;
-    if line.stops(form) {
-        return Err(RunError::TooLong);
-    }
-    answers.answer(alloc, state, line.line(form), text)?;
-    line.end();
-    let left = answer_ended(alloc, answers, state, form, after, text)?;
-    line.grow(form, left)?;
-    Ok(())
-}
-
-/// Writes the answer to the last line, where it lacks its end. `text` is empty.
-pub(crate) fn answer_last<A: AnswersLines, W: Write>(
-    alloc: Global,
-    answers: &A,
-    state: &mut A::State,
-    form: Form,
-    line: &Begun,
-    text: &mut Vec<u8>,
-    writer: &mut Watched<W>,
-) -> Result<(), RunError>
-    requires text { text.old.items ≡ [] }
-    requires goes_on { goes_on form line.now }
-    ensures ok { OnOk result (AnswersLast form (A.answers answers.now)
-        (Appends (W.contents (inner_of writer.old)) (W.contents (inner_of writer.new)))
-        state.old line.now state.new) }
-    ensures err { IfErr result (FailsLast form (A.answers answers.now) state.old line.now
-        (W.contents (inner_of writer.old)) (W.contents (inner_of writer.new))) }
-    ensures failed { has_failed writer.new ≡ (has_failed writer.old || is_write_error result) }
-{
-    if line.is_empty() {
-        return Ok(());
-    }
-    answers.answer(alloc, state, line.last(form), text)?;
-    write_whole(writer, text)
+    Ok(rest)
 }

@@ -7,10 +7,9 @@ ghost use Rattle.sd_lines.specs.Answers.{Prints, PrintsAndLeaves};
 ghost use Rattle.sd_lines.specs.Output.{AppendsOutput, LeavesAnswers};
 
 use crate::answers::AnswersLines;
-use crate::begun::Begun;
 use crate::form::Form;
-use crate::part::{answer_last, answer_parts};
-use sd_stream::{RunError, Watched};
+use crate::part::answer_parts;
+use sd_stream::{RunError, Watched, write_whole};
 use std::alloc::Global;
 use std::io::{Read, Write};
 
@@ -44,9 +43,9 @@ pub fn answer_lines<A: AnswersLines, R: Read, W: Write>(
     ensures read { has_failed reader.new ≡ (has_failed reader.old || is_read_error result) }
     ensures write { has_failed writer.new ≡ (has_failed writer.old || is_write_error result) }
 {
-    let mut line = Begun::new(alloc);
     let mut decoder = form.decoder(alloc);
     let mut decoded = Vec::new(alloc);
+    let mut line = Vec::new(alloc);
     let mut text = Vec::new(alloc);
     let mut buffer = [0u8; BUFFER_BYTES];
     for _ in 0..u64::MAX {
@@ -58,7 +57,13 @@ pub fn answer_lines<A: AnswersLines, R: Read, W: Write>(
                 answer_parts(
                     alloc, answers, state, form, &mut line, &decoded, &mut text, writer,
                 )?;
-                return answer_last(alloc, answers, state, form, &line, &mut text, writer);
+                if line.is_empty() {
+                    return Ok(());
+                }
+                text.clear();
+                answers.answer(alloc, state, form.asked(&line), &mut text)?;
+                write_whole(writer, &text)?;
+                return Ok(());
             }
             Ok(count) => {
                 decoder.decode(alloc, &buffer[..count], &mut decoded)?;

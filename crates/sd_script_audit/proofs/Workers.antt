@@ -1,5 +1,5 @@
 -- Audits of one text by two numbers of workers: once a store is open, what is printed is the same.
-use Rattle.std.proofs.Common.{◌≡◌, ◌⊎◌, ℕ, Bool, true, false, List, [], ◌∷◌, ◌++◌, length, Option, Some, None, Ok, Err, inl, inr, refl, sym, ◌∙◌, ap, subst, append_assoc, arith}
+use Rattle.std.proofs.Common.{◌≡◌, ◌⊎◌, ℕ, Bool, true, false, List, [], ◌∷◌, ◌++◌, length, Option, Some, None, Result, Ok, Err, inl, inr, refl, sym, ◌∙◌, ap, subst, append_assoc, arith}
 use Rattle.std.specs.Prelude.{MatchBool, codes}
 use Rattle.std.specs.List.{flat_map}
 use Rattle.std.specs.Str.Lines.{lines}
@@ -22,7 +22,7 @@ use Rattle.sd_script.specs.Expect.{expects}
 use Rattle.sd_script.specs.Fault.{line_of_fault}
 use Rattle.sd_script.specs.Importing.{IsImported}
 use Rattle.sd_script.specs.Lines.{is_silent}
-use Rattle.sd_script.specs.Output.{IsDone, IsOpened, line_asks_in, opening_in}
+use Rattle.sd_script.specs.Output.{IsDone, IsOpened, is_open, line_asks_in, manner_of, opening_in}
 use Rattle.sd_script.specs.Reply.{counted_line, refused_line, start_error_line}
 use Rattle.sd_script.specs.declared.asked.Asked.{Asked}
 use Rattle.sd_script.specs.declared.asked.Asked.TheVariants.{Opening as Opens, Asking, Explaining, Finding, Deleting, Viewing, Importing}
@@ -94,6 +94,21 @@ pub record AreAlike (a b : Progress) : Type 0 where
   pub queries : a.queries ≡ b.queries
 
 module _ (a b : Progress) (alike : AreAlike a b) where
+  still_open : (p q : List ℕ) (c d : Progress) (x y : Machine) → c.store ≡ sessions.Opened alike.notation x → d.store ≡ sessions.Opened alike.notation y
+      → c.queries ≡ a.queries → d.queries ≡ b.queries → (p ≡ q) × (unread x ≡ unread y) → (p ≡ q) × AreAlike c d
+  still_open p q c d x y first second one other same = (
+    same.0,
+    record {
+      notation = alike.notation;
+      one = x;
+      other = y;
+      one_is = first;
+      other_is = second;
+      alike = same.1;
+      queries = one ∙ alike.queries ∙ sym other;
+    },
+  )
+
   -- a request of both stores
   step_alike : (r : Request) (p q : List ℕ) (c d : Progress) → ((m : Machine) → unread_after (outcome alike.notation.spelling m r) ≡ unread_after (outcome alike.notation.spelling (unread m) r))
       → IsDone a.store (Asking r) p c.store × (c.queries ≡ a.queries) → IsDone b.store (Asking r) q d.store × (d.queries ≡ b.queries)
@@ -103,18 +118,8 @@ module _ (a b : Progress) (alike : AreAlike a b) where
       let second = subst (λ s. IsDone s (Asking r) q d.store) alike.other_is other.0 in
       let same = ap unread_after (one_step alike.notation.spelling alike.one r first.0 first.1 p first.2 first.3)
       ∙ same_outcome alike.notation.spelling alike.one alike.other r (blind alike.one) (blind alike.other) alike.alike
-      ∙ sym (ap unread_after (one_step alike.notation.spelling alike.other r second.0 second.1 q second.2 second.3)) in (
-        ap (λ (x : List ℕ × Machine). x.0) same,
-        record {
-          notation = alike.notation;
-          one = first.1;
-          other = second.1;
-          one_is = first.4;
-          other_is = second.4;
-          alike = ap (λ (x : List ℕ × Machine). x.1) same;
-          queries = one.1 ∙ alike.queries ∙ sym other.1;
-        },
-      )
+      ∙ sym (ap unread_after (one_step alike.notation.spelling alike.other r second.0 second.1 q second.2 second.3)) in
+      still_open p q c d first.1 second.1 first.4 second.4 one.1 other.1 (ap (λ (x : List ℕ × Machine). x.0) same, ap (λ (x : List ℕ × Machine). x.1) same)
 
   -- an import into both stores
   imports_alike : (e : Edit) (path : Names) (given : List Ace) (p q : List ℕ) (c d : Progress)
@@ -123,18 +128,8 @@ module _ (a b : Progress) (alike : AreAlike a b) where
   imports_alike e path given p q c d one other =
       let first = subst (λ s. IsDone s (Importing e path given) p c.store) alike.one_is one.0 in
       let second = subst (λ s. IsDone s (Importing e path given) q d.store) alike.other_is other.0 in
-      let same = same_import alike.notation.spelling alike.one alike.other e first.0 second.0 first.1 second.1 p q path given alike.alike first.2 second.2 first.3 second.3 in (
-        same.0,
-        record {
-          notation = alike.notation;
-          one = first.1;
-          other = second.1;
-          one_is = first.4;
-          other_is = second.4;
-          alike = same.1;
-          queries = one.1 ∙ alike.queries ∙ sym other.1;
-        },
-      )
+      still_open p q c d first.1 second.1 first.4 second.4 one.1 other.1
+      (same_import alike.notation.spelling alike.one alike.other e first.0 second.0 first.1 second.1 p q path given alike.alike first.2 second.2 first.3 second.3)
 
   -- what changes nothing
   stay_alike : (printed p q : List ℕ) (c d : Progress) → (p ≡ printed) × (c ≡ a) → (q ≡ printed) × (d ≡ b) → (p ≡ q) × AreAlike c d
@@ -171,6 +166,42 @@ Loud n a text p c =
     ((asked : Asked) × line_asks_in a.store text (Ok asked) × IsDoneInAudit n a asked p c)
     ⊎ ((fault : LineFault) × line_asks_in a.store text (Err fault) × (p ≡ line_of_fault fault) × (c ≡ a))
 
+-- a line of two audits, where it asks for the same, and what changes nothing and what is asked leaves both alike
+module _ (n m : ℕ) (text : List ℕ) (a b : Progress) (Alike : List ℕ → List ℕ → Progress → Progress → Type 0)
+    (asks : (r : Result Asked LineFault) → line_asks_in b.store text r → line_asks_in a.store text r)
+    (stays : (printed p q : List ℕ) (c d : Progress) → (p ≡ printed) × (c ≡ a) → (q ≡ printed) × (d ≡ b) → Alike p q c d)
+    (done : (asked : Asked) (p q : List ℕ) (c d : Progress) → line_asks_in a.store text (Ok asked)
+    → IsDoneInAudit n a asked p c → IsDoneInAudit m b asked q d → Alike p q c d)
+    (p q : List ℕ) (c d : Progress) where
+  one_reading : (r s : Result Asked LineFault) → line_asks_in a.store text r → line_asks_in b.store text s → r ≡ s
+  one_reading r s one other = line-one (manner_of a.store).notation (is_open a.store) text r s one (asks s other)
+
+  loud_alike : Loud n a text p c → Loud m b text q d → Alike p q c d
+  loud_alike (inl one) (inl other) =
+      let same = one_reading (Ok one.0) (Ok other.0) one.1 other.1 in
+      let asked : one.0 ≡ other.0 = cc (same) in
+      done other.0 p q c d (asks (Ok other.0) other.1) (subst (λ x. IsDoneInAudit n a x p c) asked one.2) other.2
+  loud_alike (inl one) (inr other) = absurd (let no = one_reading (Ok one.0) (Err other.0) one.1 other.1 in cc (no))
+  loud_alike (inr one) (inl other) = absurd (let no = one_reading (Err one.0) (Ok other.0) one.1 other.1 in cc (no))
+  loud_alike (inr one) (inr other) =
+      let same = one_reading (Err one.0) (Err other.0) one.1 other.1 in
+      let fault : one.0 ≡ other.0 = cc (same) in
+      stays (line_of_fault other.0) p q c d (one.2 ∙ ap line_of_fault fault, one.3) (other.2, other.3)
+
+  by_expectation : (expectation : Bool) → MatchBool expectation (IsForScripts a p c) (Loud n a text p c)
+      → MatchBool expectation (IsForScripts b q d) (Loud m b text q d) → Alike p q c d
+  by_expectation true one other = stays _ p q c d one other
+  by_expectation false one other = loud_alike one other
+
+  by_silence : (silent : Bool)
+      → MatchBool silent ((p ≡ []) × (c ≡ a)) (MatchBool (expects text) (IsForScripts a p c) (Loud n a text p c))
+      → MatchBool silent ((q ≡ []) × (d ≡ b)) (MatchBool (expects text) (IsForScripts b q d) (Loud m b text q d)) → Alike p q c d
+  by_silence true one other = stays [] p q c d one other
+  by_silence false one other = by_expectation (expects text) one other
+
+  line_alike : IsAnsweredInAudit n a text p c → IsAnsweredInAudit m b text q d → Alike p q c d
+  line_alike one other = by_silence (is_silent text) one other
+
 module _ (n m : ℕ) (text : List ℕ) where
   asking_alike : (a b : Progress) (asked : Asked) (p q : List ℕ) (c d : Progress) → (alike : AreAlike a b) → line_asks alike.notation true text (Ok asked)
       → IsDoneInAudit n a asked p c → IsDoneInAudit m b asked q d → (p ≡ q) × AreAlike c d
@@ -182,39 +213,14 @@ module _ (n m : ℕ) (text : List ℕ) where
   asking_alike a b (Viewing view) p q c d alike asks one other = stay_alike a b alike _ p q c d one other
   asking_alike a b (Importing e path given) p q c d alike asks one other = imports_alike a b alike e path given p q c d one other
 
-  loud_alike : (a b : Progress) (p q : List ℕ) (c d : Progress) → AreAlike a b → Loud n a text p c → Loud m b text q d → (p ≡ q) × AreAlike c d
-  loud_alike a b p q c d alike (inl one) (inl other) =
-      let first = subst (λ s. line_asks_in s text (Ok one.0)) alike.one_is one.1 in
-      let second = subst (λ s. line_asks_in s text (Ok other.0)) alike.other_is other.1 in
-      let same = line-one alike.notation true text (Ok one.0) (Ok other.0) first second in
-      let asked : one.0 ≡ other.0 = cc (same) in
-      asking_alike a b other.0 p q c d alike second (subst (λ x. IsDoneInAudit n a x p c) asked one.2) other.2
-  loud_alike a b p q c d alike (inl one) (inr other) = absurd (
-      let first = subst (λ s. line_asks_in s text (Ok one.0)) alike.one_is one.1 in
-      let second = subst (λ s. line_asks_in s text (Err other.0)) alike.other_is other.1 in
-      let no = line-one alike.notation true text (Ok one.0) (Err other.0) first second in cc (no))
-  loud_alike a b p q c d alike (inr one) (inl other) = absurd (
-      let first = subst (λ s. line_asks_in s text (Err one.0)) alike.one_is one.1 in
-      let second = subst (λ s. line_asks_in s text (Ok other.0)) alike.other_is other.1 in
-      let no = line-one alike.notation true text (Err one.0) (Ok other.0) first second in cc (no))
-  loud_alike a b p q c d alike (inr one) (inr other) =
-      let first = subst (λ s. line_asks_in s text (Err one.0)) alike.one_is one.1 in
-      let second = subst (λ s. line_asks_in s text (Err other.0)) alike.other_is other.1 in
-      let same = line-one alike.notation true text (Err one.0) (Err other.0) first second in
-      let fault : one.0 ≡ other.0 = cc (same) in
-      stay_alike a b alike (line_of_fault other.0) p q c d (one.2 ∙ ap line_of_fault fault, one.3) (other.2, other.3)
-
-  by_expectation : (expectation : Bool) (a b : Progress) (p q : List ℕ) (c d : Progress) → AreAlike a b
-      → MatchBool expectation (IsForScripts a p c) (Loud n a text p c) → MatchBool expectation (IsForScripts b q d) (Loud m b text q d)
-      → (p ≡ q) × AreAlike c d
-  by_expectation true a b p q c d alike one other = stay_alike a b alike _ p q c d one other
-  by_expectation false a b p q c d alike one other = loud_alike a b p q c d alike one other
-
-  by_silence : (silent : Bool) (a b : Progress) (p q : List ℕ) (c d : Progress) → AreAlike a b
-      → MatchBool silent ((p ≡ []) × (c ≡ a)) (MatchBool (expects text) (IsForScripts a p c) (Loud n a text p c))
-      → MatchBool silent ((q ≡ []) × (d ≡ b)) (MatchBool (expects text) (IsForScripts b q d) (Loud m b text q d)) → (p ≡ q) × AreAlike c d
-  by_silence true a b p q c d alike one other = stay_alike a b alike [] p q c d one other
-  by_silence false a b p q c d alike one other = by_expectation (expects text) a b p q c d alike one other
+  open_alike : (a b : Progress) (p q : List ℕ) (c d : Progress) → AreAlike a b
+      → IsAnsweredInAudit n a text p c → IsAnsweredInAudit m b text q d → (p ≡ q) × AreAlike c d
+  open_alike a b p q c d alike one other =
+      line_alike n m text a b (λ p q c d. (p ≡ q) × AreAlike c d)
+      (λ r asks. subst (λ s. line_asks_in s text r) (sym alike.one_is) (subst (λ s. line_asks_in s text r) alike.other_is asks))
+      (stay_alike a b alike)
+      (λ asked p q c d asks. asking_alike a b asked p q c d alike (subst (λ s. line_asks_in s text (Ok asked)) alike.one_is asks))
+      p q c d one other
 
 abbrev end_of : Spelling → Machine → List Query → List ℕ
 end_of spelling x queries =
@@ -229,7 +235,7 @@ all_alike n m [] a b p q x y alike one other =
     let second : q ≡ end_of alike.notation.spelling alike.other b.progress.queries = subst (λ s. IsEnd s b.progress.queries q) alike.other_is other.0 in
     first ∙ ap (λ x. end_of alike.notation.spelling x a.progress.queries) alike.alike ∙ ap (end_of alike.notation.spelling alike.other) alike.queries ∙ sym second
 all_alike n m (text ∷ texts) a b p q x y alike one other =
-    let first = by_silence n m text (is_silent text) a.progress b.progress one.0 other.0 one.1.progress other.1.progress alike one.3.answered other.3.answered in
+    let first = open_alike n m text a.progress b.progress one.0 other.0 one.1.progress other.1.progress alike one.3.answered other.3.answered in
     let rest = all_alike n m texts one.1 other.1 one.2 other.2 x y first.1 one.4 other.4 in
     one.5 ∙ ap (λ xs. xs ++ one.2) first.0 ∙ ap (λ xs. other.0 ++ xs) rest ∙ sym other.5
 
@@ -296,30 +302,11 @@ module _ (manner : Manner) (n m : ℕ) (some : IsReaderCount n) (others : IsRead
     opening_asked (Importing e path given) p q c d asks one other =
         absurd (let no = line_opens manner.notation false text (Importing e path given) asks in cc (no))
 
-    loud_unopened : (p q : List ℕ) (c d : Progress) → Loud n (unopened manner) text p c → Loud m (unopened manner) text q d → Opened p q c d
-    loud_unopened p q c d (inl one) (inl other) =
-        let same = line-one manner.notation false text (Ok one.0) (Ok other.0) one.1 other.1 in
-        let asked : one.0 ≡ other.0 = cc (same) in
-        opening_asked other.0 p q c d other.1 (subst (λ x. IsDoneInAudit n (unopened manner) x p c) asked one.2) other.2
-    loud_unopened p q c d (inl one) (inr other) = absurd (let no = line-one manner.notation false text (Ok one.0) (Err other.0) one.1 other.1 in cc (no))
-    loud_unopened p q c d (inr one) (inl other) = absurd (let no = line-one manner.notation false text (Err one.0) (Ok other.0) one.1 other.1 in cc (no))
-    loud_unopened p q c d (inr one) (inr other) =
-        let same = line-one manner.notation false text (Err one.0) (Err other.0) one.1 other.1 in
-        let fault : one.0 ≡ other.0 = cc (same) in
-        inl (one.2 ∙ ap line_of_fault fault ∙ sym other.2, one.3, other.3)
-
-    unopened_by_expectation : (expectation : Bool) (p q : List ℕ) (c d : Progress)
-        → MatchBool expectation (IsForScripts (unopened manner) p c) (Loud n (unopened manner) text p c)
-        → MatchBool expectation (IsForScripts (unopened manner) q d) (Loud m (unopened manner) text q d) → Opened p q c d
-    unopened_by_expectation true p q c d one other = inl (one.0 ∙ sym other.0, one.1, other.1)
-    unopened_by_expectation false p q c d one other = loud_unopened p q c d one other
-
-    unopened_by_silence : (silent : Bool) (p q : List ℕ) (c d : Progress)
-        → MatchBool silent ((p ≡ []) × (c ≡ unopened manner)) (MatchBool (expects text) (IsForScripts (unopened manner) p c) (Loud n (unopened manner) text p c))
-        → MatchBool silent ((q ≡ []) × (d ≡ unopened manner)) (MatchBool (expects text) (IsForScripts (unopened manner) q d) (Loud m (unopened manner) text q d))
-        → Opened p q c d
-    unopened_by_silence true p q c d one other = inl (one.0 ∙ sym other.0, one.1, other.1)
-    unopened_by_silence false p q c d one other = unopened_by_expectation (expects text) p q c d one other
+    unopened_alike : (p q : List ℕ) (c d : Progress) → IsAnsweredInAudit n (unopened manner) text p c
+        → IsAnsweredInAudit m (unopened manner) text q d → Opened p q c d
+    unopened_alike =
+        line_alike n m text (unopened manner) (unopened manner) Opened (λ r asks. asks)
+        (λ printed p q c d one other. inl (one.0 ∙ sym other.0, one.1, other.1)) opening_asked
 
   -- a line in front of two outputs
   after_line : (first p q xs ys : List ℕ) → p ≡ first ++ xs → q ≡ first ++ ys → DifferInOpening n m xs ys → DifferInOpening n m p q
@@ -348,7 +335,7 @@ module _ (manner : Manner) (n m : ℕ) (some : IsReaderCount n) (others : IsRead
       inl (first ∙ sym second)
   all_differ (text ∷ texts) a b p q x y closed shut one other =
       after_opening texts p q one.0 other.0 one.2 other.2 one.1 other.1 x y one.5 other.5
-      (unopened_by_silence text (is_silent text) one.0 other.0 one.1.progress other.1.progress
+      (unopened_alike text one.0 other.0 one.1.progress other.1.progress
       (subst (λ e. IsAnsweredInAudit n e text one.0 one.1.progress) closed one.3.answered)
       (subst (λ e. IsAnsweredInAudit m e text other.0 other.1.progress) shut other.3.answered)) one.4 other.4
       (λ still yet. all_differ texts one.1 other.1 one.2 other.2 x y still yet one.4 other.4)

@@ -7,7 +7,7 @@ ghost use Rattle.sd_desk.specs.declared.request.Request.TheVariants as asked;
 ghost use Rattle.sd_script_audit.specs.Audit.{AreAnsweredInAudit, IsAnsweredInAudit, IsDoneInAudit};
 ghost use Rattle.sd_script_audit.specs.Parts.{audited, machine_of, progress};
 ghost use Rattle.sd_script.specs.declared.tally.Tally.{Tally};
-ghost use Rattle.sd_store.specs.declared.query.Query.{Query as Kept};
+ghost use Rattle.sd_store.specs.declared.query.Query.{Query};
 ghost use Rattle.sd_answer.specs.Answer.{fault_line};
 ghost use Rattle.sd_script.specs.declared.asked.Asked.TheVariants.{Asking, Importing};
 
@@ -129,7 +129,7 @@ fn import<J: Naming>(
     path: &Path,
     given: &Entries,
 ) -> Result<String, AllocError>
-    ensures { (workers : ℕ) (queries : List Kept) → IfOk result (λ text. IsDoneInAudit
+    ensures { (workers : ℕ) (queries : List Query) → IfOk result (λ text. IsDoneInAudit
         workers (progress notation J.opening workers writer.old queries) (Importing edit.now path.now given.now)
         (string_bytes text)
         (progress notation J.opening workers writer.new queries)) }

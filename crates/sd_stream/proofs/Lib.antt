@@ -1,2 +1,1 @@
 mod Characters
-mod Decoding

@@ -1,35 +1,26 @@
 -- What is gone from a reader, or is in a writer, where its bytes are known.
-use Rattle.std.specs.Prelude.{◌≡◌, ℕ, ◌<◌, ◌≤◌, Bool, true, false, List, ◌++◌, length, Option, Result, Ok, Err}
+use Rattle.std.specs.Prelude.{◌≡◌, ℕ, ◌<◌, ◌≤◌, Bool, true, false, List, ◌++◌, length, Option, Result, Err}
 use Rattle.std.specs.Io.KnownBytes.{Appends, Consumes}
 use Rattle.sd_stream.specs.declared.error.RunError.{RunError}
-use Rattle.sd_stream.specs.declared.error.RunError.TheVariants.{Read, TooLong, Write, Memory, Thread}
+use Rattle.sd_stream.specs.declared.error.RunError.TheVariants.{Read, TooLong, Write, Memory}
 use Rattle.sd_stream.specs.declared.input.TheConstants.{MAX_INPUT_BYTES}
 
 -- the answer is that the reader failed
 abbrev pub is_read_error : {T : Type 0} → Result T RunError → Bool
-is_read_error (Ok x) = false
 is_read_error (Err Read) = true
-is_read_error (Err TooLong) = false
-is_read_error (Err Write) = false
-is_read_error (Err Memory) = false
-is_read_error (Err Thread) = false
+is_read_error answer = false
 
 -- the answer is that the writer failed
 abbrev pub is_write_error : {T : Type 0} → Result T RunError → Bool
-is_write_error (Ok x) = false
-is_write_error (Err Read) = false
-is_write_error (Err TooLong) = false
 is_write_error (Err Write) = true
-is_write_error (Err Memory) = false
-is_write_error (Err Thread) = false
+is_write_error answer = false
 
 -- how many bytes were read before each error. A reading never answers Write or Thread
 abbrev pub FitsError : RunError → ℕ → Type 0
 FitsError Read count = count ≤ MAX_INPUT_BYTES
 FitsError TooLong count = MAX_INPUT_BYTES < count
-FitsError Write count = ⊥
 FitsError Memory count = count ≤ MAX_INPUT_BYTES
-FitsError Thread count = ⊥
+FitsError error count = ⊥
 
 -- known bytes lost a prefix, whose length fits the error
 pub record ReadsPart (old new : Option (List ℕ)) (error : RunError) : Type 0 where

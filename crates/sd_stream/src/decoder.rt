@@ -17,28 +17,20 @@ enum Coding {
 }
 
 impl Coding {
-    /// How an input with these first bytes is encoded, and the bytes after its mark (RFC 2781, section 3.2).
-    fn of(bytes: &[u8]) -> (Coding, &[u8])
-        ensures text { (more : List ℕ) → decoded (bytes.now ++ more) ≡ text_by result.0 (result.1.now ++ more) }
+    /// How an input is encoded that is left with these bytes, and those after its mark (RFC 2781, section 3.2).
+    fn settled(self, bytes: &[u8]) -> (Coding, &[u8])
+        ensures text { (more : List ℕ) → text_by self (bytes.now ++ more) ≡ text_by result.0 (result.1.now ++ more) }
         ensures unknown { result.0 ≡ Unknown → IsPartOfMark result.1.now }
     {
+        let Coding::Unknown = self else {
+            return (self, bytes);
+        };
         match bytes {
             [0xff, 0xfe, text @ ..] => (Coding::Utf16(ByteOrder::Little), text),
             [0xfe, 0xff, text @ ..] => (Coding::Utf16(ByteOrder::Big), text),
             [0xef, 0xbb, 0xbf, text @ ..] => (Coding::Utf8, text),
             [] | [0xff] | [0xfe] | [0xef] | [0xef, 0xbb] => (Coding::Unknown, bytes),
             _ => (Coding::Utf8, bytes),
-        }
-    }
-
-    /// The same where it may be known already.
-    fn settled(self, bytes: &[u8]) -> (Coding, &[u8])
-        ensures text { (more : List ℕ) → text_by self (bytes.now ++ more) ≡ text_by result.0 (result.1.now ++ more) }
-        ensures unknown { result.0 ≡ Unknown → IsPartOfMark result.1.now }
-    {
-        match self {
-            Coding::Unknown => Coding::of(bytes),
-            known => (known, bytes),
         }
     }
 

@@ -1,4 +1,4 @@
-use Rattle.std.proofs.Common.{◌≡◌, ℕ, List, Option, refl, sym, ◌∙◌, ap}
+use Rattle.std.proofs.Common.{◌≡◌, ℕ, List, Option, refl, sym, ◌∙◌}
 use Rattle.sd_json.specs.Lines.{first_of, fits, row_of, words_of}
 use Rattle.sd_json.specs.declared.table.TheConstants.{ROWS}
 use Rattle.sd_json.proofs.line.row_of.Goals as goal
@@ -12,4 +12,4 @@ is_row_of line = refl
 
 pub returns : goal.returns
 unfolding row_by
-returns c = c.first_fit.ensures ∙ sym (is_row_of c.args.line.now ∙ ap row_by c.first_word.ensures.words)
+returns c = c.first_fit.ensures ∙ sym (is_row_of c.args.line.now)

@@ -6,7 +6,7 @@ use Rattle.sd_json.proofs.members.+push_members.Goals as goal
 
 pub returns-then-is_rest : goal.returns-then-is_rest
 returns-then-is_rest t c =
-    let is = rest_member c.args.template.now c.args.line.now _ _ c.first_word.ensures.words (sym c.is_rest.ensures ∙ c.if-is_rest.true) in
+    let is = rest_member c.args.template.now c.args.line.now _ _ _ _ c.first_word.ensures.words c.first_word-2.ensures.words (sym c.is_rest.ensures ∙ c.if-is_rest.true) in
     on_ok_weaker c.push_words.result (λ said. said ∙ ap (λ m. c.args.out.now.items ++ m) (sym is)) (rw (take_rest c.first_word.result.0.now 1) at c.push_words.ensures)
 
 pub returns-in_default : goal.returns-in_default

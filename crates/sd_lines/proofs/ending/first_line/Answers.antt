@@ -1,16 +1,21 @@
-use Rattle.std.proofs.Common.{length, ◌∙◌, ap, arith}
-use Rattle.std.proofs.lemmas.List.{drop_all, take_rest}
+use Rattle.std.proofs.Common.{◌≡◌, ◌<◌, ◌++◌, [], length, sym, ◌∙◌, ap, append-nil, arith}
+use Rattle.std.proofs.lemmas.Bool.Decides.{nat_tests}
+use Rattle.std.proofs.lemmas.List.{nil_from_length, take_rest}
 use Rattle.sd_lines.specs.Lines.{lines_in}
 use Rattle.sd_lines.proofs.Cutting.{lines_cut, lines_last, no_lines}
 use Rattle.sd_lines.proofs.ending.first_line.Goals as goal
 
-pub returns-in-Some-clause-lines : goal.returns-in-Some-clause-lines
-returns-in-Some-clause-lines c =
-    let found = c.in-Some.ensures.some in
-    rw (c.line.ensures) (ap (lines_in c.args.ending) found.0 ∙ lines_cut c.args.ending c.in-Some.part.now c.in-Some.after.now found.1)
+pub returns-then-is_empty-clause-lines : goal.returns-then-is_empty-clause-lines
+returns-then-is_empty-clause-lines c =
+    let s = c.split.ensures in
+    let nothing : c.split.result.1.now ≡ [] = nil_from_length _ (let test = sym c.is_empty.ensures ∙ c.if-is_empty.true in grind (arith, nat_tests)) in
+    let whole : c.args.text.now ≡ c.split.result.0.now = s.parts ∙ ap (λ l. c.split.result.0.now ++ l) nothing ∙ append-nil _ in
+    rw (nothing, no_lines c.args.ending)
+    (ap (lines_in c.args.ending) whole ∙ lines_last c.args.ending _ s.none (rw whole at c.requires))
 
-pub returns-in-None-clause-lines : goal.returns-in-None-clause-lines
-returns-in-None-clause-lines c =
-    let text = c.args.text.now in
-    rw (take_rest text (length text), drop_all (length text) text (omega arith), no_lines c.args.ending)
-    (lines_last c.args.ending text c.in-None.ensures.none c.requires)
+pub returns-else-is_empty-clause-lines : goal.returns-else-is_empty-clause-lines
+returns-else-is_empty-clause-lines c =
+    let s = c.split.ensures in
+    let some : 0 < length c.split.result.1.now = let test = sym c.is_empty.ensures ∙ c.if-is_empty.false in grind (arith, nat_tests) in
+    rw (take_rest c.split.result.1.now 1, c.line.ensures)
+    (ap (lines_in c.args.ending) (s.parts ∙ ap (λ l. c.split.result.0.now ++ l) (s.end some)) ∙ lines_cut c.args.ending _ _ s.none)

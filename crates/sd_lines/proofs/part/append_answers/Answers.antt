@@ -1,57 +1,38 @@
-use Rattle.std.proofs.Common.{◌≡◌, ◌++◌, ◌∷◌, [], false, refl, sym, ◌∙◌, ap, append_assoc, append-nil}
-use Rattle.std.proofs.lemmas.List.Elements.{All-append}
-use Rattle.sd_lines.specs.Answers.{of_form}
-use Rattle.sd_lines.specs.Lines.{HasNoEnd, end_byte}
-use Rattle.sd_lines.proofs.Cutting.{ends}
-use Rattle.sd_lines.proofs.Parts.{long_line, stops_is}
-use Rattle.sd_lines.proofs.Steps.{takes_line, takes_none, takes_on}
+use Rattle.std.proofs.Common.{◌≡◌, ◌<◌, ◌++◌, ◌∷◌, [], false, length, append_assoc, sym, ◌∙◌, ap, arith}
+use Rattle.std.proofs.lemmas.Bool.Decides.{nat_tests}
+use Rattle.std.proofs.lemmas.List.{take_rest}
+use Rattle.sd_lines.specs.Lines.{end_byte}
+use Rattle.sd_lines.specs.Steps.{ends_run}
+use Rattle.sd_lines.proofs.Steps.{line_answered, part_kept}
 use Rattle.sd_lines.proofs.part.append_answers.Goals as goal
 
-pub returns-in_default-clause-ok : goal.returns-in_default-clause-ok
-returns-in_default-clause-ok g c begun holds none = (
-  begun ++ c.args.part.now,
-  c.in_ok-grow.ensures begun holds,
-  takes_none (of_form c.args.form (g.A.AnswersLines.answers c.args.answers.now)) c.args.form.ending (HasNoEnd c.args.form.ending)
-      (λ printed. c.args.text.now.items ≡ c.args.text.now.items ++ printed) c.args.state.now (begun ++ c.args.part.now)
-      (All-append (λ b. ends c.args.form.ending b ≡ false) begun c.args.part.now none c.in_default.ensures.none)
-      (sym (append-nil c.args.text.now.items)),
-)
-
-pub returns-then-stops-clause-err : goal.returns-then-stops-clause-err
-returns-then-stops-clause-err g c =
-    let is = sym c.stops.ensures ∙ c.if-stops.true in (
-      (stops_is c.args.form c.grow-2.new.self is),
-      λ begun holds none. (
-        begun ++ c.in-Some.before.now,
-        end_byte c.args.form.ending ∷ c.in-Some.after.now,
-        ap (λ l. begun ++ l) c.in-Some.ensures.some.0 ∙ sym (append_assoc begun c.in-Some.before.now _),
-        All-append (λ b. ends c.args.form.ending b ≡ false) begun c.in-Some.before.now none c.in-Some.ensures.some.1,
-        long_line c.args.form c.grow-2.new.self _ is (c.in_ok-grow-2.ensures begun holds),
-      ),
+pub returns-then-is_empty-clause-takes : goal.returns-then-is_empty-clause-takes
+returns-then-is_empty-clause-takes g c =
+    let before = c.lines.invariant in
+    let part = c.split.result.0.now in (
+      before.taken ++ part,
+      before.parts ∙ ap (λ l. before.taken ++ l) c.split.ensures.parts ∙ sym (append_assoc before.taken part _),
+      λ now old start text a.
+          rw (← append_assoc text before.taken part)
+          (part_kept (before.continues now old start text a) part _ c.split.ensures.none c.in_ok-keep.ensures),
     )
 
-pub returns-clause-ok : goal.returns-clause-ok
-returns-clause-ok g c begun holds none =
-    let Next = of_form c.args.form (g.A.AnswersLines.answers c.args.answers.now) in
-    let ending = c.args.form.ending in
-    let found = c.in-Some.ensures.some in
-    let line = begun ++ c.in-Some.before.now in
-    let after = c.in-Some.after.now in
-    let unended : HasNoEnd ending line = All-append (λ b. ends ending b ≡ false) begun c.in-Some.before.now none found.1 in
-    let said = c.in_ok-answer.ensures in
-    let asked = c.line.ensures line (c.in_ok-grow-2.ensures begun holds) in
-    let rest = c.in_ok-left.ensures in
-    let text = c.args.text.now.items in
-    let parts : begun ++ c.args.part.now ≡ line ++ end_byte ending ∷ after =
-    ap (λ l. begun ++ l) found.0 ∙ sym (append_assoc begun c.in-Some.before.now (end_byte ending ∷ after)) in (
-      c.in_ok-left.left.now,
-      c.in_ok-grow-3.ensures [] (c.end.ensures.holds c.args.form),
-      rw parts
-          (takes_on Next ending (λ left. left ≡ left) (HasNoEnd ending) (λ printed. c.answer.new.text.items ≡ text ++ printed) _ (λ printed. c.answer_ended.new.printed.items ≡ text ++ printed)
-          c.args.state.now c.answer.new.state c.answer_ended.new.state
-          (line ++ end_byte ending ∷ after) after c.in_ok-left.left.now
-          (takes_line Next ending (λ left. left ≡ left) (λ printed. c.answer.new.text.items ≡ text ++ printed) c.args.state.now c.answer.new.state
-          line after said.0 unended (rw asked at said.2) refl said.1)
-          rest
-          (λ one two first second. second ∙ ap (λ l. l ++ two) first ∙ append_assoc text one two)),
-    )
+pub lines-preserved : goal.lines-preserved
+lines-preserved g c =
+    let before = c.lines.invariant in
+    let part = c.split.result.0.now in
+    let end = end_byte c.args.form.ending in
+    let left = c.split.result.1.now in
+    let some : 0 < length left = let test = sym c.is_empty.ensures ∙ c.if-is_empty.false in grind (arith, nat_tests) in
+    let goes_on : ends_run c.args.form c.keep.new.line.items ≡ false =
+    rw (c.deref.ensures.value) at (sym c.ends_run.ensures ∙ c.if-ends_run.false) in
+    let answered = c.in_ok-answer.ensures in
+    let asked = rw (c.asked.ensures, c.line.ensures, c.deref-in-lines.ensures.value) at answered.2 in record {
+      taken = before.taken ++ (part ++ end ∷ []);
+      parts =
+          rw (take_rest left 1, append_assoc before.taken (part ++ end ∷ []) _, append_assoc part (end ∷ []) _)
+          (before.parts ∙ ap (λ l. before.taken ++ l) (c.split.ensures.parts ∙ ap (λ l. part ++ l) (c.split.ensures.end some)));
+      continues = λ now old start text a.
+          rw (answered.1, c.clear.ensures.items, ← append_assoc text before.taken (part ++ end ∷ []), ← append_assoc (text ++ before.taken) part (end ∷ []))
+          (line_answered (before.continues now old start text a) part _ answered.0 _ c.split.ensures.none c.in_ok-keep.ensures goes_on asked);
+    }

@@ -1,17 +1,21 @@
--- The lines that ended in what was read are answered, and neither stream has failed.
-use Rattle.std.proofs.Common.{◌≡◌, []}
+use Rattle.std.proofs.Common.{◌≡◌, false, ℕ, List, [], ◌++◌}
+use Rattle.std.specs.Io.KnownBytes.{Consumes}
+use Rattle.sd_stream.specs.Decoder.{text_after}
 use Rattle.sd_stream.specs.Watched.{inner_of, has_failed}
-use Rattle.sd_lines.specs.Steps.{goes_on}
-use Rattle.sd_lines.proofs.Ends.{Stands}
+use Rattle.sd_lines.specs.Lines.{HasNoEnd, text_of}
+use Rattle.sd_lines.specs.Steps.{Answered, ends_run}
 use Rattle.sd_lines.proofs.streams.answer_lines.Given as goal
 
 abbrev pub invariant-loop : goal.invariant-loop
 invariant-loop g l = record {
-  stands : Stands l.form (g.A.AnswersLines.answers l.answers) l.initial.state
-      (g.R.Read.remaining (inner_of l.initial.reader)) (g.W.Write.contents (inner_of l.initial.writer))
-      l.state l.line l.decoder (g.R.Read.remaining (inner_of l.reader)) (g.W.Write.contents (inner_of l.writer));
-  none : l.text.items ≡ [];
-  goes_on : goes_on l.form l.line;
-  read : has_failed l.reader ≡ has_failed l.initial.reader;
-  written : has_failed l.writer ≡ has_failed l.initial.writer;
+  read : List ℕ;
+  text : List ℕ;
+  consumed : Consumes (g.R.Read.remaining (inner_of l.initial.reader)) (g.R.Read.remaining (inner_of l.reader)) read;
+  decodes : (more : List ℕ) → text_of l.form (read ++ more) ≡ text ++ text_after l.decoder more;
+  held : HasNoEnd l.form.ending (text_after l.decoder []);
+  answered : Answered l.form (g.A.AnswersLines.answers l.answers) l.initial.state (g.W.Write.contents (inner_of l.initial.writer))
+      text l.state l.line.items [] (g.W.Write.contents (inner_of l.writer));
+  goes_on : ends_run l.form l.line.items ≡ false;
+  reads : has_failed l.reader ≡ has_failed l.initial.reader;
+  writes : has_failed l.writer ≡ has_failed l.initial.writer;
 }

@@ -1,29 +1,27 @@
-use Rattle.std.proofs.Common.{◌≡◌, ◌<◌, ◌++◌, [], length, sym, ◌∙◌, ap, append_assoc, append-nil, arith}
+use Rattle.std.proofs.Common.{◌≡◌, ◌++◌, [], refl, sym, ◌∙◌, ap, append_assoc, append-nil, arith}
 use Rattle.std.proofs.lemmas.Bool.Decides.{nat_tests}
 use Rattle.std.proofs.lemmas.List.{nil_from_length}
-use Rattle.std.proofs.lemmas.Result.{on_ok_weaker}
-use Rattle.sd_lines.specs.Answers.{of_form}
-use Rattle.sd_lines.proofs.Steps.{all_answered, no_last, one_last}
+use Rattle.sd_lines.proofs.Cutting.{no_lines}
 use Rattle.sd_lines.proofs.text.answer_text.Goals as goal
 
-pub returns-then-is_empty : goal.returns-then-is_empty
-returns-then-is_empty g c =
-    let Next = of_form c.args.form (g.A.AnswersLines.answers c.args.answers.now) in
-    let t = c.in_ok-last.ensures in
-    let none : c.in_ok-last.last.now ≡ [] = nil_from_length _ (let test = sym c.is_empty.ensures ∙ c.if-is_empty.true in grind (arith, nat_tests)) in (
-      t.printed ++ [],
-      t.wrote ∙ ap (λ l. c.args.printed.now.items ++ l) (sym (append-nil t.printed)),
-      all_answered Next c.args.form.ending _ _ _ _ _ _ _ [] t (no_last Next c.args.form.ending _ _ none),
-    )
+pub loop-rest-preserved : goal.loop-rest-preserved
+loop-rest-preserved g c =
+    let before = c.loop-rest.invariant in
+    let answered = c.in_ok-answer.ensures in
+    record {
+      added = before.added ++ answered.0;
+      printed = answered.1 ∙ ap (λ l. l ++ answered.0) before.printed ∙ append_assoc _ before.added answered.0;
+      advances = λ back last after.
+          rw (append_assoc before.added answered.0 back)
+          (before.advances (answered.0 ++ back) last
+          (rw c.first_line.ensures.lines (answered.0, c.answer.new.state, back, rw c.asked.ensures at answered.2, after, refl)));
+    }
 
 pub returns : goal.returns
 returns g c =
-    let Next = of_form c.args.form (g.A.AnswersLines.answers c.args.answers.now) in
-    let t = c.in_ok-last.ensures in
-    let some : 0 < length c.in_ok-last.last.now = let test = sym c.is_empty.ensures ∙ c.if-is_empty.false in grind (arith, nat_tests) in
-    on_ok_weaker c.answer.result (λ said. (
-      t.printed ++ said.0,
-      said.1 ∙ ap (λ l. l ++ said.0) t.wrote ∙ append_assoc _ t.printed said.0,
-      all_answered Next c.args.form.ending _ _ _ _ _ _ _ said.0 t
-          (one_last Next c.args.form.ending _ _ _ said.0 t.rest some (rw c.asked.ensures at said.2)),
-    )) c.answer.ensures
+    let done = c.loop-rest.invariant in
+    let none : c.loop-rest.rest.now ≡ [] = nil_from_length _ (let test = sym c.is_empty.ensures ∙ c.loop-rest-test.false in grind (arith, nat_tests)) in (
+      done.added,
+      done.printed,
+      rw (append-nil done.added) at (done.advances [] c.loop-rest.state (rw (none, no_lines c.args.form.ending) (refl, refl))),
+    )

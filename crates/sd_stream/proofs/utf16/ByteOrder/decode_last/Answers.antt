@@ -1,7 +1,13 @@
-use Rattle.std.proofs.Common.{◌≡◌, [], ◌++◌, append_assoc, append-nil}
+use Rattle.std.proofs.Common.{◌≡◌, ℕ, cond, List, [], ◌++◌, Result, Ok, Err, OnOk, ◌∙◌, append_assoc, append-nil}
+use Rattle.std.specs.Prelude.{is_ok}
 use Rattle.sd_stream.specs.Utf16.{utf16_text}
-use Rattle.sd_stream.proofs.Decoding.{ok_appended}
 use Rattle.sd_stream.proofs.utf16.ByteOrder.decode_last.Goals as goal
+
+-- what was appended, where memory served
+ok_appended : {T E : Type 0} (r : Result T E) (new old more whole : List ℕ)
+    → new ≡ cond (is_ok r) (old ++ more) old → old ++ more ≡ whole → OnOk r (new ≡ whole)
+ok_appended (Ok x) new old more whole is all = is ∙ all
+ok_appended (Err e) new old more whole is all = tt
 
 pub returns : goal.returns
 returns c =
