@@ -10,10 +10,10 @@ use sd_script::Tally;
 use std::alloc::{AllocError, Global};
 
 /// What came of a script: whether it did what was asked for, that is each answer that it expected was given, and where
-/// that is asked for no line had a fault, was refused or imported another node. Standard error is told of the byte order
-/// mark that it begins with; of the first line whose node inherits otherwise than it did, and the first whose node's own
-/// entries were put in order; where that is asked for, of the first fault or refusal; and how many answers were
-/// expected, and weren't given. Of nothing, if out of memory for it: the output stands by then.
+/// that is asked for no line had a fault, was refused or imported another node. Standard error is told of the byte
+/// order mark that it begins with; of the first line whose node inherits otherwise than it did, and the first whose
+/// node's own entries were put in order; where that is asked for, of the first fault or refusal; and how many answers
+/// were expected, and weren't given. Of nothing, if out of memory for it: the output stands by then.
 #[tactic(auto, unfolding(crate::specs::Scripts::script_outcome))]
 pub(crate) fn end_of_script(alloc: Global, strict: bool, tally: &Tally) -> Ended
     ensures told { IsToldOfScript strict tally.now (string_bytes result.told) }
