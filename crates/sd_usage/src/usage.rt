@@ -13,14 +13,13 @@ const WITHOUT_CLAP: &str = "";
 
 /// The help on a command, or on the program, in ASCII. The only error is out of memory.
 pub fn help(alloc: Global, command: Option<CommandName>) -> Result<String, AllocError> {
-    if let Some(name) = command {
-        for row in command_rows() {
-            if row.1.name == name {
-                return command_help(alloc, row);
-            }
-        }
+    match command_rows()
+        .iter()
+        .find(|row| Some(row.1.name) == command)
+    {
+        Some(row) => command_help(alloc, row),
+        None => program_help(alloc),
     }
-    program_help(alloc)
 }
 
 fn program_help(alloc: Global) -> Result<String, AllocError> {
