@@ -1,7 +1,8 @@
 -- The proofs of the laws.
-use Rattle.std.proofs.Common.{◌≡◌, ◌≤◌, ◌∙◌, ◌+◌, ℕ, suc, List, [], ◌∷◌, length, Bool, true, false, Option, Some, None, Result, Ok, Err, ap, codes, refl, subst, sym, arith}
-use Rattle.std.proofs.lemmas.Bool.{eq-eqb, le-leb, ne_eqb}
-use Rattle.std.specs.Prelude.{is_some, if◌then◌else◌, ok_or}
+use Rattle.std.proofs.Common.{◌≡◌, ◌∙◌, ◌+◌, ◌-◌, ℕ, suc, List, [], ◌∷◌, length, Bool, true, false, Option, Some, None, Result, Ok, Err, ap, codes, refl, subst, sym, arith}
+use Rattle.std.proofs.lemmas.Bool.{le-leb}
+use Rattle.std.specs.Prelude.{IfOk, is_some, if◌then◌else◌, ok_or, slice_get}
+use Rattle.std.specs.Option.{option_map_or}
 use Rattle.std.specs.Result.{result_ok}
 use Rattle.std.specs.Borrow.{Bor}
 use Rattle.sd_usage.specs.Table.{command_named, count_of, flag_named, option_named, takes_count, takes_option}
@@ -12,92 +13,70 @@ use Rattle.sd_usage.specs.declared.row.Command.{Command}
 use Rattle.sd_usage.specs.declared.row.Flag.{Flag}
 use Rattle.sd_usage.specs.declared.row.TextCommand.{TextCommand}
 use Rattle.sd_usage.specs.declared.row.TextCommand.TheVariants as questions
-use Rattle.sd_command_line.specs.CommandLine.{AskedValue, CallValue, CommandLineValue, InvocationValue, RequestValue, Ask, AskInput, Audit, Each, Help, Script, Serve, Version, after_options, asked_by, asks, call_in, call_with, command_in, miscounted, no_command, reading, request_after, request_by, request_on, text_request, with_options, workers_of}
-use Rattle.sd_command_line.specs.Laws.{is_shown, shows, EachAsksTheCommand, InputAsksTheCommand, HelpStandsAlone, DashesKeepTexts, DashesKeepTextsOfWhy, OptionsKeepTexts}
-use Rattle.sd_command_line.specs.Flags.{flags_in, is_given, lines_by, no_flags, with_flag}
-use Rattle.sd_command_line.specs.Mistake.{map_read, then_read, word_at}
-use Rattle.sd_command_line.specs.declared.flags.Lines.{Lines}
+use Rattle.sd_command_line.specs.CommandLine.{AskedValue, CallValue, CommandLineValue, InvocationValue, RequestValue, Ask, AskInput, Each, after_options, asked_by, asking, asks, call_in, call_with, command_in, miscounted, no_command, reading, request_after, request_by, request_on, run_by, with_options, workers_of}
+use Rattle.sd_command_line.specs.Laws.{is_shown, shows, EachAsksTheCommand, InputAsksTheCommand, HelpStandsAlone, DashesKeepTexts, OptionsKeepTexts}
+use Rattle.sd_command_line.specs.Flags.{flags_in, is_given, no_flags, with_flag}
+use Rattle.sd_command_line.specs.Mistake.{map_read, then_read, unless, word_at}
 use Rattle.sd_command_line.specs.declared.mistake.Mistake.{Mistake}
 use Rattle.sd_command_line.specs.Options.{OptionsValue, is_from_input, misplaced_in, no_options, options_in, with_value}
 
-abbrev some_shown : Result AskedValue Mistake → Bool
-some_shown (Err mistake) = false
-some_shown (Ok asked) = is_shown asked.invocation
+-- ---- help stands alone
 
-abbrev line_shown : Result CommandLineValue Mistake → Bool
-line_shown read = shows (result_ok read)
+-- what holds of all that is read holds of what follows from it, or there is a mistake
+map_ok : {T U : Type 0} (P : U → Type 0) (value : T → U) (read : Result T Mistake)
+    → ((x : T) → P (value x)) → IfOk (map_read value read) P
+map_ok P value (Err mistake) holds = tt
+map_ok P value (Ok x) holds = holds x
 
--- where a test decides whether something is asked for, it is no help if that isn't
-tested_runs : (test : Bool) (asked : Result AskedValue Mistake) (mistake : Mistake) → (some_shown asked ≡ true → ⊥)
-    → some_shown (if test then asked else Err mistake) ≡ true → ⊥
-tested_runs true asked mistake none h = none h
-tested_runs false asked mistake none h = cc
+then_ok : {T U : Type 0} (P : U → Type 0) (next : T → Result U Mistake) (read : Result T Mistake)
+    → ((x : T) → read ≡ Ok x → IfOk (next x) P) → IfOk (then_read next read) P
+then_ok P next (Err mistake) holds = tt
+then_ok P next (Ok x) holds = holds x refl
 
--- what is asked of a text is neither help nor the version
-text_runs : (Invoked : RequestValue → InvocationValue) (call : CallValue) (request : Result RequestValue Mistake)
-    → ((given : RequestValue) → is_shown (Invoked given) ≡ true → ⊥)
-    → some_shown (map_read (λ (given : RequestValue). asks call (Invoked given)) request) ≡ true → ⊥
-text_runs Invoked call (Err mistake) runs h = cc
-text_runs Invoked call (Ok request) runs h = runs request h
+-- what is asked for is neither help nor the version
+abbrev Runs : AskedValue → Type 0
+Runs asked = is_shown asked.invocation ≡ false
 
-input_runs : (call : CallValue) → some_shown (text_request AskInput call) ≡ true → ⊥
-input_runs call h = text_runs AskInput call (request_after call.command.name call) (λ given shown. cc (shown)) h
-
-line_runs : (lines : Lines) (call : CallValue) → some_shown (text_request (Each lines) call) ≡ true → ⊥
-line_runs lines call h = text_runs (Each lines) call (request_after call.command.name call) (λ given shown. cc (shown)) h
-
--- nor is what a command asks for, where one is named
-called_runs : (call : Result CallValue Mistake) (asked : CallValue → Result AskedValue Mistake)
-    → ((call : CallValue) → some_shown (asked call) ≡ true → ⊥)
-    → some_shown (then_read asked call) ≡ true → ⊥
-called_runs (Err mistake) asked runs h = cc
-called_runs (Ok call) asked runs h = runs call h
-
--- nor is an audit, whatever its number
-audit_runs : (call : CallValue) (workers : Option ℕ) (mistake : Mistake)
-    → some_shown (map_read (λ n. asks call (Audit n)) (ok_or workers mistake)) ≡ true → ⊥
-audit_runs call (Some n) mistake h = cc
-audit_runs call None mistake h = cc
-
--- nor another command
 request_runs : (name : CommandName) (call : CallValue) (arguments : List (Bor (List ℕ)))
-    → some_shown (request_by name call arguments) ≡ true → ⊥
-request_runs (names.Ask question) call [] h = cc
-request_runs (names.Ask question) call (text ∷ arguments) h = cc
-request_runs names.Script call arguments h = cc
-request_runs names.Serve call arguments h = cc
-request_runs names.Audit call [] h = cc
-request_runs names.Audit call (workers ∷ arguments) h = audit_runs call (workers_of workers.now) _ h
-request_runs names.Each call arguments h =
-    called_runs (call_in arguments) (text_request (Each (lines_by call.given))) (line_runs (lines_by call.given)) h
+    → IfOk (request_by name call arguments) Runs
+request_runs (names.Ask question) call [] = tt
+request_runs (names.Ask question) call (text ∷ arguments) = refl
+request_runs names.Script call arguments = refl
+request_runs names.Serve call arguments = refl
+request_runs names.Audit call [] = tt
+request_runs names.Audit call (workers ∷ arguments) = map_ok Runs _ (ok_or (workers_of workers.now) _) (λ n. refl)
+request_runs names.Each call arguments = then_ok Runs _ (call_in arguments)
+    (λ called is. map_ok Runs _ (request_after called.command.name called) (λ request. refl))
 
-asked_runs : (from_input : Bool) (call : CallValue) → some_shown (asked_by from_input call) ≡ true → ⊥
-asked_runs true call h = input_runs call h
-asked_runs false call h =
-    tested_runs (takes_count call.command (length call.arguments)) (request_by call.command.name call call.arguments) _
-    (request_runs call.command.name call call.arguments) h
+asked_runs : (from_input : Bool) (call : CallValue) → IfOk (asked_by from_input call) Runs
+asked_runs true call = map_ok Runs _ (request_after call.command.name call) (λ request. refl)
+asked_runs false call = by_count (takes_count call.command (length call.arguments)) where
+  by_count : (takes : Bool)
+      → IfOk (if takes then request_by call.command.name call call.arguments else Err (miscounted call (length call.arguments))) Runs
+  by_count true = request_runs call.command.name call call.arguments
+  by_count false = tt
 
-command_runs : (from_input : Bool) (words : List (Bor (List ℕ))) → some_shown (command_in from_input words) ≡ true → ⊥
-command_runs from_input words h = called_runs (call_in words) (asked_by from_input) (asked_runs from_input) h
+line_runs : (found : Option Mistake) (line : CommandLineValue) → is_shown line.invocation ≡ false
+    → IfOk (unless found line) (λ read. is_shown read.invocation ≡ false)
+line_runs None line is = is
+line_runs (Some mistake) line is = tt
 
--- nor is what follows options
-shown_or_not : (asked : Result AskedValue Mistake) (options : OptionsValue) (words : List (Bor (List ℕ)))
-    → (some_shown asked ≡ true → ⊥) → line_shown (then_read (with_options options words) asked) ≡ true → ⊥
-shown_or_not (Err mistake) options words none h = cc
-shown_or_not (Ok asked) options words none h = by_test (misplaced_in (word_at words asked.named) asked.named options words) h where
-  by_test : (test : Option Mistake)
-      → line_shown (elim test [
-        | Some mistake ↦ Err mistake
-        | None ↦ Ok (record { options = options; invocation = asked.invocation })
-      ]) ≡ true → ⊥
-  by_test None h = none h
-  by_test (Some mistake) h = cc
+-- what follows the program's name is neither, where options or a command begin it
+asked_by_runs : (from_input : Bool) (words : List (Bor (List ℕ))) → IfOk (command_in from_input words) Runs
+asked_by_runs from_input words = then_ok Runs (asked_by from_input) (call_in words) (λ call is. asked_runs from_input call)
 
-options_run : (words : List (Bor (List ℕ))) (read : Result (OptionsValue × List (Bor (List ℕ))) Mistake)
-    → line_shown (then_read (after_options words) read) ≡ true → ⊥
-options_run words (Err mistake) h = cc
-options_run words (Ok (options, rest)) h =
-    shown_or_not (command_in (is_from_input options) rest) options words (command_runs (is_from_input options) rest) h
+run_by_runs : (words : List (Bor (List ℕ))) → IfOk (run_by words) (λ line. is_shown line.invocation ≡ false)
+run_by_runs words = then_ok _ (after_options words) (options_in no_options words) after where
+  after : (read : OptionsValue × List (Bor (List ℕ))) → options_in no_options words ≡ Ok read
+      → IfOk (after_options words read) (λ line. is_shown line.invocation ≡ false)
+  after (options, rest) is = then_ok _ (with_options options words) (command_in (is_from_input options) rest) (λ asked from.
+      line_runs (misplaced_in (word_at words asked.named) asked.named options words) (asking options asked.invocation)
+      (subst (λ (read : Result AskedValue Mistake). IfOk read Runs) from (asked_by_runs (is_from_input options) rest)))
+
+not_shown : (read : Result CommandLineValue Mistake) → IfOk read (λ line. is_shown line.invocation ≡ false)
+    → shows (result_ok read) ≡ true → ⊥
+not_shown (Err mistake) runs h = cc
+not_shown (Ok line) runs h = cc
 
 pub help_stands_alone : HelpStandsAlone
 help_stands_alone [] h = omega arith
@@ -105,7 +84,7 @@ help_stands_alone (name ∷ []) h = omega arith
 help_stands_alone (name ∷ word ∷ []) h = omega arith
 help_stands_alone (name ∷ word ∷ next ∷ []) h = omega arith
 help_stands_alone (name ∷ word ∷ next ∷ other ∷ words) h =
-    absurd (options_run (word ∷ next ∷ other ∷ words) (options_in no_options (word ∷ next ∷ other ∷ words)) h)
+    absurd (not_shown (run_by (word ∷ next ∷ other ∷ words)) (run_by_runs (word ∷ next ∷ other ∷ words)) h)
 
 -- ---- texts after dashes
 
@@ -142,15 +121,6 @@ asked_of_three : (question : TextCommand) (command : Command) (call : CallValue)
     ≡ Ok (asks call (Ask sddl.now (record { question = question; arguments = arguments })))
 asked_of_three question command call sddl arguments is = rw is refl
 
-goes_before : (call : CallValue) (options : OptionsValue) (all : List (Bor (List ℕ))) (invocation : InvocationValue)
-    → misplaced_in (word_at all call.named) call.named options all ≡ None
-    → with_options options all (asks call invocation) ≡ Ok (record { options = options; invocation = invocation })
-goes_before call options all invocation fits =
-    subst (λ (found : Option Mistake). ◌≡◌ {A = Result CommandLineValue Mistake} (elim found [
-      | Some wrong ↦ Err wrong
-      | None ↦ Ok (record { options = options; invocation = invocation })
-    ]) (Ok (record { options = options; invocation = invocation }))) (sym fits) refl
-
 -- a command with a descriptor, a user, a mask and words, after options that it takes
 keeps : (question : TextCommand) (command : Command) (options : OptionsValue) (found : Option Command) (mistake : Mistake)
     (all : List (Bor (List ℕ))) (named : ℕ) (dashes sddl user mask : Bor (List ℕ)) (words : List (Bor (List ℕ)))
@@ -169,24 +139,15 @@ keeps question command options found mistake all named dashes sddl user mask wor
     ∙ ap (asked_by false) (after_dashes command named dashes (sddl ∷ user ∷ mask ∷ words) plain dash)
     ∙ taken command named (sddl ∷ user ∷ mask ∷ words) (three_or_more command sddl user mask words count more)
     ∙ asked_of_three question command call sddl (user ∷ mask ∷ words) asked)
-    ∙ goes_before call options all (Ask sddl.now (record { question = question; arguments = user ∷ mask ∷ words })) fits)
+    ∙ ap (λ found. unless found (asking options (Ask sddl.now (record { question = question; arguments = user ∷ mask ∷ words })))) fits)
 
 -- the command's name is that of the argument from which on there are so many
-word_here : (word : Bor (List ℕ)) (words : List (Bor (List ℕ))) → word_at (word ∷ words) (length (word ∷ words)) ≡ word.now
-word_here word words = rw (eq-eqb (length (word ∷ words)) (length (word ∷ words)) refl) refl
-
-word_after : (other : Bor (List ℕ)) (words : List (Bor (List ℕ))) (left : ℕ) → left ≤ length words
-    → word_at (other ∷ words) left ≡ word_at words left
-word_after other words left within =
-    rw (ne_eqb (length (other ∷ words)) left (λ same. omega (arith, within, same))) refl
-
 after_three : (option domain sid word : Bor (List ℕ)) (rest : List (Bor (List ℕ)))
     → word_at (option ∷ domain ∷ sid ∷ word ∷ rest) (length (word ∷ rest)) ≡ word.now
 after_three option domain sid word rest =
-    word_after option (domain ∷ sid ∷ word ∷ rest) (length (word ∷ rest)) (omega arith)
-    ∙ word_after domain (sid ∷ word ∷ rest) (length (word ∷ rest)) (omega arith)
-    ∙ word_after sid (word ∷ rest) (length (word ∷ rest)) (omega arith)
-    ∙ word_here word rest
+    let all = option ∷ domain ∷ sid ∷ word ∷ rest in
+    let place : length all - length (word ∷ rest) ≡ 3 = omega arith in
+    ap (λ n. option_map_or (λ (w : Bor (List ℕ)). w.now) (slice_get all n) []) place
 
 -- what holds of a word with this text holds of each that has it
 of_text : (Holds : Bor (List ℕ) → Type 0) (word : Bor (List ℕ)) (text : List ℕ) → word.now ≡ text → Holds (record word { now = text }) → Holds word
@@ -196,17 +157,17 @@ abbrev Reads : TextCommand → OptionsValue → List ℕ → List (Bor (List ℕ
 Reads question options text arguments all =
     reading all ≡ Some (record { options = options; invocation = Ask text (record { question = question; arguments = arguments }) })
 
-pub dashes_keep_texts : DashesKeepTexts
+pub verdict_keeps_texts : DashesKeepTexts questions.Verdict (codes "verdict")
 unfolding command_named option_named
-dashes_keep_texts name word dashes sddl user mask words verdict dash =
-    of_text (λ w. Reads questions.Verdict no_options sddl.now (user ∷ mask ∷ words) (name ∷ w ∷ dashes ∷ sddl ∷ user ∷ mask ∷ words)) word (codes "verdict") verdict
+verdict_keeps_texts name word dashes sddl user mask words is dash =
+    of_text (λ w. Reads questions.Verdict no_options sddl.now (user ∷ mask ∷ words) (name ∷ w ∷ dashes ∷ sddl ∷ user ∷ mask ∷ words)) word (codes "verdict") is
     (keeps questions.Verdict _ no_options (command_named (codes "verdict")) (no_command []) (record word { now = codes "verdict" } ∷ dashes ∷ sddl ∷ user ∷ mask ∷ words) _
     dashes sddl user mask words refl refl refl refl refl refl dash)
 
-pub dashes_keep_texts_of_why : DashesKeepTextsOfWhy
+pub why_keeps_texts : DashesKeepTexts questions.Why (codes "why")
 unfolding command_named option_named
-dashes_keep_texts_of_why name word dashes sddl user mask words why dash =
-    of_text (λ w. Reads questions.Why no_options sddl.now (user ∷ mask ∷ words) (name ∷ w ∷ dashes ∷ sddl ∷ user ∷ mask ∷ words)) word (codes "why") why
+why_keeps_texts name word dashes sddl user mask words is dash =
+    of_text (λ w. Reads questions.Why no_options sddl.now (user ∷ mask ∷ words) (name ∷ w ∷ dashes ∷ sddl ∷ user ∷ mask ∷ words)) word (codes "why") is
     (keeps questions.Why _ no_options (command_named (codes "why")) (no_command []) (record word { now = codes "why" } ∷ dashes ∷ sddl ∷ user ∷ mask ∷ words) _
     dashes sddl user mask words refl refl refl refl refl refl dash)
 

@@ -1,7 +1,6 @@
 -- What the program prints for a command line, and whether it did what was asked for.
 use Rattle.std.specs.Prelude.{◌≡◌, ◌⊎◌, ℕ, Bool, true, false, MatchBool, List, [], ◌++◌, Option, Some, None}
-use Rattle.std.specs.Prelude.{IfSome, if◌then◌else◌, Result, Ok, Err, codes, string_bytes}
-use Rattle.std.specs.Io.KnownBytes.{Appends}
+use Rattle.std.specs.Prelude.{IfSome, if◌then◌else◌, Result, Ok, Err, codes}
 use Rattle.std.specs.Str.{IsUtf8}
 use Rattle.sd_answer.specs.Answer.{line, fault_line}
 use Rattle.sd_script.specs.Output.{PrintsAndCounts}
@@ -14,16 +13,17 @@ use Rattle.sd_script.specs.Printed.{PrintsAndCountsServed, PrintsAs}
 use Rattle.sd_lines.specs.Answers.{PrintsAndLeaves}
 use Rattle.sd_stream.specs.Decoder.{decoded}
 use Rattle.sd_lines.specs.declared.ending.Ending.{Ending}
-use Rattle.sd_lines.specs.declared.form.Form.{Form as LineForm}
+use Rattle.sd_lines.specs.declared.form.Form.{Form}
 use Rattle.sd_command_line.specs.Scripts.{IsToldOfScript, script_outcome}
 use Rattle.sd_json.specs.Text.{printed_as}
 use Rattle.sd_json.specs.declared.tagging.Tagging.{Tagging}
 use Rattle.sd_json.specs.declared.tagging.Tagging.TheVariants.{Key, Nothing}
 use Rattle.sd_usage.specs.declared.row.TextCommand.{TextCommand}
 use Rattle.sd_usage.specs.declared.row.TextCommand.TheVariants as questions
-use Rattle.sd_command_line.specs.CommandLine.{CommandLineValue, InvocationValue, Ask, AskInput, Script as AsksScript}
-use Rattle.sd_command_line.specs.CommandLine.{Serve as AsksServe, Audit as AsksAudit, Each as AsksEach, Help, Version}
-use Rattle.sd_command_line.specs.CommandLine.{RequestValue}
+use Rattle.sd_command_line.specs.CommandLine.{CommandLineValue, InvocationValue, RequestValue, Ask, AskInput, Script}
+use Rattle.sd_command_line.specs.CommandLine.{Each, Help, Version}
+use Rattle.sd_command_line.specs.declared.command_line.ScriptRun.{ScriptRun}
+use Rattle.sd_command_line.specs.declared.command_line.ScriptRun.TheVariants.{AtOnce, LineByLine, Audit}
 use Rattle.sd_command_line.specs.Each.{after_key, has_key, key_of, outcome_of_lines, told_of_lines, with_line}
 use Rattle.sd_command_line.specs.Input.{is_blank, is_utf16, without_end}
 use Rattle.sd_command_line.specs.declared.flags.Lines.{Lines}
@@ -35,7 +35,6 @@ use Rattle.sd_commands.specs.Answer.{AnswerValue, AnswersQuestion, IsDone, IsFau
 use Rattle.sd_commands.specs.Diagnostic.{told_line, IsSidReason}
 use Rattle.sd_commands.specs.declared.answer.Outcome.TheVariants.{Done}
 use Rattle.sd_command_line.specs.declared.options.BadValue.{BadValue}
-use Rattle.sd_command_line.specs.declared.shown.Shown.{Shown}
 use Rattle.sd_command_line.specs.declared.options.BadValue.TheVariants.{NoDomain, NoEdits, NoMapping, NoNodes}
 use Rattle.sd_commands.specs.declared.settings.Settings.{Settings}
 use Rattle.sd_command_line.specs.declared.version.TheConstants.{VERSION, KIT}
@@ -44,15 +43,7 @@ use Rattle.sd_command_line.specs.declared.version.TheConstants.{VERSION, KIT}
 abbrev pub version_lines : List ℕ
 version_lines = line (codes "sdstore " ++ VERSION.now) ++ line KIT.now
 
--- ---- command lines
-
--- what is printed for an invocation that needs no input, under these settings; the help's text is `clap`'s
-abbrev pub AnswersUnder : Settings → InvocationValue → AnswerValue → Type 0
-AnswersUnder settings (Ask text request) answer =
-    AnswersQuestion settings request.question text request.arguments answer
-AnswersUnder settings (Help command) answer = (answer.told ≡ []) × (answer.outcome ≡ Done)
-AnswersUnder settings Version answer = IsDone version_lines answer
-AnswersUnder settings invocation answer = ⊥
+-- ---- values of options that aren't read
 
 -- the value of an option isn't read
 abbrev pub IsBadOption : List ℕ → List ℕ → AnswerValue → Type 0
@@ -70,30 +61,6 @@ IsBadValue NoEdits answer = IsBadOption (codes "edits") (codes "no number of edi
 abbrev pub AnswersBy : (Settings → AnswerValue → Type 0) → Result Settings BadValue → AnswerValue → Type 0
 AnswersBy Answers (Ok settings) answer = Answers settings answer
 AnswersBy Answers (Err bad) answer = IsBadValue bad answer
-
--- the same under what the options say
-abbrev pub AnswersWith : OptionsValue → (Settings → AnswerValue → Type 0) → AnswerValue → Type 0
-AnswersWith options Answers answer =
-    (settings : Result Settings BadValue) × GivesSettings options settings × AnswersBy Answers settings answer
-
-abbrev pub AnswersArguments : OptionsValue → InvocationValue → AnswerValue → Type 0
-AnswersArguments options invocation = AnswersWith options (λ settings. AnswersUnder settings invocation)
-
--- ---- as it is printed
-
-abbrev pub shown_of : Shown → AnswerValue
-shown_of shown = record {
-  printed = shown.printed.items;
-  told = string_bytes shown.told;
-  outcome = shown.outcome;
-}
-
-abbrev pub shown_answer : OptionsValue → AnswerValue → AnswerValue
-shown_answer options answer = record answer { printed = printed_as (is_json options) Nothing answer.printed }
-
--- an answer, as it is printed
-abbrev pub Shows : OptionsValue → (AnswerValue → Type 0) → AnswerValue → Type 0
-Shows options Answers answer = (plain : AnswerValue) × Answers plain × (answer ≡ shown_answer options plain)
 
 -- ---- the text that an input is
 
@@ -119,25 +86,49 @@ AnswersInput settings request input answer =
     (IsUtf8 (without_end (decoded input)) × AnswersFilled settings request (without_end (decoded input)) answer)
     ⊎ ((IsUtf8 (without_end (decoded input)) → ⊥) × IsNoText input answer)
 
--- the same of the input that a reader gives, which is its bytes where they are known
-abbrev pub AnswersGiven : Option (List ℕ) → RequestValue → Settings → AnswerValue → Type 0
-AnswersGiven input request settings answer =
+-- ---- one answer
+
+-- what answers an invocation under these settings, with this input where it is known; the help's text is `clap`'s
+abbrev pub AnswersUnder : Option (List ℕ) → InvocationValue → Settings → AnswerValue → Type 0
+AnswersUnder input (Ask text request) settings answer =
+    AnswersQuestion settings request.question text request.arguments answer
+AnswersUnder input (AskInput request) settings answer =
     (text : List ℕ) × IfSome input (λ bytes. text ≡ bytes) × AnswersInput settings request text answer
+AnswersUnder input (Help command) settings answer = (answer.told ≡ []) × (answer.outcome ≡ Done)
+AnswersUnder input Version settings answer = IsDone version_lines answer
+AnswersUnder input invocation settings answer = ⊥
+
+-- the same under what the options say
+abbrev pub AnswersOnce : Option (List ℕ) → OptionsValue → InvocationValue → AnswerValue → Type 0
+AnswersOnce input options invocation answer =
+    (settings : Result Settings BadValue) × GivesSettings options settings
+    × AnswersBy (AnswersUnder input invocation) settings answer
+
+-- an answer, as it is printed
+abbrev pub printed_under : OptionsValue → AnswerValue → AnswerValue
+printed_under options answer = record answer { printed = printed_as (is_json options) Nothing answer.printed }
+
+abbrev pub IsPrinted : OptionsValue → (AnswerValue → Type 0) → AnswerValue → Type 0
+IsPrinted options Answers answer = (plain : AnswerValue) × Answers plain × (answer ≡ printed_under options plain)
 
 -- ---- scripts
 
--- the output of the script on the input, as this is printed and counted; or a value of an option isn't read
-abbrev pub AnswersScriptBy : (Manner → List ℕ → List ℕ → Tally → Type 0) → Option (List ℕ) → OptionsValue
-    → Result Manner BadValue → AnswerValue → Type 0
-AnswersScriptBy Prints input options (Ok manner) answer =
-    (tally : Tally) × IsOutput (λ text printed. Prints manner text printed tally) input answer.printed
-    × IsToldOfScript (is_strict options) tally answer.told × (answer.outcome ≡ script_outcome (is_strict options) tally)
-AnswersScriptBy Prints input options (Err bad) answer = Shows options (IsBadValue bad) answer
+-- what is printed and counted of a text that is a script
+abbrev pub PrintsRun : ScriptRun → Manner → List ℕ → List ℕ → Tally → Type 0
+PrintsRun AtOnce manner = PrintsAs manner.notation.is_json (PrintsAndCounts manner)
+PrintsRun (LineByLine has_ids) manner = PrintsAndCountsServed has_ids manner.notation.is_json manner
+PrintsRun (Audit workers) manner = PrintsAs manner.notation.is_json (PrintsAuditAndCounts manner workers)
 
-abbrev pub AnswersScript : (Manner → List ℕ → List ℕ → Tally → Type 0) → Option (List ℕ) → OptionsValue → AnswerValue
-    → Type 0
-AnswersScript Prints input options answer =
-    (manner : Result Manner BadValue) × GivesManner options manner × AnswersScriptBy Prints input options manner answer
+-- the output of the script on the input; or a value of an option isn't read
+abbrev pub AnswersScriptBy : ScriptRun → Option (List ℕ) → OptionsValue → Result Manner BadValue → AnswerValue → Type 0
+AnswersScriptBy run input options (Ok manner) answer =
+    (tally : Tally) × IsOutput (λ text printed. PrintsRun run manner text printed tally) input answer.printed
+    × IsToldOfScript (is_strict options) tally answer.told × (answer.outcome ≡ script_outcome (is_strict options) tally)
+AnswersScriptBy run input options (Err bad) answer = IsPrinted options (IsBadValue bad) answer
+
+abbrev pub AnswersScript : ScriptRun → Option (List ℕ) → OptionsValue → AnswerValue → Type 0
+AnswersScript run input options answer =
+    (manner : Result Manner BadValue) × GivesManner options manner × AnswersScriptBy run input options manner answer
 
 -- ---- of each line
 
@@ -146,7 +137,7 @@ AnswersScript Prints input options answer =
 abbrev pub AnswersText : Result Settings BadValue → RequestValue → List ℕ → AnswerValue → Type 0
 AnswersText settings request text answer = MatchBool (is_blank text)
     (IsFault (fault_line (codes "blank")) [] answer)
-    (AnswersBy (λ said. AnswersUnder said (Ask text request)) settings answer)
+    (AnswersBy (λ said. AnswersQuestion said request.question text request.arguments) settings answer)
 
 abbrev pub AnswersTold : Result Settings BadValue → RequestValue → Option (List ℕ) → AnswerValue → Type 0
 AnswersTold settings request None answer = IsFault (fault_line (codes "long")) [] answer
@@ -201,7 +192,7 @@ AnswersNext has_keys is_json settings request before told printed after =
     × (printed ≡ printed_as is_json (tagging_of has_keys) plain) × (after ≡ with_line before is_refused)
 
 -- the lines of an input, of which one that is too long is answered too
-abbrev pub form_of : Ending → LineForm
+abbrev pub form_of : Ending → Form
 form_of ending = record { ending = ending; skips_mark = true; stops_at_long = false; line_by_line = false }
 
 -- the lines' answers, one after the other, all under the same settings; refused where one is or where there is none
@@ -213,30 +204,11 @@ AnswersEach options lines request input answer =
     answer.printed progress
     × (answer.told ≡ told_of_lines progress) × (answer.outcome ≡ outcome_of_lines progress)
 
--- known bytes grow by them
-pub record AppendsEach (options : OptionsValue) (lines : Lines) (request : RequestValue)
-    (input old new : Option (List ℕ)) (progress : Progress) : Type 0 where
-  pub printed : List ℕ
-  pub answers : AnswersEach options lines request input (record {
-    printed = printed;
-    told = told_of_lines progress;
-    outcome = outcome_of_lines progress;
-  })
-  pub appended : Appends old new printed
-
 -- what is printed for a command line, with this input where it is known, and what came of it
 abbrev pub AnswersInvocation : Option (List ℕ) → OptionsValue → InvocationValue → AnswerValue → Type 0
-AnswersInvocation input options (AskInput request) answer =
-    Shows options (AnswersWith options (AnswersGiven input request)) answer
-AnswersInvocation input options AsksScript answer =
-    AnswersScript (λ manner. PrintsAs manner.notation.is_json (PrintsAndCounts manner)) input options answer
-AnswersInvocation input options (AsksServe has_ids) answer =
-    AnswersScript (λ manner. PrintsAndCountsServed has_ids manner.notation.is_json manner) input options answer
-AnswersInvocation input options (AsksAudit workers) answer =
-    AnswersScript (λ manner. PrintsAs manner.notation.is_json (PrintsAuditAndCounts manner workers)) input options
-    answer
-AnswersInvocation input options (AsksEach lines request) answer = AnswersEach options lines request input answer
-AnswersInvocation input options invocation answer = Shows options (AnswersArguments options invocation) answer
+AnswersInvocation input options (Script run) answer = AnswersScript run input options answer
+AnswersInvocation input options (Each lines request) answer = AnswersEach options lines request input answer
+AnswersInvocation input options invocation answer = IsPrinted options (AnswersOnce input options invocation) answer
 
 abbrev pub Answers : Option (List ℕ) → CommandLineValue → AnswerValue → Type 0
 Answers input line answer = AnswersInvocation input line.options line.invocation answer

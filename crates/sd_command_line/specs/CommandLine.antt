@@ -16,13 +16,15 @@ use Rattle.sd_usage.specs.declared.row.TextCommand.{TextCommand}
 use Rattle.sd_command_line.specs.declared.command_line.Asked.{Asked}
 use Rattle.sd_command_line.specs.declared.command_line.Call.{Call}
 use Rattle.sd_command_line.specs.declared.command_line.CommandLine.{CommandLine}
+use Rattle.sd_command_line.specs.declared.command_line.ScriptRun.{ScriptRun}
+use Rattle.sd_command_line.specs.declared.command_line.ScriptRun.TheVariants.{AtOnce, LineByLine, Audit}
 use Rattle.sd_command_line.specs.declared.command_line.TextRequest.{TextRequest}
 use Rattle.sd_command_line.specs.declared.command_line.Invocation.{Invocation}
 use Rattle.sd_command_line.specs.declared.command_line.Invocation.TheVariants as invocations
 use Rattle.sd_command_line.specs.Flags.{flags_in, lines_by, no_flags}
 use Rattle.sd_command_line.specs.declared.flags.GivenFlags.{GivenFlags}
 use Rattle.sd_command_line.specs.declared.flags.Lines.{Lines}
-use Rattle.sd_command_line.specs.Mistake.{map_read, mistake, then_read, word_at}
+use Rattle.sd_command_line.specs.Mistake.{map_read, mistake, then_read, unless, word_at}
 use Rattle.sd_command_line.specs.declared.mistake.Mistake.{Mistake}
 use Rattle.sd_command_line.specs.declared.mistake.Wrong.TheVariants as wrongs
 use Rattle.sd_command_line.specs.Options.{OptionsValue, is_from_input, misplaced_in, no_options, options_in, options_of}
@@ -39,9 +41,7 @@ request_of request = record { question = request.question; arguments = request.a
 pub data InvocationValue : Type 0 where
   Ask : List ℕ → RequestValue → InvocationValue
   AskInput : RequestValue → InvocationValue
-  Script : InvocationValue
-  Serve : Bool → InvocationValue
-  Audit : ℕ → InvocationValue
+  Script : ScriptRun → InvocationValue
   Each : Lines → RequestValue → InvocationValue
   Help : Option CommandName → InvocationValue
   Version : InvocationValue
@@ -49,9 +49,7 @@ pub data InvocationValue : Type 0 where
 abbrev pub invocation_of : Invocation → InvocationValue
 invocation_of (invocations.Ask text request) = Ask text.now (request_of request)
 invocation_of (invocations.AskInput request) = AskInput (request_of request)
-invocation_of invocations.Script = Script
-invocation_of (invocations.Serve has_ids) = Serve has_ids
-invocation_of (invocations.Audit workers) = Audit workers
+invocation_of (invocations.Script run) = Script run
 invocation_of (invocations.Each lines request) = Each lines (request_of request)
 invocation_of (invocations.Help command) = Help command
 invocation_of invocations.Version = Version
@@ -180,10 +178,10 @@ call_in (word ∷ words) =
 abbrev pub request_by : CommandName → CallValue → List (Bor (List ℕ)) → Result AskedValue Mistake
 request_by (names.Ask question) call (text ∷ arguments) =
     Ok (asks call (Ask text.now (record { question = question; arguments = arguments })))
-request_by names.Script call arguments = Ok (asks call Script)
-request_by names.Serve call arguments = Ok (asks call (Serve call.given.ids))
+request_by names.Script call arguments = Ok (asks call (Script AtOnce))
+request_by names.Serve call arguments = Ok (asks call (Script (LineByLine call.given.ids)))
 request_by names.Audit call (workers ∷ arguments) =
-    map_read (λ n. asks call (Audit n))
+    map_read (λ n. asks call (Script (Audit n)))
     (ok_or (workers_of workers.now)
     (mistake (length (workers ∷ arguments)) call.named (wrongs.NoWorkers call.command)))
 request_by names.Each call arguments = then_read (text_request (Each (lines_by call.given))) (call_in arguments)
@@ -204,10 +202,7 @@ command_in from_input words = then_read (asked_by from_input) (call_in words)
 -- the same, where each option before it may go there
 abbrev pub with_options : OptionsValue → List (Bor (List ℕ)) → AskedValue → Result CommandLineValue Mistake
 with_options options words asked =
-    elim (misplaced_in (word_at words asked.named) asked.named options words) [
-      | Some wrong ↦ Err wrong
-      | None ↦ Ok (asking options asked.invocation)
-    ]
+    unless (misplaced_in (word_at words asked.named) asked.named options words) (asking options asked.invocation)
 
 abbrev pub after_options : List (Bor (List ℕ)) → OptionsValue × List (Bor (List ℕ)) → Result CommandLineValue Mistake
 after_options all (options, words) = then_read (with_options options all) (command_in (is_from_input options) words)
@@ -266,18 +261,16 @@ mistake_in words = result_err (parsed words)
 abbrev pub IsUnread : List (Bor (List ℕ)) → Type 0
 IsUnread words = reading words ≡ None
 
--- whether what is asked for is a script, at once, line by line or as an audit
-abbrev pub runs_script : InvocationValue → Bool
-runs_script Script = true
-runs_script (Serve has_ids) = true
-runs_script (Audit workers) = true
-runs_script invocation = false
+-- whether it has one answer: that to a text or to the input, help or the version
+abbrev pub has_one_answer : InvocationValue → Bool
+has_one_answer (Script run) = false
+has_one_answer (Each lines request) = false
+has_one_answer invocation = true
 
 -- whether what is asked for is answered from the input: a script, or a question of it or of each line
 abbrev pub uses_input : InvocationValue → Bool
 uses_input (AskInput request) = true
-uses_input (Each lines request) = true
-uses_input invocation = runs_script invocation
+uses_input invocation = not (has_one_answer invocation)
 
 -- the arguments ask for what is answered from the input
 abbrev pub asks_input : List (Bor (List ℕ)) → Bool
@@ -285,4 +278,4 @@ asks_input words = option_map_or (λ line. uses_input line.invocation) (reading 
 
 -- the arguments ask for an audit
 abbrev pub IsAudit : List (Bor (List ℕ)) → Type 0
-IsAudit words = (workers : ℕ) × (option_map (λ line. line.invocation) (reading words) ≡ Some (Audit workers))
+IsAudit words = (workers : ℕ) × (option_map (λ line. line.invocation) (reading words) ≡ Some (Script (Audit workers)))

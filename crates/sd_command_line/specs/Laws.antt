@@ -5,6 +5,7 @@ use Rattle.std.specs.Option.{option_map_or}
 use Rattle.std.specs.Borrow.{Bor}
 use Rattle.sd_answer.specs.Laws.{are_distinct}
 use Rattle.sd_usage.specs.declared.row.OptionName.TheVariants.{Domain, Names}
+use Rattle.sd_usage.specs.declared.row.TextCommand.{TextCommand}
 use Rattle.sd_usage.specs.declared.row.TextCommand.TheVariants as questions
 use Rattle.sd_usage.specs.declared.table.TheConstants.{COMMANDS, OPTIONS}
 use Rattle.sd_command_line.specs.CommandLine.{InvocationValue, Ask, AskInput, Each, Help}
@@ -33,18 +34,12 @@ shows read = option_map_or (λ line. is_shown line.invocation) read false
 abbrev pub HelpStandsAlone : Type 0
 HelpStandsAlone = (words : List (Bor (List ℕ))) → shows (reading words) ≡ true → length words ≤ 3
 
--- after `verdict --` and `why --` each argument is that of its place, whatever its text
-abbrev pub DashesKeepTexts : Type 0
-DashesKeepTexts = (name word dashes sddl user mask : Bor (List ℕ)) (words : List (Bor (List ℕ)))
-    → word.now ≡ codes "verdict" → dashes.now ≡ codes "--"
+-- after a command's name and `--` each argument is that of its place, whatever its text
+abbrev pub DashesKeepTexts : TextCommand → List ℕ → Type 0
+DashesKeepTexts question command = (name word dashes sddl user mask : Bor (List ℕ)) (words : List (Bor (List ℕ)))
+    → word.now ≡ command → dashes.now ≡ codes "--"
     → reading (name ∷ word ∷ dashes ∷ sddl ∷ user ∷ mask ∷ words) ≡ Some (asking no_options
-    (Ask sddl.now (record { question = questions.Verdict; arguments = user ∷ mask ∷ words })))
-
-abbrev pub DashesKeepTextsOfWhy : Type 0
-DashesKeepTextsOfWhy = (name word dashes sddl user mask : Bor (List ℕ)) (words : List (Bor (List ℕ)))
-    → word.now ≡ codes "why" → dashes.now ≡ codes "--"
-    → reading (name ∷ word ∷ dashes ∷ sddl ∷ user ∷ mask ∷ words) ≡ Some (asking no_options
-    (Ask sddl.now (record { question = questions.Why; arguments = user ∷ mask ∷ words })))
+    (Ask sddl.now (record { question = question; arguments = user ∷ mask ∷ words })))
 
 -- the same with options before the command
 abbrev pub OptionsKeepTexts : Type 0

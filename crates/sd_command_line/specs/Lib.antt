@@ -7,5 +7,4 @@ pub mod Laws
 pub mod Mistake
 pub mod Options
 pub mod Output
-pub mod Status
 pub mod Scripts

@@ -1,5 +1,7 @@
 -- What is wrong with a command line, and what standard error gets for it.
-use Rattle.std.specs.Prelude.{ℕ, ◌-◌, ◌==◌, if◌then◌else◌, List, [], ◌∷◌, ◌++◌, length, Result, Ok, Err, codes}
+use Rattle.std.specs.Prelude.{ℕ, ◌-◌, ◌==◌, if◌then◌else◌, List, [], ◌++◌, length, Result, Ok, Err, codes}
+use Rattle.std.specs.Prelude.{Option, Some, None, slice_get}
+use Rattle.std.specs.Option.{option_map_or}
 use Rattle.std.specs.Fmt.{decimal}
 use Rattle.std.specs.Borrow.{Bor}
 use Rattle.sd_answer.specs.Answer.{line}
@@ -24,6 +26,10 @@ abbrev pub map_read : {T U : Type 0} → (T → U) → Result T Mistake → Resu
 map_read value (Ok x) = Ok (value x)
 map_read value (Err wrong) = Err wrong
 
+abbrev pub unless : {T : Type 0} → Option Mistake → T → Result T Mistake
+unless None x = Ok x
+unless (Some wrong) x = Err wrong
+
 abbrev pub mistake : ℕ → ℕ → Wrong → Mistake
 mistake left named wrong = record { left = left; named = named; wrong = wrong }
 
@@ -31,8 +37,7 @@ mistake left named wrong = record { left = left; named = named; wrong = wrong }
 
 -- the argument from which on there are so many
 abbrev pub word_at : List (Bor (List ℕ)) → ℕ → List ℕ
-word_at [] left = []
-word_at (word ∷ words) left = if length (word ∷ words) == left then word.now else word_at words left
+word_at words left = option_map_or (λ word. word.now) (slice_get words (length words - left)) []
 
 -- which argument it is, counted from 1 since the first word is the program's name, and its text, if it is there
 abbrev pub place_text : List (Bor (List ℕ)) → ℕ → List ℕ

@@ -1,5 +1,5 @@
 -- What the program leaves in a writer whose bytes are known.
-use Rattle.std.specs.Prelude.{◌≡◌, ◌⊎◌, ℕ, Bool, false, ◌||◌, List, Option, Some, Result, Ok, Err, codes, string_bytes}
+use Rattle.std.specs.Prelude.{◌≡◌, ◌⊎◌, ℕ, Bool, ◌||◌, List, Option, Some, Result, Err, codes}
 use Rattle.std.specs.Io.KnownBytes.{Appends, Keeps}
 use Rattle.std.specs.Borrow.{Bor}
 use Rattle.sd_stream.specs.Streams.{AppendsBeginning, ReadsPart, is_read_error, is_write_error}
@@ -14,17 +14,13 @@ use Rattle.sd_lines.specs.Output.{LeavesAnswers}
 use Rattle.sd_command_line.specs.declared.flags.Lines.{Lines}
 use Rattle.sd_command_line.specs.Answer.{Answers, AnswersNext, form_of}
 use Rattle.sd_commands.specs.Answer.{AnswerValue, outcome_status}
-use Rattle.sd_command_line.specs.CommandLine.{CommandLineValue, RequestValue, Each, Serve, reading, IsAudit, IsUnread}
-use Rattle.sd_command_line.specs.CommandLine.{mistake_in}
-use Rattle.sd_command_line.specs.Mistake.{message}
-use Rattle.sd_command_line.specs.declared.mistake.Mistake.{Mistake}
-use Rattle.sd_command_line.specs.Options.{GivesSettings, IsManner, OptionsValue, is_json}
+use Rattle.sd_command_line.specs.CommandLine.{CommandLineValue, RequestValue, Each, Script, reading, IsAudit}
+use Rattle.sd_command_line.specs.declared.command_line.ScriptRun.TheVariants.{LineByLine}
+use Rattle.sd_command_line.specs.Options.{GivesSettings, IsManner, is_json}
 use Rattle.sd_command_line.specs.declared.options.BadValue.{BadValue}
 use Rattle.sd_command_line.specs.declared.each.Progress.TheVariants.{NoLine}
 use Rattle.sd_commands.specs.declared.answer.Outcome.{Outcome}
 use Rattle.sd_commands.specs.declared.settings.Settings.{Settings}
-use Rattle.sd_command_line.specs.declared.failure.Failure.{Failure}
-use Rattle.sd_command_line.specs.declared.failure.Failure.TheVariants.{Unread, Run}
 
 -- ---- of a command line
 
@@ -43,34 +39,25 @@ pub record AppendsPartOfAnswerTo (line : CommandLineValue) (input old new : Opti
   pub answers : Answers input line answer
   pub beginning : AppendsBeginning old new answer.printed
 
--- nothing was written before an error, but for a write's own
-abbrev pub LeavesAnswerTo : CommandLineValue → Option (List ℕ) → Option (List ℕ) → Option (List ℕ) → RunError → Type 0
-LeavesAnswerTo line input old new Write = AppendsPartOfAnswerTo line input old new
-LeavesAnswerTo line input old new error = Keeps old new
-
 -- line by line, what was answered until then
 pub record LeavesServed (line : CommandLineValue) (input left old new : Option (List ℕ))
     (error : RunError) : Type 0 where
   pub manner : Manner
   pub has_ids : Bool
-  pub asked : line.invocation ≡ Serve has_ids
+  pub asked : line.invocation ≡ Script (LineByLine has_ids)
   pub said : IsManner line.options manner
   pub answers : LeavesAnswers LINES (PrintsServed has_ids manner.notation.is_json manner) input left old new error
 
 -- the answers to the lines of an input, as far as it came
-abbrev pub LeavesEachAnswers : OptionsValue → Lines → RequestValue → Option (List ℕ) → Option (List ℕ)
-    → Option (List ℕ) → Option (List ℕ) → RunError → Type 0
-LeavesEachAnswers options lines request input left old new error =
-    (settings : Result Settings BadValue) × GivesSettings options settings
-    × LeavesAnswers (form_of lines.ending)
-    (Prints (form_of lines.ending) (AnswersNext lines.has_keys (is_json options) settings request) NoLine)
-    input left old new error
-
 pub record LeavesEach (line : CommandLineValue) (input left old new : Option (List ℕ)) (error : RunError) : Type 0 where
   pub lines : Lines
   pub request : RequestValue
+  pub settings : Result Settings BadValue
   pub asked : line.invocation ≡ Each lines request
-  pub answers : LeavesEachAnswers line.options lines request input left old new error
+  pub said : GivesSettings line.options settings
+  pub answers : LeavesAnswers (form_of lines.ending)
+      (Prints (form_of lines.ending) (AnswersNext lines.has_keys (is_json line.options) settings request) NoLine)
+      input left old new error
 
 -- what was answered line by line until then
 abbrev pub LeavesLinesOf : CommandLineValue → Option (List ℕ) → Option (List ℕ) → Option (List ℕ) → Option (List ℕ)
@@ -81,13 +68,8 @@ LeavesLinesOf line input left old new error = LeavesServed line input left old n
 -- what stands where the answer isn't there, or not the whole of it
 abbrev pub LeavesAfter : CommandLineValue → Option (List ℕ) → Option (List ℕ) → Option (List ℕ) → Option (List ℕ)
     → RunError → Type 0
-LeavesAfter line input left old new error = LeavesAnswerTo line input old new error
-    ⊎ LeavesLinesOf line input left old new error
-
-abbrev pub LeavesAfterFailure : CommandLineValue → Option (List ℕ) → Option (List ℕ) → Option (List ℕ) → Option (List ℕ)
-    → Failure → Type 0
-LeavesAfterFailure line input left old new (Unread reason) = ⊥
-LeavesAfterFailure line input left old new (Run error) = LeavesAfter line input left old new error
+LeavesAfter line input left old new error =
+    Keeps old new ⊎ (AppendsPartOfAnswerTo line input old new ⊎ LeavesLinesOf line input left old new error)
 
 -- ---- of words
 
@@ -106,18 +88,6 @@ abbrev pub LeavesByLine : List (Bor (List ℕ)) → Option (List ℕ) → Option
     → RunError → Type 0
 LeavesByLine words input left old new error = OfReading words (λ line. LeavesLinesOf line input left old new error)
 
--- the text says what is wrong with the words
-abbrev pub IsReason : List (Bor (List ℕ)) → List ℕ → Type 0
-IsReason words text = (mistake : Mistake) × (mistake_in words ≡ Some mistake) × (text ≡ message words mistake)
-
--- what stands where there is no answer, or not the whole of it
-abbrev pub LeavesAtFailure : List (Bor (List ℕ)) → Option (List ℕ) → Option (List ℕ) → Option (List ℕ) → Option (List ℕ)
-    → Failure → Type 0
-LeavesAtFailure words input left old new (Unread reason) =
-    IsUnread words × Keeps old new × IsReason words (string_bytes reason)
-LeavesAtFailure words input left old new (Run error) = Keeps old new
-    ⊎ OfReading words (λ line. LeavesAfter line input left old new error)
-
 -- what standard error gets of an error
 abbrev pub error_line : RunError → List ℕ
 error_line Read = line (codes "sdstore: read")
@@ -125,19 +95,6 @@ error_line TooLong = line (codes "sdstore: too long")
 error_line Write = line (codes "sdstore: write")
 error_line Memory = line (codes "sdstore: memory")
 error_line Thread = line (codes "sdstore: thread")
-
-abbrev pub failure_text : Failure → List ℕ
-failure_text (Unread reason) = string_bytes reason
-failure_text (Run error) = error_line error
-
--- whether the answer is that the reader failed, or that the writer did
-abbrev pub blames_reader : {T : Type 0} → Result T Failure → Bool
-blames_reader (Err (Run error)) = is_read_error {T = Unit {0}} (Err error)
-blames_reader result = false
-
-abbrev pub blames_writer : {T : Type 0} → Result T Failure → Bool
-blames_writer (Err (Run error)) = is_write_error {T = Unit {0}} (Err error)
-blames_writer result = false
 
 -- an error blames a stream just where that stream failed, TooLong comes only where too much was read, and Thread of an
 -- audit alone; of want of memory no stream tells

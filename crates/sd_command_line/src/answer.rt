@@ -1,54 +1,50 @@
-//! The answer to a command line that needs no input.
-ghost use Rattle.std.specs.Prelude.{◌≡◌, ℕ, List, Option, false, IfOk};
+//! The one answer to a command line that runs no script and asks nothing of each line.
+ghost use Rattle.std.specs.Prelude.{◌≡◌, ◌≢◌, ◌||◌, true, false, Err, IfErr, IfOk};
+ghost use Rattle.sd_stream.specs.Watched.{has_failed, inner_of};
+ghost use Rattle.sd_stream.specs.Streams.{ReadsPart, is_read_error};
 ghost use Rattle.sd_commands.specs.Answer.{answer_of};
-ghost use Rattle.sd_command_line.specs.Answer.{Answers, AnswersArguments, AnswersUnder, IsBadOption};
-ghost use Rattle.sd_command_line.specs.Answer.{IsBadValue, shown_of};
-ghost use Rattle.sd_command_line.specs.CommandLine.{command_line_of, invocation_of, uses_input};
+ghost use Rattle.sd_command_line.specs.Answer.{AnswersOnce, IsBadOption, IsBadValue};
+ghost use Rattle.sd_command_line.specs.CommandLine.{has_one_answer, invocation_of, uses_input};
 ghost use Rattle.sd_command_line.specs.Options.{options_of};
 
 use crate::command_line::{CommandLine, Invocation};
+use crate::input::answer_input;
 use crate::options::BadValue;
-use crate::shown::Shown;
 use crate::version::version_text;
-use sd_commands::{Answer, Settings, answer_question, fault, sid_reason, told_line};
+use sd_commands::{Answer, answer_question, fault, sid_reason, told_line};
+use sd_stream::{RunError, Watched, read_whole};
 use sd_text::Aliases;
 use sd_usage::help;
 use std::alloc::{AllocError, Global};
+use std::io::Read;
 
-/// The answer to a command line that needs no input, as it is printed.
-pub(crate) fn answer_to(alloc: Global, line: CommandLine<'_>) -> Result<Shown, AllocError>
-    requires { uses_input (invocation_of line.invocation) ≡ false }
-    ensures { (input : Option (List ℕ))
-        → IfOk result (λ shown. Answers input (command_line_of line.entry) (shown_of shown)) }
-{
-    let answer = plain_answer(alloc, line)?;
-    Shown::under(alloc, line.options, answer)
-}
-
-/// The same before its lines are objects.
-pub(crate) fn plain_answer(alloc: Global, line: CommandLine<'_>) -> Result<Answer, AllocError>
-    requires { uses_input (invocation_of line.invocation) ≡ false }
-    ensures { IfOk result (λ answer.
-        AnswersArguments (options_of line.entry.options) (invocation_of line.entry.invocation) (answer_of answer)) }
-{
-    match line.options.settings() {
-        Ok(settings) => answer_under(alloc, settings, line.invocation),
-        Err(bad) => bad_value(alloc, bad),
-    }
-}
-
-/// The answer to an invocation that needs no input, where the options say this.
-fn answer_under(
+/// The answer before its lines are objects. Only a command after `--stdin` uses `reader`.
+pub(crate) fn answer_to<R: Read>(
     alloc: Global,
-    settings: Settings,
-    invocation: Invocation<'_>,
-) -> Result<Answer, AllocError>
-    requires { uses_input (invocation_of invocation) ≡ false }
-    ensures { IfOk result (λ answer. AnswersUnder settings (invocation_of invocation.entry) (answer_of answer)) }
+    line: CommandLine<'_>,
+    reader: &mut Watched<R>,
+) -> Result<Answer, RunError>
+    requires { has_one_answer (invocation_of line.invocation) ≡ true }
+    ensures ok { IfOk result (λ answer. AnswersOnce (R.remaining (inner_of reader.old))
+        (options_of line.entry.options) (invocation_of line.entry.invocation) (answer_of answer)) }
+    ensures err { IfErr result (λ error. (error ≢ RunError.Write) × (error ≢ RunError.Thread)) }
+    ensures read { has_failed reader.new ≡ (has_failed reader.old || is_read_error result) }
+    ensures too_long { result ≡ Err RunError.TooLong
+        → ReadsPart (R.remaining (inner_of reader.old)) (R.remaining (inner_of reader.new)) RunError.TooLong }
+    ensures unused { uses_input (invocation_of line.entry.invocation) ≡ false → reader.new ≡ reader.old }
 {
-    match invocation {
+    let settings = match line.options.settings() {
+        Ok(settings) => settings,
+        Err(bad) => return Ok(bad_value(alloc, bad)?),
+    };
+    match line.invocation {
         Invocation::Ask { text, request } => {
-            answer_question(alloc, settings, request.question, text, request.arguments)
+            let (question, arguments) = (request.question, request.arguments);
+            Ok(answer_question(alloc, settings, question, text, arguments)?)
+        }
+        Invocation::AskInput { request } => {
+            let input = read_whole(alloc, reader)?;
+            Ok(answer_input(alloc, settings, request, &input)?)
         }
         Invocation::Help { command } => Ok(Answer::done(alloc, help(alloc, command)?)),
         Invocation::Version => Ok(Answer::done(alloc, version_text(alloc)?)),

@@ -34,15 +34,7 @@ pub(crate) enum Invocation<'a> {
         request: TextRequest<'a>,
     },
     /// The output of the script on standard input.
-    Script,
-    /// The same, line by line, where lines may have ids.
-    Serve {
-        has_ids: bool,
-    },
-    /// The output of its audit by so many workers.
-    Audit {
-        workers: u64,
-    },
+    Script(ScriptRun),
     /// The answer to each line of standard input.
     Each {
         lines: Lines,
@@ -66,6 +58,16 @@ impl Invocation<'_> {
             Invocation::Ask { .. } | Invocation::Help { .. } | Invocation::Version
         )
     }
+}
+
+/// How a script is run.
+#[derive(Clone, Copy, Debug)]
+pub(crate) enum ScriptRun {
+    AtOnce,
+    /// Line by line, where lines may have ids.
+    LineByLine { has_ids: bool },
+    /// As an audit by so many workers.
+    Audit { workers: u64 },
 }
 
 /// A command that answers a text, with its arguments after that.
@@ -238,13 +240,13 @@ fn request_on<'a>(call: Call<'a>) -> Result<Asked<'a>, Mistake>
             };
             Ok(call.asks(Invocation::Ask { text, request }))
         }
-        (CommandName::Script, _) => Ok(call.asks(Invocation::Script)),
+        (CommandName::Script, _) => Ok(call.asks(Invocation::Script(ScriptRun::AtOnce))),
         (CommandName::Serve, _) => {
             let has_ids = call.given.has(Flag::Ids);
-            Ok(call.asks(Invocation::Serve { has_ids }))
+            Ok(call.asks(Invocation::Script(ScriptRun::LineByLine { has_ids })))
         }
         (CommandName::Audit, [workers, ..]) => match workers_in(workers) {
-            Some(workers) => Ok(call.asks(Invocation::Audit { workers })),
+            Some(workers) => Ok(call.asks(Invocation::Script(ScriptRun::Audit { workers }))),
             None => {
                 let wrong = Wrong::NoWorkers(call.command);
                 Err(Mistake::new(call.arguments.len(), call.named, wrong))
@@ -286,12 +288,8 @@ fn help_on<'a>(word: &str) -> Option<Invocation<'a>>
 fn help_on_command<'a>(word: &str) -> Option<Invocation<'a>>
     ensures { option_map invocation_of result ≡ command_help word.now }
 {
-    match command_named(word) {
-        Some(command) => Some(Invocation::Help {
-            command: Some(command.name),
-        }),
-        None => None,
-    }
+    let command = Some(command_named(word)?.name);
+    Some(Invocation::Help { command })
 }
 
 /// The arguments after a command, without a first `--`: a way to say that what follows is no flag.

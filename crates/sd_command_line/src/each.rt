@@ -1,22 +1,23 @@
 //! The answers of one command to each line of an input.
-ghost use Rattle.std.specs.Prelude.{◌≡◌, ◌≤◌, ◌||◌, ◌++◌, true, false, IfErr, IfNone, IfOk, IfSome, length};
+ghost use Rattle.std.specs.Prelude.{◌≡◌, ◌≢◌, ◌≤◌, ◌||◌, ◌++◌, true, false, IfErr, IfNone, IfOk, IfSome, length};
 ghost use Rattle.std.specs.Prelude.{option_map, string_bytes};
 ghost use Rattle.sd_stream.specs.Watched.{has_failed, inner_of};
 ghost use Rattle.sd_stream.specs.Streams.{is_read_error, is_write_error};
-ghost use Rattle.sd_commands.specs.Answer.{answer_of, is_refusal};
+ghost use Rattle.sd_commands.specs.Answer.{answer_of, is_refusal, outcome_status};
 ghost use Rattle.sd_command_line.specs.Answer.{AnswersKeyed, AnswersLine, AnswersNext, AnswersText, AnswersTold};
-ghost use Rattle.sd_command_line.specs.Answer.{AppendsEach, after_answer, form_of, tagging_of};
-ghost use Rattle.sd_command_line.specs.CommandLine.{request_of};
+ghost use Rattle.sd_command_line.specs.Answer.{after_answer, form_of, tagging_of};
+ghost use Rattle.sd_command_line.specs.CommandLine.{Each, asking, request_of};
 ghost use Rattle.sd_command_line.specs.Each.{after_key, has_feed, has_key, key_len, key_of, no_line_note};
 ghost use Rattle.sd_command_line.specs.Each.{outcome_of_lines, told_of_lines, with_line};
 ghost use Rattle.sd_command_line.specs.Options.{options_of};
-ghost use Rattle.sd_command_line.specs.Output.{LeavesEachAnswers};
+ghost use Rattle.sd_command_line.specs.Output.{AppendsAnswerTo, LeavesAfter};
 
 use crate::answer::bad_value;
 use crate::command_line::TextRequest;
 use crate::flags::Lines;
 use crate::input::is_blank;
 use crate::options::{BadValue, Options};
+use crate::perform::Ended;
 use sd_commands::{Answer, Outcome, Settings, answer_question, fault, told_line};
 use sd_json::{Tagging, printed_as};
 use sd_lines::{AnswersLines, Ending, Form, answer_lines};
@@ -29,7 +30,7 @@ use std::str::from_utf8;
 
 /// How the lines so far were answered.
 #[derive(Clone, Copy, Debug)]
-pub(crate) enum Progress {
+enum Progress {
     /// There was none.
     NoLine,
     /// None was refused.
@@ -49,7 +50,7 @@ impl Progress {
     }
 
     /// What came of all of them. An input without a line is refused.
-    pub(crate) fn outcome(self) -> Outcome
+    fn outcome(self) -> Outcome
         ensures { result ≡ outcome_of_lines self }
     {
         match self {
@@ -59,7 +60,7 @@ impl Progress {
     }
 
     /// What standard error is told of them: this note, where there was none.
-    pub(crate) fn told(self, alloc: Global, note: String) -> String
+    fn told(self, alloc: Global, note: String) -> String
         requires { string_bytes note ≡ no_line_note }
         ensures { string_bytes result ≡ told_of_lines self }
     {
@@ -68,13 +69,6 @@ impl Progress {
             Progress::AllDone | Progress::AnyRefused => String::new(alloc),
         }
     }
-}
-
-/// The note on an input without a line.
-pub(crate) fn no_line_note(alloc: Global) -> Result<String, AllocError>
-    ensures { IfOk result (λ note. string_bytes note ≡ no_line_note) }
-{
-    told_line(alloc, "standard input", "no line")
 }
 
 /// What is printed of a line, and what came of it.
@@ -86,7 +80,7 @@ struct Answered {
 
 /// A command with its arguments, under its options, that is asked of each line.
 #[derive(Clone, Copy, Debug)]
-pub(crate) struct LineQuestion<'a> {
+struct LineQuestion<'a> {
     /// Whether each line begins with a key and a tab.
     has_keys: bool,
     /// Whether each line of its answer is printed as an object of JSON.
@@ -258,7 +252,7 @@ fn form_of(ending: Ending) -> Form
     }
 }
 
-/// Answers each line of an input.
+/// Answers each line of the input.
 pub(crate) fn answer_each<R: Read, W: Write>(
     alloc: Global,
     options: Options<'_>,
@@ -266,24 +260,37 @@ pub(crate) fn answer_each<R: Read, W: Write>(
     request: TextRequest<'_>,
     reader: &mut Watched<R>,
     writer: &mut Watched<W>,
-) -> Result<Progress, RunError>
-    ensures ok { IfOk result (AppendsEach (options_of options.entry) lines (request_of request.entry)
-        (R.remaining (inner_of reader.old))
-        (W.contents (inner_of writer.old)) (W.contents (inner_of writer.new))) }
-    ensures err { IfErr result (LeavesEachAnswers (options_of options.entry) lines (request_of request.entry)
+) -> Result<Ended, RunError>
+    ensures ok { IfOk result (λ ended. AppendsAnswerTo
+        (asking (options_of options.entry) (Each lines (request_of request.entry))) (R.remaining (inner_of reader.old))
+        (W.contents (inner_of writer.old)) (W.contents (inner_of writer.new)) (string_bytes ended.told)
+        (outcome_status ended.outcome)) }
+    ensures err { IfErr result (LeavesAfter
+        (asking (options_of options.entry) (Each lines (request_of request.entry)))
         (R.remaining (inner_of reader.old)) (R.remaining (inner_of reader.new))
         (W.contents (inner_of writer.old)) (W.contents (inner_of writer.new))) }
     ensures read { has_failed reader.new ≡ (has_failed reader.old || is_read_error result) }
     ensures write { has_failed writer.new ≡ (has_failed writer.old || is_write_error result) }
+    ensures only { IfErr result (λ error. (error ≢ RunError.TooLong) × (error ≢ RunError.Thread)) }
 {
+    let note = told_line(alloc, "standard input", "no line")?;
     let question = LineQuestion {
         has_keys: lines.has_keys,
         is_json: options.is_json(),
         settings: options.settings(),
         request,
     };
-    let form = form_of(lines.ending);
     let mut progress = Progress::NoLine;
-    answer_lines(alloc, &question, &mut progress, form, reader, writer)?;
-    Ok(progress)
+    answer_lines(
+        alloc,
+        &question,
+        &mut progress,
+        form_of(lines.ending),
+        reader,
+        writer,
+    )?;
+    Ok(Ended {
+        told: progress.told(alloc, note),
+        outcome: progress.outcome(),
+    })
 }

@@ -1,8 +1,11 @@
 //! What follows from the table of commands and from the parser of a command line. Each law is the contract of a
 //! function that does nothing.
-ghost use Rattle.sd_command_line.specs.Laws.{CommandsAreDistinct, DashesKeepTexts, DashesKeepTextsOfWhy};
-ghost use Rattle.sd_command_line.specs.Laws.{EachAsksTheCommand, HelpStandsAlone, InputAsksTheCommand};
-ghost use Rattle.sd_command_line.specs.Laws.{OptionsAreDistinct, OptionsKeepTexts};
+ghost use Rattle.std.specs.Prelude.{codes};
+ghost use Rattle.sd_command_line.specs.Laws.{CommandsAreDistinct, DashesKeepTexts, EachAsksTheCommand};
+ghost use Rattle.sd_command_line.specs.Laws.{HelpStandsAlone, InputAsksTheCommand, OptionsAreDistinct};
+ghost use Rattle.sd_command_line.specs.Laws.{OptionsKeepTexts};
+
+use sd_usage::TextCommand;
 
 /// No two commands have one name, and no two options: a text names at most one row of the table.
 pub fn names_are_distinct()
@@ -17,8 +20,8 @@ pub fn help_stands_alone()
 
 /// After `verdict --` and `why --` each argument is that of its place, whatever its text: an option too.
 pub fn dashes_keep_texts()
-    ensures verdict { DashesKeepTexts }
-    ensures why { DashesKeepTextsOfWhy }
+    ensures verdict { DashesKeepTexts TextCommand.Verdict (codes "verdict") }
+    ensures why { DashesKeepTexts TextCommand.Why (codes "why") }
     ensures with_options { OptionsKeepTexts }
 {}
 

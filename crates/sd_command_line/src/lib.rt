@@ -14,7 +14,6 @@
 mod answer;
 mod command_line;
 mod each;
-mod failure;
 mod flags;
 mod input;
 mod laws;
@@ -23,7 +22,6 @@ mod options;
 mod perform;
 mod program;
 mod scripts;
-mod shown;
 mod version;
 mod words;
 

@@ -100,15 +100,9 @@ pub(crate) fn message(alloc: Global, words: &[&str], mistake: Mistake) -> Result
 pub(crate) fn word_at<'a>(words: &[&'a str], left: usize) -> &'a str
     ensures { result.now ≡ word_at words.now left }
 {
-    match words {
-        [] => "",
-        [word, rest @ ..] => {
-            if words.len() == left {
-                word
-            } else {
-                word_at(rest, left)
-            }
-        }
+    match words.get(words.len().saturating_sub(left)) {
+        Some(word) => word,
+        None => "",
     }
 }
 

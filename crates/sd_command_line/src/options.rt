@@ -1,6 +1,5 @@
 //! What may stand between the program's name and the command, and what it says.
-ghost use Rattle.std.specs.Prelude.{◌≡◌, ◌⊎◌, ℕ, IfErr, IfNone, IfOk, IfSome, false, option_map};
-ghost use Rattle.std.specs.Option.{option_map_or};
+ghost use Rattle.std.specs.Prelude.{◌≡◌, ◌⊎◌, ℕ, IfErr, IfNone, IfOk, IfSome, option_map};
 ghost use Rattle.sd_text.specs.Domain.{domain_sid};
 ghost use Rattle.sd_text.specs.Grammar.{Spells};
 ghost use Rattle.sd_text.specs.Sid.{sid_text};
@@ -249,21 +248,11 @@ fn wrong_option(name: &str, options: Options<'_>, option: ProgramOption) -> Opti
     ensures { result ≡ wrong_option name.now (options_of options.entry) option }
 {
     if !takes_option(name, option.name) {
-        Some(Wrong::MisplacedOption(option.name))
-    } else if has_excluded(options, option) {
-        Some(Wrong::ExcludedOption)
-    } else {
-        None
+        return Some(Wrong::MisplacedOption(option.name));
     }
-}
-
-/// Whether an option is given that this one excludes.
-fn has_excluded(options: Options<'_>, option: ProgramOption) -> bool
-    ensures { result ≡ option_map_or (has (options_of options.entry)) option.excludes false }
-{
     match option.excludes {
-        Some(other) => options.has(other),
-        None => false,
+        Some(other) if options.has(other) => Some(Wrong::ExcludedOption),
+        _ => None,
     }
 }
 

@@ -1,30 +1,26 @@
 //! A command line, carried out over streams.
-ghost use Rattle.std.specs.Prelude.{◌≡◌, ◌≢◌, ◌||◌, ℕ, List, true, false, Err, IfErr, IfOk, string_bytes};
-ghost use Rattle.std.specs.Io.KnownBytes.{Appends};
+ghost use Rattle.std.specs.Prelude.{◌≡◌, ◌≢◌, ◌||◌, ℕ, List, Option, false, Err, IfErr, IfOk, string_bytes};
 ghost use Rattle.sd_stream.specs.Watched.{has_failed, inner_of};
-ghost use Rattle.sd_stream.specs.Streams.{AppendsBeginning, ReadsPart, is_read_error, is_write_error};
-ghost use Rattle.sd_commands.specs.Answer.{outcome_status};
-ghost use Rattle.sd_command_line.specs.CommandLine.{AskInput, Audit, Each, command_line_of, invocation_of, uses_input};
-ghost use Rattle.sd_command_line.specs.CommandLine.{asking, request_of, runs_script};
-ghost use Rattle.sd_command_line.specs.Options.{IsManner, is_strict, options_of};
-ghost use Rattle.sd_command_line.specs.Output.{AppendsAnswerTo, LeavesAfter, LeavesAfterFailure, blames_reader};
-ghost use Rattle.sd_command_line.specs.Output.{blames_writer};
-ghost use Rattle.sd_command_line.specs.Scripts.{IsToldOfScript, script_outcome};
+ghost use Rattle.sd_stream.specs.Streams.{ReadsPart, is_read_error, is_write_error};
+ghost use Rattle.sd_commands.specs.Answer.{answer_of, outcome_status};
+ghost use Rattle.sd_command_line.specs.Answer.{Answers, printed_under};
+ghost use Rattle.sd_command_line.specs.CommandLine.{CommandLineValue, Script, asking, command_line_of, invocation_of};
+ghost use Rattle.sd_command_line.specs.CommandLine.{uses_input};
+ghost use Rattle.sd_command_line.specs.Options.{options_of};
+ghost use Rattle.sd_command_line.specs.Output.{AppendsAnswerTo, LeavesAfter};
+ghost use Rattle.sd_command_line.specs.declared.command_line.ScriptRun.TheVariants.{Audit};
 
 use crate::answer::{answer_to, bad_value};
-use crate::command_line::{CommandLine, Invocation, TextRequest};
-use crate::each::{answer_each, no_line_note};
-use crate::failure::Failure;
-use crate::flags::Lines;
-use crate::input::answer_input;
+use crate::command_line::{CommandLine, Invocation, ScriptRun};
+use crate::each::answer_each;
 use crate::options::Options;
-use crate::scripts::{script_outcome, told_of_script};
-use crate::shown::Shown;
-use sd_commands::Outcome;
-use sd_script::{Manner, Tally, run, serve};
+use crate::scripts::end_of_script;
+use sd_commands::{Answer, Outcome};
+use sd_json::{Tagging, printed_as};
+use sd_script::{run, serve};
 use sd_script_audit::run_audit;
 use sd_store::OpenGate;
-use sd_stream::{RunError, Watched, read_whole, write_whole};
+use sd_stream::{RunError, Watched, write_whole};
 use std::alloc::Global;
 use std::io::{Read, Write};
 use std::sync::Wait;
@@ -44,124 +40,10 @@ pub(crate) fn perform<T: Threads + Wait + Sync, R: Read, W: Write>(
     line: CommandLine<'_>,
     reader: &mut Watched<R>,
     writer: &mut Watched<W>,
-) -> Result<Ended, Failure>
+) -> Result<Ended, RunError>
     ensures ok { IfOk result (λ ended. AppendsAnswerTo (command_line_of line.entry) (R.remaining (inner_of reader.old))
         (W.contents (inner_of writer.old)) (W.contents (inner_of writer.new)) (string_bytes ended.told)
         (outcome_status ended.outcome)) }
-    ensures err { IfErr result (LeavesAfterFailure (command_line_of line.entry) (R.remaining (inner_of reader.old))
-        (R.remaining (inner_of reader.new))
-        (W.contents (inner_of writer.old)) (W.contents (inner_of writer.new))) }
-    ensures read { has_failed reader.new ≡ (has_failed reader.old || blames_reader result) }
-    ensures write { has_failed writer.new ≡ (has_failed writer.old || blames_writer result) }
-    ensures too_long { result ≡ Err (Failure.Run RunError.TooLong)
-        → ReadsPart (R.remaining (inner_of reader.old)) (R.remaining (inner_of reader.new)) RunError.TooLong }
-    ensures thread { result ≡ Err (Failure.Run RunError.Thread)
-        → (workers : ℕ) × (invocation_of line.entry.invocation ≡ Audit workers) }
-    ensures unused { uses_input (invocation_of line.entry.invocation) ≡ false → reader.new ≡ reader.old }
-{
-    match line.invocation {
-        Invocation::AskInput { request } => {
-            perform_input(alloc, line.options, request, reader, writer)
-        }
-        Invocation::Script | Invocation::Serve { .. } | Invocation::Audit { .. } => {
-            perform_script(rt, alloc, line, reader, writer)
-        }
-        Invocation::Each { lines, request } => {
-            perform_each(alloc, line.options, lines, request, reader, writer)
-        }
-        _ => print(answer_to(alloc, line)?, writer),
-    }
-}
-
-/// Answers the text that the input is.
-fn perform_input<R: Read, W: Write>(
-    alloc: Global,
-    options: Options<'_>,
-    request: TextRequest<'_>,
-    reader: &mut Watched<R>,
-    writer: &mut Watched<W>,
-) -> Result<Ended, Failure>
-    ensures ok { IfOk result (λ ended. AppendsAnswerTo
-        (asking (options_of options.entry) (AskInput (request_of request.entry))) (R.remaining (inner_of reader.old))
-        (W.contents (inner_of writer.old)) (W.contents (inner_of writer.new)) (string_bytes ended.told)
-        (outcome_status ended.outcome)) }
-    ensures err { IfErr result (LeavesAfterFailure
-        (asking (options_of options.entry) (AskInput (request_of request.entry)))
-        (R.remaining (inner_of reader.old)) (R.remaining (inner_of reader.new))
-        (W.contents (inner_of writer.old)) (W.contents (inner_of writer.new))) }
-    ensures read { has_failed reader.new ≡ (has_failed reader.old || blames_reader result) }
-    ensures write { has_failed writer.new ≡ (has_failed writer.old || blames_writer result) }
-    ensures too_long { result ≡ Err (Failure.Run RunError.TooLong)
-        → ReadsPart (R.remaining (inner_of reader.old)) (R.remaining (inner_of reader.new)) RunError.TooLong }
-    ensures thread { result ≢ Err (Failure.Run RunError.Thread) }
-{
-    match options.settings() {
-        Ok(settings) => {
-            let input = read_whole(alloc, reader)?;
-            let answer = answer_input(alloc, settings, request, &input)?;
-            print(Shown::under(alloc, options, answer)?, writer)
-        }
-        Err(bad) => {
-            let answer = bad_value(alloc, bad)?;
-            print(Shown::under(alloc, options, answer)?, writer)
-        }
-    }
-}
-
-/// Carries out a script, at once, line by line or as an audit.
-fn perform_script<T: Threads + Wait + Sync, R: Read, W: Write>(
-    rt: &T,
-    alloc: Global,
-    line: CommandLine<'_>,
-    reader: &mut Watched<R>,
-    writer: &mut Watched<W>,
-) -> Result<Ended, Failure>
-    requires { runs_script (invocation_of line.invocation) ≡ true }
-    ensures ok { IfOk result (λ ended. AppendsAnswerTo (command_line_of line.entry) (R.remaining (inner_of reader.old))
-        (W.contents (inner_of writer.old)) (W.contents (inner_of writer.new)) (string_bytes ended.told)
-        (outcome_status ended.outcome)) }
-    ensures err { IfErr result (LeavesAfterFailure (command_line_of line.entry) (R.remaining (inner_of reader.old))
-        (R.remaining (inner_of reader.new))
-        (W.contents (inner_of writer.old)) (W.contents (inner_of writer.new))) }
-    ensures read { has_failed reader.new ≡ (has_failed reader.old || blames_reader result) }
-    ensures write { has_failed writer.new ≡ (has_failed writer.old || blames_writer result) }
-    ensures too_long { result ≡ Err (Failure.Run RunError.TooLong)
-        → ReadsPart (R.remaining (inner_of reader.old)) (R.remaining (inner_of reader.new)) RunError.TooLong }
-    ensures thread { result ≡ Err (Failure.Run RunError.Thread)
-        → (workers : ℕ) × (invocation_of line.entry.invocation ≡ Audit workers) }
-{
-    match line.options.manner() {
-        Ok(manner) => {
-            let tally = run_in(rt, alloc, &manner, line, reader, writer)?;
-            let is_strict = line.options.is_strict();
-            Ok(Ended {
-                told: told_of_script(alloc, is_strict, &tally),
-                outcome: script_outcome(is_strict, &tally),
-            })
-        }
-        Err(bad) => {
-            let answer = bad_value(alloc, bad)?;
-            print(Shown::under(alloc, line.options, answer)?, writer)
-        }
-    }
-}
-
-/// Runs a script in this manner, which is that of the line.
-fn run_in<T: Threads + Wait + Sync, R: Read, W: Write>(
-    rt: &T,
-    alloc: Global,
-    manner: &Manner,
-    line: CommandLine<'_>,
-    reader: &mut Watched<R>,
-    writer: &mut Watched<W>,
-) -> Result<Tally, RunError>
-    requires said { IsManner (options_of line.options) manner.now }
-    requires script { runs_script (invocation_of line.invocation) ≡ true }
-    ensures ok { IfOk result (λ tally. (told : List ℕ)
-        → IsToldOfScript (is_strict (options_of line.entry.options)) tally told
-        → AppendsAnswerTo (command_line_of line.entry) (R.remaining (inner_of reader.old))
-        (W.contents (inner_of writer.old)) (W.contents (inner_of writer.new)) told
-        (outcome_status (script_outcome (is_strict (options_of line.entry.options)) tally))) }
     ensures err { IfErr result (LeavesAfter (command_line_of line.entry) (R.remaining (inner_of reader.old))
         (R.remaining (inner_of reader.new))
         (W.contents (inner_of writer.old)) (W.contents (inner_of writer.new))) }
@@ -169,64 +51,95 @@ fn run_in<T: Threads + Wait + Sync, R: Read, W: Write>(
     ensures write { has_failed writer.new ≡ (has_failed writer.old || is_write_error result) }
     ensures too_long { result ≡ Err RunError.TooLong
         → ReadsPart (R.remaining (inner_of reader.old)) (R.remaining (inner_of reader.new)) RunError.TooLong }
-    ensures thread { result ≡ Err RunError.Thread → (workers : ℕ)
-        × (invocation_of line.entry.invocation ≡ Audit workers) }
+    ensures thread { result ≡ Err RunError.Thread
+        → (workers : ℕ) × (invocation_of line.entry.invocation ≡ Script (Audit workers)) }
+    ensures unused { uses_input (invocation_of line.entry.invocation) ≡ false → reader.new ≡ reader.old }
 {
     match line.invocation {
-        Invocation::Script => run(alloc, manner, reader, writer),
-        Invocation::Serve { has_ids } => serve(alloc, manner, has_ids, reader, writer),
-        Invocation::Audit { workers } => {
-            run_audit(rt, alloc, workers, manner, reader, writer, &OpenGate)
+        Invocation::Script(run) => perform_script(rt, alloc, line.options, run, reader, writer),
+        Invocation::Each { lines, request } => {
+            answer_each(alloc, line.options, lines, request, reader, writer)
         }
-        _ => unreachable!(),
+        _ => {
+            let answer = answer_to(alloc, line, reader)?;
+            print(alloc, line.options, answer, writer)
+        }
     }
 }
 
-/// Answers each line of the input.
-fn perform_each<R: Read, W: Write>(
+/// Carries out a script.
+fn perform_script<T: Threads + Wait + Sync, R: Read, W: Write>(
+    rt: &T,
     alloc: Global,
     options: Options<'_>,
-    lines: Lines,
-    request: TextRequest<'_>,
+    script_run: ScriptRun,
     reader: &mut Watched<R>,
     writer: &mut Watched<W>,
-) -> Result<Ended, Failure>
-    ensures ok { IfOk result (λ ended. AppendsAnswerTo
-        (asking (options_of options.entry) (Each lines (request_of request.entry))) (R.remaining (inner_of reader.old))
+) -> Result<Ended, RunError>
+    ensures ok { IfOk result (λ ended. AppendsAnswerTo (asking (options_of options.entry) (Script script_run))
+        (R.remaining (inner_of reader.old))
         (W.contents (inner_of writer.old)) (W.contents (inner_of writer.new)) (string_bytes ended.told)
         (outcome_status ended.outcome)) }
-    ensures err { IfErr result (LeavesAfterFailure
-        (asking (options_of options.entry) (Each lines (request_of request.entry)))
+    ensures err { IfErr result (LeavesAfter (asking (options_of options.entry) (Script script_run))
         (R.remaining (inner_of reader.old)) (R.remaining (inner_of reader.new))
         (W.contents (inner_of writer.old)) (W.contents (inner_of writer.new))) }
-    ensures read { has_failed reader.new ≡ (has_failed reader.old || blames_reader result) }
-    ensures write { has_failed writer.new ≡ (has_failed writer.old || blames_writer result) }
-    ensures too_long { result ≢ Err (Failure.Run RunError.TooLong) }
-    ensures thread { result ≢ Err (Failure.Run RunError.Thread) }
+    ensures read { has_failed reader.new ≡ (has_failed reader.old || is_read_error result) }
+    ensures write { has_failed writer.new ≡ (has_failed writer.old || is_write_error result) }
+    ensures too_long { result ≡ Err RunError.TooLong
+        → ReadsPart (R.remaining (inner_of reader.old)) (R.remaining (inner_of reader.new)) RunError.TooLong }
+    ensures thread { result ≡ Err RunError.Thread → (workers : ℕ) × (script_run ≡ Audit workers) }
 {
-    let note = no_line_note(alloc)?;
-    let progress = answer_each(alloc, options, lines, request, reader, writer)?;
-    Ok(Ended {
-        told: progress.told(alloc, note),
-        outcome: progress.outcome(),
-    })
+    let manner = match options.manner() {
+        Ok(manner) => manner,
+        Err(bad) => return print(alloc, options, bad_value(alloc, bad)?, writer),
+    };
+    match script_run {
+        ScriptRun::AtOnce => {
+            let tally = run(alloc, &manner, reader, writer)?;
+            Ok(end_of_script(alloc, options.is_strict(), &tally))
+        }
+        ScriptRun::LineByLine { has_ids } => {
+            let tally = serve(alloc, &manner, has_ids, reader, writer)?;
+            Ok(end_of_script(alloc, options.is_strict(), &tally))
+        }
+        ScriptRun::Audit { workers } => {
+            let tally = run_audit(rt, alloc, workers, &manner, reader, writer, &OpenGate)?;
+            Ok(end_of_script(alloc, options.is_strict(), &tally))
+        }
+    }
 }
 
-/// Prints an answer.
-fn print<W: Write>(shown: Shown, writer: &mut Watched<W>) -> Result<Ended, Failure>
-    ensures ok { IfOk result (λ ended. Appends (W.contents (inner_of writer.old)) (W.contents (inner_of writer.new))
-        shown.printed.items
-        × (string_bytes ended.told ≡ string_bytes shown.told) × (ended.outcome ≡ shown.outcome)) }
-    ensures err { IfErr result (λ failure. (failure ≡ Failure.Run RunError.Write)
-        × AppendsBeginning (W.contents (inner_of writer.old)) (W.contents (inner_of writer.new))
-        shown.printed.items) }
-    ensures write { has_failed writer.new ≡ (has_failed writer.old || blames_writer result) }
+/// Prints an answer as these options have it printed. It is the whole answer to each line that it answers so.
+fn print<W: Write>(
+    alloc: Global,
+    options: Options<'_>,
+    answer: Answer,
+    writer: &mut Watched<W>,
+) -> Result<Ended, RunError>
+    ensures ok { (line : CommandLineValue) → (input : Option (List ℕ))
+        → Answers input line (printed_under (options_of options.entry) (answer_of answer))
+        → IfOk result (λ ended. AppendsAnswerTo line input
+        (W.contents (inner_of writer.old)) (W.contents (inner_of writer.new)) (string_bytes ended.told)
+        (outcome_status ended.outcome)) }
+    ensures err { (line : CommandLineValue) → (input left : Option (List ℕ))
+        → Answers input line (printed_under (options_of options.entry) (answer_of answer))
+        → IfErr result (LeavesAfter line input left
+        (W.contents (inner_of writer.old)) (W.contents (inner_of writer.new))) }
+    ensures only { IfErr result (λ error. (error ≢ RunError.Read) × (error ≢ RunError.TooLong)
+        × (error ≢ RunError.Thread)) }
+    ensures write { has_failed writer.new ≡ (has_failed writer.old || is_write_error result) }
 {
-    let Shown {
-        printed,
+    let Answer {
+        text,
         told,
         outcome,
-    } = shown;
+    } = answer;
+    let printed = printed_as(
+        alloc,
+        options.is_json(),
+        Tagging::Nothing,
+        text.into_bytes(),
+    )?;
     write_whole(writer, &printed)?;
     Ok(Ended { told, outcome })
 }

@@ -1,20 +1,16 @@
 //! The program over any words and streams: words in, an answer and a status out.
-ghost use Rattle.std.specs.Prelude.{◌≡◌, ◌≤◌, ◌⊎◌, ◌||◌, ℕ, List, false, Some, Err, IfErr, IfOk, is_some};
-ghost use Rattle.std.specs.Prelude.{string_bytes};
+ghost use Rattle.std.specs.Prelude.{◌≡◌, ◌≤◌, ◌⊎◌, ℕ, List, false, Some, is_some};
 ghost use Rattle.std.specs.Io.KnownBytes.{Keeps};
 ghost use Rattle.sd_stream.specs.Watched.{has_failed, inner_of};
-ghost use Rattle.sd_stream.specs.Streams.{AppendsBeginning, ReadsPart};
+ghost use Rattle.sd_stream.specs.Streams.{AppendsBeginning};
 ghost use Rattle.sd_stream.specs.declared.error.RunError.{RunError as Error};
-ghost use Rattle.sd_command_line.specs.CommandLine.{IsAudit, IsUnread, asks_input, mistake_in, reading};
+ghost use Rattle.sd_command_line.specs.CommandLine.{IsUnread, asks_input, mistake_in, reading};
 ghost use Rattle.sd_command_line.specs.Laws.{shows};
 ghost use Rattle.sd_command_line.specs.Mistake.{message};
 ghost use Rattle.sd_command_line.specs.declared.mistake.Mistake.{Mistake};
-ghost use Rattle.sd_command_line.specs.Output.{AppendsAnswer, AppendsPartOfAnswer, IsDue, LeavesAtFailure};
-ghost use Rattle.sd_command_line.specs.Output.{LeavesByLine, blames_reader, blames_writer, error_line};
-ghost use Rattle.sd_commands.specs.Answer.{outcome_status};
+ghost use Rattle.sd_command_line.specs.Output.{AppendsAnswer, AppendsPartOfAnswer, IsDue, LeavesByLine, error_line};
 
 use crate::command_line::{Invocation, read_command_line};
-use crate::failure::Failure;
 use crate::mistake::message;
 use crate::perform::{Ended, perform};
 use sd_stream::{RunError, Watched, write_whole};
@@ -71,15 +67,27 @@ pub fn drive<T: Threads + Wait + Sync, R: Read, W: Write, E: Write>(
         × (has_failed writer.new ≡ has_failed writer.old) }
     ensures unused { asks_input words.now ≡ false → reader.new ≡ reader.old }
 {
-    match carry_out(rt, alloc, words, reader, writer) {
-        Ok(Ended { told, outcome }) => {
-            tell(errors, told.as_str());
-            outcome.status()
-        }
-        Err(failure) => {
-            tell(errors, failure.text());
-            failure.status()
-        }
+    match read_command_line(words) {
+        Ok(line) => match perform(rt, alloc, line, reader, writer) {
+            Ok(Ended { told, outcome }) => {
+                tell(errors, told.as_str());
+                outcome.status()
+            }
+            Err(error) => {
+                tell(errors, error_line(error));
+                3
+            }
+        },
+        Err(mistake) => match message(alloc, words, mistake) {
+            Ok(text) => {
+                tell(errors, text.as_str());
+                2
+            }
+            Err(_) => {
+                tell(errors, error_line(RunError::Memory));
+                3
+            }
+        },
     }
 }
 
@@ -120,28 +128,14 @@ fn tell<E: Write>(errors: &mut Watched<E>, text: &str)
     let _ = write_whole(errors, text.as_bytes());
 }
 
-fn carry_out<T: Threads + Wait + Sync, R: Read, W: Write>(
-    rt: &T,
-    alloc: Global,
-    words: &[&str],
-    reader: &mut Watched<R>,
-    writer: &mut Watched<W>,
-) -> Result<Ended, Failure>
-    ensures ok { IfOk result (λ ended. AppendsAnswer words.now (R.remaining (inner_of reader.old))
-        (W.contents (inner_of writer.old)) (W.contents (inner_of writer.new)) (string_bytes ended.told)
-        (outcome_status ended.outcome)) }
-    ensures err { IfErr result
-        (LeavesAtFailure words.now (R.remaining (inner_of reader.old)) (R.remaining (inner_of reader.new))
-        (W.contents (inner_of writer.old)) (W.contents (inner_of writer.new))) }
-    ensures read { has_failed reader.new ≡ (has_failed reader.old || blames_reader result) }
-    ensures write { has_failed writer.new ≡ (has_failed writer.old || blames_writer result) }
-    ensures too_long { result ≡ Err (Failure.Run RunError.TooLong)
-        → ReadsPart (R.remaining (inner_of reader.old)) (R.remaining (inner_of reader.new)) RunError.TooLong }
-    ensures thread { result ≡ Err (Failure.Run RunError.Thread) → IsAudit words.now }
-    ensures unused { asks_input words.now ≡ false → reader.new ≡ reader.old }
+fn error_line(error: RunError) -> &'static str
+    ensures { result.now ≡ error_line error }
 {
-    match read_command_line(words) {
-        Ok(line) => perform(rt, alloc, line, reader, writer),
-        Err(mistake) => Err(Failure::Unread(message(alloc, words, mistake)?)),
+    match error {
+        RunError::Read => "sdstore: read\n",
+        RunError::TooLong => "sdstore: too long\n",
+        RunError::Write => "sdstore: write\n",
+        RunError::Memory => "sdstore: memory\n",
+        RunError::Thread => "sdstore: thread\n",
     }
 }

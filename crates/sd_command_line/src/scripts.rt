@@ -4,34 +4,28 @@ ghost use Rattle.std.specs.Fmt.{decimal};
 ghost use Rattle.sd_command_line.specs.Scripts.{IsToldOfScript, expect_note, first_fault_under, has_failed, line_note};
 ghost use Rattle.sd_command_line.specs.Scripts.{mark_note, script_notes, script_outcome};
 
+use crate::perform::Ended;
 use sd_commands::{Outcome, told_line};
 use sd_script::Tally;
 use std::alloc::{AllocError, Global};
 
-/// What standard error says of a script: the byte order mark that it begins with; the first line whose node inherits
-/// otherwise than it did, and the first whose node's own entries were put in order; where that is asked for, the first
-/// fault or refusal; and how many answers were expected, and weren't given. Nothing, if out of memory for it: the
-/// output stands by then.
-pub(crate) fn told_of_script(alloc: Global, strict: bool, tally: &Tally) -> String
-    ensures { IsToldOfScript strict tally.now (string_bytes result) }
-{
-    match script_notes(alloc, strict, tally) {
-        Ok(notes) => notes,
-        Err(_) => String::new(alloc),
-    }
-}
-
-/// Whether the script did what was asked for: each answer that it expected was given, and where that is asked for no
-/// line had a fault, was refused or imported another node.
+/// What came of a script: whether it did what was asked for, that is each answer that it expected was given, and where
+/// that is asked for no line had a fault, was refused or imported another node. Standard error is told of the byte
+/// order mark that it begins with; of the first line whose node inherits otherwise than it did, and the first whose
+/// node's own entries were put in order; where that is asked for, of the first fault or refusal; and how many answers
+/// were expected, and weren't given. Of nothing, if out of memory for it: the output stands by then.
 #[tactic(auto, unfolding(crate::specs::Scripts::script_outcome))]
-pub(crate) fn script_outcome(strict: bool, tally: &Tally) -> Outcome
-    ensures { result ≡ script_outcome strict tally.now }
+pub(crate) fn end_of_script(alloc: Global, strict: bool, tally: &Tally) -> Ended
+    ensures told { IsToldOfScript strict tally.now (string_bytes result.told) }
+    ensures outcome { result.outcome ≡ script_outcome strict tally.now }
 {
-    if tally.first_unmet.is_some() || (strict && has_failed(tally)) {
+    let told = script_notes(alloc, strict, tally).unwrap_or(String::new(alloc));
+    let outcome = if tally.first_unmet.is_some() || (strict && has_failed(tally)) {
         Outcome::Refused
     } else {
         Outcome::Done
-    }
+    };
+    Ended { told, outcome }
 }
 
 /// Whether some line had a fault or was refused, or imported a node whose entries aren't as they were elsewhere.

@@ -10,7 +10,6 @@
 //! ```
 #![tactic(auto)]
 
-mod described;
 mod names;
 mod notes;
 mod options;

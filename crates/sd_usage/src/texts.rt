@@ -2,7 +2,7 @@
 
 use crate::names::{Commands, listed_commands, usage_line};
 use crate::notes::notes_of;
-use crate::row::{Argument, CommandRow, Flag, Flags, OptionRow};
+use crate::row::{Argument, CommandRow, Flag, OptionRow};
 use std::alloc::{AllocError, Global};
 
 const USER: &str = "The user's SID: in full, as S-1-5-21-1-2-3-1001, or an alias, as SY";
@@ -64,16 +64,6 @@ impl CommandTexts {
             Argument::CommandArgument => "The command's arguments without the first",
         }
     }
-}
-
-/// A command's own options, in order.
-pub(crate) fn own_options(alloc: Global, flags: Flags) -> Result<Vec<Flag>, AllocError> {
-    let options = match flags {
-        Flags::Nothing => Vec::new(alloc),
-        Flags::One(flag) => Vec::from_array(alloc, [flag])?,
-        Flags::Two(first, second) => Vec::from_array(alloc, [first, second])?,
-    };
-    Ok(options)
 }
 
 /// What a command's own option does.
