@@ -25,8 +25,8 @@ pub(crate) enum Form {
 }
 
 impl Command {
-    /// The verdict on a descriptor, where the user, the mask and words are the arguments; or the fault of the first from
-    /// the left that is invalid.
+    /// The verdict on a descriptor, where the user, the mask and words are the arguments; or the fault of the first
+    /// from the left that is invalid.
     pub(crate) fn verdict(self, form: Form, descriptor: &Descriptor, arguments: &[&str]) -> Answered
         ensures { IfOk result (λ answer. AnswersUser self.settings form (argument arguments.now 0)
             (argument arguments.now 1) (drop 2 arguments.now) (descriptor_of descriptor.now) (answer_of answer)) }
