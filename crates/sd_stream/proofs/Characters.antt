@@ -1,9 +1,10 @@
 -- The characters at the front of bytes of UTF-16.
-use Rattle.std.proofs.Common.{◌≡◌, ℕ, ◌-◌, ◌<◌, ◌≤◌, ◌^◌, Bool, true, false, ◌&&◌, leb, ltb, List, [], ◌∷◌, ◌++◌, length, take, drop, get_or, Option, Some, None, refl, sym, ap, append_assoc, arith}
+use Rattle.std.proofs.Common.{◌≡◌, ℕ, ◌-◌, ◌<◌, ◌≤◌, ◌^◌, true, false, ◌&&◌, leb, ltb, List, [], ◌∷◌, ◌++◌, length, take, drop, get_or, Option, Some, None, refl, sym, ap, append_assoc, arith}
 use Rattle.std.specs.Prelude.{MatchOption, SomeIff}
 use Rattle.std.specs.Char.{InScalarRange, IsScalar, OutOfScalarRange}
 use Rattle.std.specs.Char.Utf16.{is_high_surrogate, is_low_surrogate, lone_unit_char, surrogate_pair_char, utf16_chars}
 use Rattle.std.specs.List.{flat_map}
+use Rattle.std.proofs.lemmas.Bool.{and_parts}
 use Rattle.std.proofs.lemmas.Bool.Decides.{nat_tests}
 use Rattle.std.proofs.lemmas.List.{take_all}
 use Rattle.std.proofs.lemmas.Str.{utf16_chars-nil, utf16_chars_lone, utf16_chars_pair}
@@ -23,22 +24,11 @@ two_bytes (a ∷ b ∷ rest) some = ap (λ l. a ∷ b ∷ l) (sym (take_all (len
 abbrev AreSurrogates : ℕ → ℕ → Type 0
 AreSurrogates u v = (0xD800 ≤ u) × (u < 0xDC00) × (0xDC00 ≤ v) × (v < 0xE000)
 
-and_false : (x y : Bool) → (x && y) ≡ false → x ≡ true → y ≡ true → ⊥
-and_false true true is one two = cc
-and_false true false is one two = cc
-and_false false y is one two = cc
-
-and_both : (x y : Bool) → (x && y) ≡ true → (x ≡ true) × (y ≡ true)
-and_both true y is = (refl, is)
-and_both false y is = absurd cc
-
 within_false : (low high u : ℕ) → (leb low u && ltb u high) ≡ false → low ≤ u → u < high → ⊥
-within_false low high u is one two = and_false (leb low u) (ltb u high) is (grind (arith, nat_tests)) (grind (arith, nat_tests))
+within_false low high u is one two = grind (arith, nat_tests)
 
 within_true : (low high u : ℕ) → (leb low u && ltb u high) ≡ true → (low ≤ u) × (u < high)
-within_true low high u is =
-    let both = and_both (leb low u) (ltb u high) is in
-    (grind (arith, nat_tests), grind (arith, nat_tests))
+within_true low high u is = let both = and_parts (leb low u) (ltb u high) is in (grind (arith, nat_tests), grind (arith, nat_tests))
 
 text_lone : (order : ByteOrder) (a b : ℕ) (rest : List ℕ) → (AreSurrogates (unit order a b) (get_or (units_in order rest) 0 0) → ⊥)
     → utf16_text order (a ∷ b ∷ rest) ≡ char_text (lone_unit_char (unit order a b)) ++ utf16_text order rest
