@@ -1,8 +1,8 @@
 //! The history of a writer's edits, in the order in which it accepted them. It exists in the proofs alone.
 //!
 //! One writer publishes its edits to other threads in several ways, and two threads that compare what they have seen
-//! need to know that one has seen a prefix of the other's edits. A `HistoryWriter` appends to the history. A `Front` is a
-//! prefix of it that was seen: it has no bytes, any thread may copy it, and of two fronts of one history one is a
+//! need to know that one has seen a prefix of the other's edits. A `HistoryWriter` appends to the history. A `Front` is
+//! a prefix of it that was seen: it has no bytes, any thread may copy it, and of two fronts of one history one is a
 //! prefix of the other. Put a front in a struct, beside a value, and let the struct's invariant say that the front's
 //! edits are those of the value: then the edits of any two such values are comparable, in any thread.
 //!

@@ -1,7 +1,8 @@
 //! One line of an answer as an object.
 
 ghost use Rattle.std.specs.Prelude.{◌≡◌, ◌++◌, ℕ, List, OnOk, option_map};
-ghost use Rattle.sd_json.specs.Lines.{first_of, fits, line_members, object, plain_object, row_of, tagged_object, words_of};
+ghost use Rattle.sd_json.specs.Lines.{first_of, fits, line_members, object, plain_object, row_of, tagged_object};
+ghost use Rattle.sd_json.specs.Lines.{words_of};
 
 use crate::cut::cut;
 use crate::members::{fits, push_members};

@@ -1,8 +1,8 @@
 //! The lines of an input and their answers, one line after the other.
 //!
-//! `AnswersLines` says how one line is answered, and what that changes for the lines after it. `answer_lines` reads an input
-//! to its end and writes the answers, and `answer_text` appends the answers to the lines of a text; `AreAnswered` in
-//! specs/Answers.antt is what both say. What has been written where a run ended early is `LeavesAnswers` in
+//! `AnswersLines` says how one line is answered, and what that changes for the lines after it. `answer_lines` reads an
+//! input to its end and writes the answers, and `answer_text` appends the answers to the lines of a text; `AreAnswered`
+//! in specs/Answers.antt is what both say. What has been written where a run ended early is `LeavesAnswers` in
 //! specs/Output.antt. `Form` says what ends a line and when its answer is written. All lines that have ended are
 //! answered, and their answers flushed, before more is read, so another program may ask a line, wait for its answer and
 //! ask the next.

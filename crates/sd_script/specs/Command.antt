@@ -29,8 +29,8 @@ use Rattle.sd_script.specs.declared.asked.TokenQuestion.TheVariants as questions
 use Rattle.sd_script.specs.declared.deletion.OnUser.{OnUser}
 use Rattle.sd_script.specs.declared.command.Command.{Command}
 use Rattle.sd_script.specs.declared.command.ScriptCommand.{ScriptCommand}
-use Rattle.sd_script.specs.declared.command.ScriptCommand.TheVariants.{Open, AddContainer, AddObject, SetOwner, SetGroup}
-use Rattle.sd_script.specs.declared.command.ScriptCommand.TheVariants.{SetDacl, Remove, Protect, Move, Publish, Tell}
+use Rattle.sd_script.specs.declared.command.ScriptCommand.TheVariants.{Open, AddContainer, AddObject, SetOwner}
+use Rattle.sd_script.specs.declared.command.ScriptCommand.TheVariants.{SetGroup, SetDacl, Remove, Protect, Move, Publish, Tell}
 use Rattle.sd_script.specs.declared.command.ScriptCommand.TheVariants.{Learn, Check, Why, Find, Show, ListNodes, Dump}
 use Rattle.sd_script.specs.declared.command.ScriptCommand.TheVariants.{Who, Review, ImportNode, Delete}
 use Rattle.sd_script.specs.declared.fault.LineFault.TheVariants as faults
