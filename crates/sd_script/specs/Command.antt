@@ -30,9 +30,9 @@ use Rattle.sd_script.specs.declared.deletion.OnUser.{OnUser}
 use Rattle.sd_script.specs.declared.command.Command.{Command}
 use Rattle.sd_script.specs.declared.command.ScriptCommand.{ScriptCommand}
 use Rattle.sd_script.specs.declared.command.ScriptCommand.TheVariants.{Open, AddContainer, AddObject, SetOwner}
-use Rattle.sd_script.specs.declared.command.ScriptCommand.TheVariants.{SetGroup, SetDacl, Remove, Protect, Move, Publish}
-use Rattle.sd_script.specs.declared.command.ScriptCommand.TheVariants.{Tell, Learn, Check, Why, Find, Show, ListNodes}
-use Rattle.sd_script.specs.declared.command.ScriptCommand.TheVariants.{Dump, Who, Review, ImportNode, Delete}
+use Rattle.sd_script.specs.declared.command.ScriptCommand.TheVariants.{SetGroup, SetDacl, Remove, Protect, Move}
+use Rattle.sd_script.specs.declared.command.ScriptCommand.TheVariants.{Publish, Tell, Learn, Check, Why, Find, Show}
+use Rattle.sd_script.specs.declared.command.ScriptCommand.TheVariants.{ListNodes, Dump, Who, Review, ImportNode, Delete}
 use Rattle.sd_script.specs.declared.fault.LineFault.TheVariants as faults
 use Rattle.sd_script.specs.declared.fault.LineStop.{LineStop}
 use Rattle.sd_script.specs.declared.importing.Import.{Import}
