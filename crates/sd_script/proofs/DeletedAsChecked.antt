@@ -23,54 +23,38 @@ letter k xs = get_or xs k 0
 after_seen : (len : ℕ) (xs ys : List ℕ) → seen_line len xs ≡ seen_line len ys → xs ≡ ys
 after_seen len xs ys same = append_cancel_left (codes "seen " ++ decimal len ++ codes " ") xs ys same
 
--- a text that begins otherwise isn't a grant
-no_grant : (spelling : Spelling) (len : ℕ) (xs : List ℕ) → (letter 0 xs ≡ 103 → ⊥) → IsGranted spelling len (seen_line len xs) → ⊥
-no_grant spelling len xs other (mask, is) =
-    other (ap (letter 0) (after_seen len xs (line (codes "granted " ++ spelled spelling mask)) is))
+abbrev AreAlike : Spelling → ℕ → List ℕ → List ℕ → Type 0
+AreAlike spelling len checked deleted =
+    (IsGranted spelling len checked → deleted ≡ by_node_line len) × (deleted ≡ by_node_line len → IsGranted spelling len checked)
+
+-- neither is a grant: the one begins otherwise
+neither : (spelling : Spelling) (len : ℕ) (xs ys : List ℕ) → (letter 0 xs ≡ 103 → ⊥) → (ys ≡ line (codes "granted by node") → ⊥)
+    → AreAlike spelling len (seen_line len xs) (seen_line len ys)
+neither spelling len xs ys other others = (
+  λ is. absurd (other (ap (letter 0) (after_seen len xs (line (codes "granted " ++ spelled spelling is.0)) is.1))),
+  λ is. absurd (others (after_seen len ys (line (codes "granted by node")) is)),
+)
 
 abbrev otherwise : Bool → List ℕ
 otherwise by_parent = if by_parent then line (codes "granted by parent") else line (codes "denied")
 
-not_by_node : (len : ℕ) (by_parent : Bool) → seen_line len (otherwise by_parent) ≡ by_node_line len → ⊥
-not_by_node len true is =
-    let same = after_seen len (line (codes "granted by parent")) (line (codes "granted by node")) is in
-    let there : 112 ≡ 110 = ap (letter 11) same in
-    omega (arith, there)
-not_by_node len false is =
-    let same = after_seen len (line (codes "denied")) (line (codes "granted by node")) is in
-    let there : 100 ≡ 103 = ap (letter 0) same in
-    omega (arith, there)
-
-no_node : (len : ℕ) → seen_line len (line (codes "nonode")) ≡ by_node_line len → ⊥
-no_node len is =
-    let same = after_seen len (line (codes "nonode")) (line (codes "granted by node")) is in
-    let there : 110 ≡ 103 = ap (letter 0) same in
-    omega (arith, there)
-
-abbrev AreAlike : Spelling → ℕ → List ℕ → List ℕ → Type 0
-AreAlike spelling len checked deleted =
-    (IsGranted spelling len checked → deleted ≡ by_node_line len) × (deleted ≡ by_node_line len → IsGranted spelling len checked)
+not_by_node : (by_parent : Bool) → otherwise by_parent ≡ line (codes "granted by node") → ⊥
+not_by_node true is = let there : 112 ≡ 110 = ap (letter 11) is in omega (arith, there)
+not_by_node false is = let there : 100 ≡ 103 = ap (letter 0) is in omega (arith, there)
 
 -- by the reply to the check
 replies_alike : (spelling : Spelling) (len : ℕ) (reply : CheckReply) (by_parent : Bool)
     → AreAlike spelling len (seen_line len (check_line spelling reply)) (seen_line len (deletion_line reply by_parent))
 replies_alike spelling len (Verdict (Granted mask)) by_parent = (λ is. refl, λ is. (mask, refl))
-replies_alike spelling len (Verdict (Denied mask)) by_parent = (
-  λ is. absurd (no_grant spelling len (line (codes "denied " ++ spelled spelling mask)) (λ h. omega (arith, h)) is),
-  λ is. absurd (not_by_node len by_parent is),
-)
-replies_alike spelling len (Verdict (Reserved mask)) by_parent = (
-  λ is. absurd (no_grant spelling len (line (codes "reserved " ++ spelled spelling mask)) (λ h. omega (arith, h)) is),
-  λ is. absurd (not_by_node len by_parent is),
-)
-replies_alike spelling len (Verdict EmptyRequest) by_parent = (
-  λ is. absurd (no_grant spelling len (line (codes "empty")) (λ h. omega (arith, h)) is),
-  λ is. absurd (not_by_node len by_parent is),
-)
-replies_alike spelling len NoNode by_parent = (
-  λ is. absurd (no_grant spelling len (line (codes "nonode")) (λ h. omega (arith, h)) is),
-  λ is. absurd (no_node len is),
-)
+replies_alike spelling len (Verdict (Denied mask)) by_parent =
+    neither spelling len (line (codes "denied " ++ spelled spelling mask)) (otherwise by_parent) (λ h. omega (arith, h)) (not_by_node by_parent)
+replies_alike spelling len (Verdict (Reserved mask)) by_parent =
+    neither spelling len (line (codes "reserved " ++ spelled spelling mask)) (otherwise by_parent) (λ h. omega (arith, h)) (not_by_node by_parent)
+replies_alike spelling len (Verdict EmptyRequest) by_parent =
+    neither spelling len (line (codes "empty")) (otherwise by_parent) (λ h. omega (arith, h)) (not_by_node by_parent)
+replies_alike spelling len NoNode by_parent =
+    neither spelling len (line (codes "nonode")) (line (codes "nonode")) (λ h. omega (arith, h))
+    (λ is. let there : 110 ≡ 103 = ap (letter 0) is in omega (arith, there))
 
 -- whether the reader is there or not
 for_reader_alike : (spelling : Spelling) (is_there : Bool) (m looked : Machine) (len : ℕ) (reply : CheckReply) (by_parent : Bool)

@@ -1,6 +1,5 @@
 pub mod Askings
 pub mod Beginnings
-pub mod Cutting
 pub mod Deleted
 pub mod DeletedAsChecked
 pub mod Dumping

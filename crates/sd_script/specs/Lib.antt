@@ -19,3 +19,4 @@ pub mod Tally
 pub mod View
 pub mod Who
 pub mod Review
+pub mod Wanted

@@ -1,25 +1,21 @@
 //! A published tree as lines of a script.
-ghost use Rattle.std.specs.Prelude.{◌≡◌, ◌∷◌, IfOk, [], string_bytes};
+ghost use Rattle.std.specs.Prelude.{◌≡◌, IfOk, option_map, string_bytes};
 ghost use Rattle.std.specs.Bool.{Decides};
 ghost use Rattle.std.specs.FinMap.{entries};
 ghost use Rattle.sd_tree.specs.Journal.{replay};
 ghost use Rattle.sd_tree.specs.Listing.{listed};
-ghost use Rattle.std.specs.Str.Lines.{lines};
 ghost use Rattle.sd_acl.specs.Descriptor.{descriptor_of};
 ghost use Rattle.sd_tree.specs.Descriptors.{own_descriptor_of_row};
-ghost use Rattle.sd_script.specs.Dump.{AreAskedBy, IsAskedBy, IsDumpOf, IsReadBack, adding_word};
-ghost use Rattle.sd_script.specs.Dump.{making, making_line, making_lines};
-ghost use Rattle.sd_script.specs.declared.asked.Asked.TheVariants.{Asking};
-ghost use Rattle.sd_desk.specs.declared.request.Request.TheVariants.{Publish};
+ghost use Rattle.sd_script.specs.Dump.{IsAskedBy, IsDumpOf, IsReadBack, adding_word, making_line, making_lines};
+ghost use Rattle.sd_script.specs.Wanted.{wanted};
 
-use crate::asked::Asked;
 use crate::fault::LineStop;
 use crate::line::read_line;
 use crate::lines::is_silent;
 use crate::manner::Notation;
 use crate::paths::path_word;
 use crate::reply::shown_sddl;
-use crate::same::{is_making, is_publishing};
+use crate::same::is_wanted;
 use sd_acl::Descriptor;
 use sd_answer::fault_line;
 use sd_lines::{Ending, first_line};
@@ -115,62 +111,37 @@ fn is_read_back(
         (IsReadBack notation readers (replay tree.now.opening tree.now.journal) text.now)) }
 {
     let mut rest = text;
-    for index in 0..tree.node_count() {
+    for index in 0..=tree.node_count() {
         if rest.is_empty() {
             return Ok(false);
         }
         let (line, after) = first_line(Ending::Feed, rest);
-        let Some(node) = tree.node(index) else {
-            unreachable!()
-        };
+        let node = tree.node(index);
         if !is_read_as(alloc, notation, index > 0, line, readers, &node)? {
             return Ok(false);
         }
         rest = after;
     }
-    is_read_as_publish(alloc, notation, tree.node_count() > 0, rest)
+    Ok(rest.is_empty())
 }
 
-/// Whether a line is parsed to what makes the node.
+/// Whether a line is parsed to what makes the node, or to a publish after the last one.
 fn is_read_as(
     alloc: Global,
     notation: Notation,
     is_open: bool,
     line: &[u8],
     readers: u64,
-    node: &NodeRef<'_>,
+    node: &Option<NodeRef<'_>>,
 ) -> Result<bool, AllocError>
     ensures { IfOk result (λ is. Decides is
-        (IsAskedBy notation is_open line.now (making readers (listed node.now).0 (listed node.now).1))) }
+        (IsAskedBy notation is_open line.now (wanted readers (option_map listed node.now)))) }
 {
     if is_silent(line) {
         return Ok(false);
     }
     match read_line(alloc, notation, is_open, line) {
-        Ok(asked) => Ok(is_making(&asked, readers, node)),
-        Err(LineStop::Fault(_)) => Ok(false),
-        Err(LineStop::Memory) => Err(AllocError),
-    }
-}
-
-/// Whether a text is one line, which asks for a publish.
-fn is_read_as_publish(
-    alloc: Global,
-    notation: Notation,
-    is_open: bool,
-    text: &[u8],
-) -> Result<bool, AllocError>
-    ensures { IfOk result (λ is. Decides is (AreAskedBy notation is_open (lines text.now) (Asking Publish ∷ []))) }
-{
-    if text.is_empty() {
-        return Ok(false);
-    }
-    let (line, after) = first_line(Ending::Feed, text);
-    if !after.is_empty() || is_silent(line) {
-        return Ok(false);
-    }
-    match read_line(alloc, notation, is_open, line) {
-        Ok(asked) => Ok(is_publishing(&asked)),
+        Ok(asked) => Ok(is_wanted(&asked, readers, node)),
         Err(LineStop::Fault(_)) => Ok(false),
         Err(LineStop::Memory) => Err(AllocError),
     }

@@ -4,7 +4,7 @@ use Rattle.sd_script.proofs.dump.is_read_as.Goals as goal
 
 pub returns-in-Ok : goal.returns-in-Ok
 returns-in-Ok c =
-    read_decides c.args.notation c.args.is_open c.args.line.now c.in-Ok.asked _ c.is_making.result (sym c.is_silent.ensures ∙ c.if-is_silent.false) c.in-Ok.ensures c.is_making.ensures
+    read_decides c.args.notation c.args.is_open c.args.line.now c.in-Ok.asked _ c.is_wanted.result (sym c.is_silent.ensures ∙ c.if-is_silent.false) c.in-Ok.ensures c.is_wanted.ensures
 
 pub returns-in-Err-Fault : goal.returns-in-Err-Fault
 returns-in-Err-Fault c =
