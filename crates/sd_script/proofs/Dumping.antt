@@ -23,8 +23,7 @@ use Rattle.sd_tree.proofs.Moved.{entry_there}
 use Rattle.sd_tree.proofs.Rows.{one_path, path_itself}
 use Rattle.sd_answer.specs.Answer.{line}
 use Rattle.sd_script.specs.Command.{line_asks}
-use Rattle.sd_script.specs.Dump.{adding_word, making, makings, making_line, IsAskedBy, AreAskedBy}
-use Rattle.sd_script.specs.Wanted.{wanted}
+use Rattle.sd_script.specs.Dump.{adding_word, making, makings, making_line, wanted, IsAskedBy, AreAskedBy}
 use Rattle.sd_script.specs.Lines.{is_silent}
 use Rattle.sd_script.specs.Paths.{path_word}
 use Rattle.sd_script.specs.Reply.{shown_sddl}
@@ -161,16 +160,16 @@ module _ (notation : Notation) (readers : ℕ) (es : List (Names × Row)) where
   nothing_asks k low = rw (next_wanted readers es k low) (λ e. absurd (false≢true e), λ are. absurd are)
 
   -- the first line asks for something else
-  pub asks_otherwise : (texts : List (List ℕ)) (text rest : List ℕ) (k : ℕ) (here : Option (Names × Row)) → k ≤ length es → here ≡ slice_get es k
-      → texts ≡ text ∷ lines rest → Decides false (IsAskedBy notation (nat_lt 0 k) text (wanted readers here)) → Decides false (AreLeft texts k)
-  asks_otherwise texts text rest k here low is cut other =
+  pub asks_otherwise : (texts : List (List ℕ)) (text rest : List ℕ) (k : ℕ) (node : Option (Names × Row)) → k ≤ length es → node ≡ slice_get es k
+      → texts ≡ text ∷ lines rest → Decides false (IsAskedBy notation (nat_lt 0 k) text (wanted readers node)) → Decides false (AreLeft texts k)
+  asks_otherwise texts text rest k node low is cut other =
       rw (cut, next_wanted readers es k low, ← is) (λ e. absurd (false≢true e), λ are. other.1 are.0)
 
   -- it asks for what is wanted
-  pub asks_this : (texts : List (List ℕ)) (text rest : List ℕ) (k : ℕ) (here : Option (Names × Row)) (r : Bool) → k ≤ length es → here ≡ slice_get es k
-      → texts ≡ text ∷ lines rest → Decides true (IsAskedBy notation (nat_lt 0 k) text (wanted readers here)) → Decides r (AreLeft (lines rest) (k + 1))
+  pub asks_this : (texts : List (List ℕ)) (text rest : List ℕ) (k : ℕ) (node : Option (Names × Row)) (r : Bool) → k ≤ length es → node ≡ slice_get es k
+      → texts ≡ text ∷ lines rest → Decides true (IsAskedBy notation (nat_lt 0 k) text (wanted readers node)) → Decides r (AreLeft (lines rest) (k + 1))
       → Decides r (AreLeft texts k)
-  asks_this texts text rest k here r low is cut this more =
+  asks_this texts text rest k node r low is cut this more =
       let is_open : nat_lt 0 (k + 1) ≡ true = lt-ltb 0 (k + 1) (omega arith) in
       let others = rw is_open at more in
       rw (cut, next_wanted readers es k low, ← is) (λ e. (this.0 refl, others.0 e), λ are. others.1 are.1)

@@ -4,7 +4,7 @@ pub mod Fault
 pub mod Expect
 pub mod Laws
 pub mod Lines
-pub mod Find
+pub mod Question
 pub mod Output
 pub mod Reply
 pub mod Ids
@@ -19,4 +19,3 @@ pub mod Tally
 pub mod View
 pub mod Who
 pub mod Review
-pub mod Wanted

@@ -3,8 +3,7 @@ ghost use Rattle.std.specs.Prelude.{◌≡◌, option_map};
 ghost use Rattle.std.specs.Bool.{Decides};
 ghost use Rattle.sd_tree.specs.Listing.{listed};
 ghost use Rattle.sd_script.specs.Addition.{addition};
-ghost use Rattle.sd_script.specs.Dump.{making, root_of};
-ghost use Rattle.sd_script.specs.Wanted.{wanted};
+ghost use Rattle.sd_script.specs.Dump.{making, root_of, wanted};
 
 use crate::asked::Asked;
 use sd_desk::Request;
