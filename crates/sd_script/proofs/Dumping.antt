@@ -1,15 +1,15 @@
 -- The lines that make a tree, and whether they are read as what makes it.
-use Rattle.std.proofs.Common.{◌≡◌, ℕ, ◌+◌, ◌<◌, ◌≤◌, Bool, true, false, List, [], ◌∷◌, ◌++◌, length, Option, Some, None, Result, Ok, Err, refl, sym, ◌∙◌, ap, subst, inl, inr, add-one, append_assoc, append-nil, arith}
-use Rattle.std.specs.Prelude.{IfOk, drop, nat_lt, slice_get, option_map, codes}
+use Rattle.std.proofs.Common.{◌≡◌, ℕ, zero, suc, ◌+◌, ◌<◌, ◌≤◌, Bool, true, false, List, [], ◌∷◌, ◌++◌, length, Option, Some, None, Result, Ok, Err, refl, sym, ◌∙◌, ap, subst, inl, inr, add-one, append_assoc, append-nil, arith}
+use Rattle.std.specs.Prelude.{drop, nat_lt, take, slice_get, option_map, codes}
 use Rattle.std.specs.Bool.{Decides}
 use Rattle.std.specs.Fmt.{decimal}
 use Rattle.std.specs.FinMap.{entries, len, len-entries}
-use Rattle.std.specs.List.{flat_map, position_or_len, before_first, after_first}
+use Rattle.std.specs.List.{flat_map, position_or_len}
 use Rattle.std.specs.Ordering.{eq_by_cmp}
-use Rattle.std.specs.declared.alloc.AllocError.{AllocError}
-use Rattle.std.specs.Str.Lines.{lines, strip_carriage_return}
-use Rattle.std.proofs.Math.ListN.{drop_of_length-le}
+use Rattle.std.specs.Str.Lines.{lines}
+use Rattle.std.proofs.Math.ListN.{drop_of_length-le, length-map}
 use Rattle.std.proofs.Math.Seq.{drop-cons}
+use Rattle.std.proofs.lemmas.List.{length-append, take_all}
 use Rattle.std.proofs.lemmas.Bool.{cases_lt, false≢true, lt-ltb}
 use Rattle.std.proofs.lemmas.Option.{get_or_from_slice_get, slice_get_cases, slice_get_within}
 use Rattle.sd_acl.specs.Descriptor.{DescriptorValue}
@@ -23,14 +23,18 @@ use Rattle.sd_tree.proofs.Moved.{entry_there}
 use Rattle.sd_tree.proofs.Rows.{one_path, path_itself}
 use Rattle.sd_answer.specs.Answer.{line}
 use Rattle.sd_script.specs.Command.{line_asks}
-use Rattle.sd_script.specs.Dump.{adding_word, making, makings, making_line, IsAskedBy, AreAskedBy}
+use Rattle.sd_script.specs.Dump.{adding_word, making, makings, making_line, wanted, IsAskedBy, AreAskedBy}
 use Rattle.sd_script.specs.Lines.{is_silent}
 use Rattle.sd_script.specs.Paths.{path_word}
 use Rattle.sd_script.specs.Reply.{shown_sddl}
+use Rattle.sd_desk.specs.declared.request.Request.TheVariants.{Publish}
 use Rattle.sd_script.specs.declared.asked.Asked.{Asked}
+use Rattle.sd_script.specs.declared.asked.Asked.TheVariants.{Asking}
 use Rattle.sd_script.specs.declared.fault.LineFault.{LineFault}
 use Rattle.sd_script.specs.declared.manner.Notation.{Notation}
-use Rattle.sd_script.proofs.Cutting.{feeds, lines_first, lines_whole}
+use Rattle.sd_lines.specs.Lines.{HasNoEnd}
+use Rattle.sd_lines.specs.declared.ending.Ending.TheVariants.{Feed}
+use Rattle.sd_lines.proofs.Cutting.{cut_at_end, ends, lines_cut, lines_last, none_before}
 use Rattle.sd_script.proofs.OneReading.{line-one}
 
 -- the order of paths tells whether they are one
@@ -121,79 +125,60 @@ pub fault_decides : (notation : Notation) (is_open : Bool) (text : List ℕ) (fa
 fault_decides notation is_open text fault wanted loud asks =
     decides_read notation is_open text (Err fault) wanted false loud asks (λ e. absurd (false≢true e), λ e. absurd (cc (e)))
 
--- ---- lines
-
-pub no_lines : (xs : List ℕ) → length xs ≡ 0 → lines xs ≡ []
-no_lines [] none = refl
-no_lines (x ∷ xs) none = absurd (omega arith)
+-- ---- the lines that are left
 
 some_lines : (xs : List ℕ) → 0 < length xs → (x : List ℕ) × (more : List (List ℕ)) × (lines xs ≡ x ∷ more)
-some_lines xs some = elim (cases_lt (position_or_len feeds xs) (length xs)) [
-  | inl low ↦ (strip_carriage_return (before_first feeds xs), lines (after_first feeds xs), lines_first xs low)
-  | inr whole ↦ (xs, [], lines_whole xs some whole)
+some_lines xs some = elim (cases_lt (position_or_len (ends Feed) xs) (length xs)) [
+  | inl low ↦
+      let n = position_or_len (ends Feed) xs in
+      (_, lines (drop (n + 1) xs), ap lines (cut_at_end Feed xs low) ∙ lines_cut Feed (take n xs) (drop (n + 1) xs) (none_before Feed xs))
+  | inr whole ↦
+      let all = take_all (position_or_len (ends Feed) xs) xs whole in
+      (xs, [], lines_last Feed xs (subst (HasNoEnd Feed) all (none_before Feed xs)) some)
 ]
 
--- a text whose first line is this, and nothing behind it
-pub one_line : (notation : Notation) (is_open : Bool) (texts : List (List ℕ)) (text rest : List ℕ) (wanted : Asked) (r : Bool) → texts ≡ text ∷ lines rest → length rest ≡ 0
-    → Decides r (IsAskedBy notation is_open text wanted) → Decides r (AreAskedBy notation is_open texts (wanted ∷ []))
-one_line notation is_open texts text rest wanted r cut none decides =
-    let whole : texts ≡ text ∷ [] = cut ∙ ap (λ more. text ∷ more) (no_lines rest none) in
-    rw whole (λ e. (decides.0 e, tt), λ are. decides.1 are.0)
+-- what is left to be asked for after so many lines: the nodes that are left, and the publish
+abbrev pub left : ℕ → List (Names × Row) → ℕ → List Asked
+left readers es k = drop k (makings readers es ++ Asking Publish ∷ [])
 
--- more lines than one are asked by more than one
-pub not_one_line : (notation : Notation) (is_open : Bool) (texts : List (List ℕ)) (text rest : List ℕ) (wanted : Asked) → texts ≡ text ∷ lines rest → 0 < length rest
-    → AreAskedBy notation is_open texts (wanted ∷ []) → ⊥
-not_one_line notation is_open texts text rest wanted cut some are =
-    let more = some_lines rest some in
-    let whole : texts ≡ text ∷ more.0 ∷ more.1 = cut ∙ ap (λ xs. text ∷ xs) more.2 in
-    (subst (λ xs. AreAskedBy notation is_open xs (wanted ∷ [])) whole are).1
+next_wanted : (readers : ℕ) (es : List (Names × Row)) (k : ℕ) → k ≤ length es → left readers es k ≡ wanted readers (slice_get es k) ∷ left readers es (k + 1)
+next_wanted readers [] zero low = refl
+next_wanted readers [] (suc k) low = absurd (omega (arith, low))
+next_wanted readers (e ∷ es) zero low = refl
+next_wanted readers (e ∷ es) (suc k) low = let next = next_wanted readers es k (omega (arith, low)) in simp add-one (simp add-one at next)
 
-pub silent_line : (notation : Notation) (is_open : Bool) (texts : List (List ℕ)) (text rest : List ℕ) (wanted : Asked) → texts ≡ text ∷ lines rest → is_silent text ≡ true
-    → AreAskedBy notation is_open texts (wanted ∷ []) → ⊥
-silent_line notation is_open texts text rest wanted cut silent are =
-    let asked = subst (λ xs. AreAskedBy notation is_open xs (wanted ∷ [])) cut are in
-    false≢true (sym asked.0.0 ∙ silent)
+none_wanted : (readers : ℕ) (es : List (Names × Row)) (k : ℕ) → k ≡ length es + 1 → left readers es k ≡ []
+none_wanted readers es k is =
+    drop_of_length-le (makings readers es ++ Asking Publish ∷ []) (omega (arith, is, length-append (makings readers es) (Asking Publish ∷ []), length-map es (λ (node : Names × Row). making readers node.0 node.1)))
 
--- ---- the nodes that are left
+module _ (notation : Notation) (readers : ℕ) (es : List (Names × Row)) where
+  abbrev pub AreLeft : List (List ℕ) → ℕ → Type 0
+  AreLeft texts k = AreAskedBy notation (nat_lt 0 k) texts (left readers es k)
 
--- two facts that hold together
-pub record Same (P Q : Type 0) : Type 0 where
-  pub there : P → Q
-  pub back : Q → P
+  -- no line is left, but something is wanted
+  pub nothing_asks : (k : ℕ) → k ≤ length es → Decides false (AreLeft [] k)
+  nothing_asks k low = rw (next_wanted readers es k low) (λ e. absurd (false≢true e), λ are. absurd are)
 
-module _ (notation : Notation) (readers : ℕ) (es : List (Names × Row)) (behind : List Asked) where
-  abbrev Left : Bool → List (List ℕ) → ℕ → Type 0
-  Left is_open texts k = AreAskedBy notation is_open texts (makings readers (drop k es) ++ behind)
+  -- the first line asks for something else
+  pub asks_otherwise : (texts : List (List ℕ)) (text rest : List ℕ) (k : ℕ) (node : Option (Names × Row)) → k ≤ length es → node ≡ slice_get es k
+      → texts ≡ text ∷ lines rest → Decides false (IsAskedBy notation (nat_lt 0 k) text (wanted readers node)) → Decides false (AreLeft texts k)
+  asks_otherwise texts text rest k node low is cut other =
+      rw (cut, next_wanted readers es k low, ← is) (λ e. absurd (false≢true e), λ are. other.1 are.0)
 
-  -- the first of the lines that are left is the next node's, and the others are left behind it
-  left_is : (is_open : Bool) (texts : List (List ℕ)) (text : List ℕ) (more : List (List ℕ)) (k : ℕ) (node : Names × Row) → Some node ≡ slice_get es k
-      → texts ≡ text ∷ more → Same (IsAskedBy notation is_open text (making readers node.0 node.1) × Left true more (k + 1)) (Left is_open texts k)
-  left_is is_open texts text more k node is cut = rw (cut, next_left es k node is) (record { there = λ x. (x.0, x.1); back = λ x. (x.0, x.1) })
+  -- it asks for what is wanted
+  pub asks_this : (texts : List (List ℕ)) (text rest : List ℕ) (k : ℕ) (node : Option (Names × Row)) (r : Bool) → k ≤ length es → node ≡ slice_get es k
+      → texts ≡ text ∷ lines rest → Decides true (IsAskedBy notation (nat_lt 0 k) text (wanted readers node)) → Decides r (AreLeft (lines rest) (k + 1))
+      → Decides r (AreLeft texts k)
+  asks_this texts text rest k node r low is cut this more =
+      let is_open : nat_lt 0 (k + 1) ≡ true = lt-ltb 0 (k + 1) (omega arith) in
+      let others = rw is_open at more in
+      rw (cut, next_wanted readers es k low, ← is) (λ e. (this.0 refl, others.0 e), λ are. others.1 are.1)
 
-  opened : (k : ℕ) → nat_lt 0 (k + 1) ≡ true
-  opened k = lt-ltb 0 (k + 1) (omega arith)
-
-  pub next_same : (texts : List (List ℕ)) (text : List ℕ) (more : List (List ℕ)) (k : ℕ) (node : Names × Row) (whole : Type 0) → Some node ≡ slice_get es k
-      → texts ≡ text ∷ more → IsAskedBy notation (nat_lt 0 k) text (making readers node.0 node.1) → Same (Left (nat_lt 0 k) texts k) whole
-      → Same (Left (nat_lt 0 (k + 1)) more (k + 1)) whole
-  next_same texts text more k node whole is cut asked same =
-      let split = left_is (nat_lt 0 k) texts text more k node is cut in
-      rw (opened k) (record { there = λ left. same.there (split.there (asked, left)); back = λ all. (split.back (same.back all)).1 })
-
-  pub not_next : (texts : List (List ℕ)) (text : List ℕ) (more : List (List ℕ)) (k : ℕ) (node : Names × Row) (whole : Type 0) → Some node ≡ slice_get es k
-      → texts ≡ text ∷ more → (IsAskedBy notation (nat_lt 0 k) text (making readers node.0 node.1) → ⊥) → Same (Left (nat_lt 0 k) texts k) whole → whole → ⊥
-  not_next texts text more k node whole is cut unasked same all = unasked ((left_is (nat_lt 0 k) texts text more k node is cut).back (same.back all)).0
-
--- where no node is left, what is asked last tells of all
-pub last_same : (notation : Notation) (readers : ℕ) (t : PlainTree) (behind : List Asked) (texts : List (List ℕ)) (k n : ℕ) (whole : Type 0) → n ≡ len t → k ≡ n
-    → Same (AreAskedBy notation (nat_lt 0 k) texts (makings readers (drop k (entries t)) ++ behind)) whole → Same (AreAskedBy notation (nat_lt 0 n) texts behind) whole
-last_same notation readers t behind texts k n whole count at same =
-    let none = nothing_left t k n count (omega (arith, at)) in
-    let P : List (Names × Row) → Type 0 = λ es. Same (AreAskedBy notation (nat_lt 0 k) texts (makings readers es ++ behind)) whole in
-    let left : Same (AreAskedBy notation (nat_lt 0 k) texts behind) whole = subst P none same in
-    let Q : ℕ → Type 0 = λ m. Same (AreAskedBy notation (nat_lt 0 m) texts behind) whole in
-    subst Q at left
-
-pub tells_of_all : {P Q : Type 0} (r : Result Bool AllocError) → Same P Q → IfOk r (λ is. Decides is P) → IfOk r (λ is. Decides is Q)
-tells_of_all (Ok is) same decides = (λ e. same.there (decides.0 e), λ all. decides.1 (same.back all))
-tells_of_all (Err e) same decides = tt
+  -- nothing is wanted any more
+  pub all_asked : (text : List ℕ) (k : ℕ) (r : Bool) → k ≡ length es + 1 → Decides r (length text ≡ 0) → Decides r (AreLeft (lines text) k)
+  all_asked text k r is empty = rw (none_wanted readers es k is) (by_text text empty) where
+    by_text : (text : List ℕ) → Decides r (length text ≡ 0) → Decides r (AreAskedBy notation (nat_lt 0 k) (lines text) [])
+    by_text [] empty = (λ e. tt, λ are. empty.1 refl)
+    by_text (x ∷ xs) empty =
+        let some = some_lines (x ∷ xs) (omega arith) in
+        rw (some.2) (λ e. absurd (omega (arith, empty.0 e)), λ are. absurd are)

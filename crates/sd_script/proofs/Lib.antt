@@ -1,10 +1,7 @@
+pub mod AsChecked
 pub mod Askings
-pub mod Beginnings
-pub mod Cutting
 pub mod Deleted
-pub mod DeletedAsChecked
 pub mod Dumping
-pub mod Found
 pub mod NoId
 pub mod OneOutput
 pub mod OneReading
@@ -14,4 +11,4 @@ pub mod Reviewed
 pub mod Silence
 pub mod Splitting
 pub mod Timely
-mod Untold
+pub mod Untold

@@ -1,16 +1,13 @@
 -- A text has one output: a line is read as one thing, and a request has one reply that has a line.
 use Rattle.std.proofs.Common.{◌≡◌, ℕ, ◌<◌, ◌≤◌, Bool, true, false, List, [], ◌∷◌, ◌++◌, length, Option, Some, None, Ok, Err, inl, inr, refl, sym, ◌∙◌, ap, subst, arith, take}
-use Rattle.std.specs.Prelude.{MatchBool, codes, if◌then◌else◌, nat_lt, nat_le, option_map}
+use Rattle.std.specs.Prelude.{MatchBool, codes, if◌then◌else◌, nat_lt, nat_le}
 use Rattle.std.specs.Bool.{one_answer}
 use Rattle.std.specs.List.{All}
 use Rattle.std.specs.Str.Lines.{lines}
 use Rattle.std.proofs.lemmas.Bool.{lt-ltb, le-ltb, le-leb, lt-leb}
 use Rattle.std.proofs.lemmas.List.Elements.{All-head, All-tail}
-use Rattle.sd_sid.specs.Mapping.{MappingValue}
 use Rattle.sd_acl.specs.declared.ace.Ace.{Ace}
-use Rattle.sd_acl.specs.Descriptor.{DescriptorValue, descriptor_of}
-use Rattle.sd_acl.specs.declared.descriptor.Descriptor.{Descriptor}
-use Rattle.sd_tree.specs.Answers.{answer, descriptor_at, kind_at}
+use Rattle.sd_tree.specs.Answers.{answer, descriptor_at}
 use Rattle.sd_tree.specs.Journal.{replay}
 use Rattle.sd_tree.specs.Names.{Names}
 use Rattle.sd_tree.specs.declared.edit.Edit.{Edit}
@@ -26,17 +23,16 @@ use Rattle.sd_desk.specs.declared.request.Request.TheVariants as requests
 use Rattle.sd_versions.specs.declared.start.StartError.{StartError}
 use Rattle.sd_versions.specs.declared.start.StartError.TheVariants as starts
 use Rattle.sd_answer.specs.Answer.{line}
-use Rattle.sd_script.specs.Deletion.{delete_right, deletion_line, deletion_reply, parent_grants}
 use Rattle.sd_script.specs.Dump.{IsDump}
 use Rattle.sd_script.specs.Expect.{expect_line, expects, is_met, last_after}
 use Rattle.sd_script.specs.Fault.{line_of_fault}
-use Rattle.sd_script.specs.Find.{found_in, found_reply}
 use Rattle.sd_script.specs.Laws.{AsksNoAnalysis, HasOneAnswer, HasOneOutput, is_analysis}
 use Rattle.sd_script.specs.Lines.{is_silent}
 use Rattle.sd_script.specs.Importing.{IsImported, imported_line}
 use Rattle.sd_lines.specs.Answers.{AreAnswered}
 use Rattle.sd_script.specs.Output.{is_open, manner_of, IsOpened, IsAnswered, IsDone, IsTold, IsNext, begun, closing_of}
-use Rattle.sd_script.specs.Reply.{check_line, counted_line, refused_line, reply_line, seen_line, shown_line, shown_sddl, start_error_line}
+use Rattle.sd_script.specs.Question.{for_reader}
+use Rattle.sd_script.specs.Reply.{check_line, counted_line, refused_line, reply_line, seen_line, shown_line, start_error_line}
 use Rattle.sd_script.specs.declared.asked.Asked.{Asked}
 use Rattle.sd_script.specs.declared.asked.Asked.TheVariants.{Opening, Asking, Explaining, Finding, Deleting, Viewing, Importing}
 use Rattle.sd_script.specs.declared.carried.Carried.{Carried}
@@ -46,13 +42,9 @@ use Rattle.sd_script.specs.declared.session.Session.{Session}
 use Rattle.sd_script.specs.declared.session.Session.TheVariants.{Opened}
 use Rattle.sd_script.specs.Tally.{tallied}
 use Rattle.sd_script.specs.View.{IsViewed}
-use Rattle.sd_script.specs.declared.listing.Which.TheVariants.{Granting}
 use Rattle.sd_script.specs.declared.view.View.{View}
 use Rattle.sd_script.specs.declared.view.View.TheVariants.{List as Lists, Dump, Who, Review}
-use Rattle.sd_script.specs.Reply.{explained_reply, node_why_text}
-use Rattle.sd_answer.specs.Why.{why_text}
 use Rattle.sd_answer.specs.declared.answer.Spelling.{Spelling}
-use Rattle.sd_check.specs.Token.{TokenValue}
 use Rattle.sd_script.proofs.OneReading.{line-one}
 
 -- ---- requests
@@ -61,19 +53,12 @@ abbrev pub pair : List ℕ → Machine → List ℕ × Machine
 pair printed m = (printed, m)
 
 -- what is printed for a request that isn't answered by want of memory, and the machine then
-abbrev for_reader : Machine → ℕ → List ℕ × Machine → List ℕ × Machine
-for_reader m reader there = if nat_lt reader (length m.floors) then there else (line (codes "noreader"), m)
-
 abbrev learned : Machine → ℕ → List Edit → List ℕ × Machine
 learned m reader floor = (counted_line (codes "learned") (length floor), with_floor m reader floor)
 
 abbrev pub edited : Machine → Edit → Option EditRefusal → List ℕ × Machine
 edited m e None = (line (codes "ok"), with_edit m e)
 edited m e (Some refusal) = (refused_line refusal, m)
-
-abbrev shown : Spelling → Option DescriptorValue → List ℕ
-shown spelling (Some d) = line (codes "shown " ++ shown_sddl spelling d)
-shown spelling None = line (codes "nonode")
 
 abbrev pub outcome : Spelling → Machine → Request → List ℕ × Machine
 outcome spelling m (requests.Edit e) = edited m e (due m e)
@@ -84,11 +69,7 @@ outcome spelling m (requests.Learn reader len) = for_reader m reader
 outcome spelling m (requests.Check reader names t asked) = for_reader m reader
     (seen_line (length m.published) (check_line spelling (answer m.opening m.published names t asked)), with_look m reader)
 outcome spelling m (requests.Show reader names) = for_reader m reader
-    (seen_line (length m.published) (shown spelling (descriptor_at m.opening.mapping (replay m.opening m.published) names)), with_look m reader)
-
-shown_is : (spelling : Spelling) (d : Option Descriptor) → shown_line spelling d ≡ shown spelling (option_map descriptor_of d)
-shown_is spelling (Some d) = refl
-shown_is spelling None = refl
+    (seen_line (length m.published) (shown_line spelling (descriptor_at m.opening.mapping (replay m.opening m.published) names)), with_look m reader)
 
 printed_is : (xs ys : List ℕ) (m n : Machine) → Some xs ≡ Some ys → n ≡ m → pair ys n ≡ pair xs m
 printed_is xs ys m n text machine = let same : xs ≡ ys = cc (text) in rw (machine, same) refl
@@ -98,6 +79,14 @@ there m reader x low = rw (lt-ltb reader (length m.floors) low) refl
 
 absent : (m : Machine) (reader : ℕ) (x : List ℕ × Machine) → length m.floors ≤ reader → for_reader m reader x ≡ pair (line (codes "noreader")) m
 absent m reader x high = rw (le-ltb reader (length m.floors) high) refl
+
+-- what holds of two outcomes where the reader is there, and where it isn't
+pub by_reader : (P : List ℕ × Machine → List ℕ × Machine → Type 0) (m : Machine) (reader : ℕ) (x y : List ℕ × Machine) → P x y
+    → P (pair (line (codes "noreader")) m) (pair (line (codes "noreader")) m) → P (for_reader m reader x) (for_reader m reader y)
+by_reader P m reader x y is none = by_test (nat_lt reader (length m.floors)) where
+  by_test : (is_there : Bool) → P (if is_there then x else pair (line (codes "noreader")) m) (if is_there then y else pair (line (codes "noreader")) m)
+  by_test true = is
+  by_test false = none
 
 pub one_step : (spelling : Spelling) (old : Machine) (r : Request) (reply : Reply) (new : Machine) (printed : List ℕ)
     → Steps old r reply new → reply_line spelling reply ≡ Some printed → pair printed new ≡ outcome spelling old r
@@ -119,70 +108,12 @@ one_step spelling old (requests.Check reader names t asked) (replies.Answered gi
 one_step spelling old (requests.Show reader names) replies.NoReader new printed is text =
     printed_is _ printed _ new text is.1 ∙ sym (absent old reader _ is.0)
 one_step spelling old (requests.Show reader names) (replies.Shown seen d) new printed is text =
-    printed_is _ printed _ new (ap (λ n. Some (seen_line n (shown spelling (descriptor_at old.opening.mapping (replay old.opening old.published) names)))) (sym is.1)
-    ∙ ap (λ x. Some (seen_line seen (shown spelling x))) (sym is.2) ∙ ap (λ x. Some (seen_line seen x)) (sym (shown_is spelling d)) ∙ text) is.3 ∙ sym (there old reader _ is.0)
+    printed_is _ printed _ new (ap (λ n. Some (seen_line n (shown_line spelling (descriptor_at old.opening.mapping (replay old.opening old.published) names)))) (sym is.1)
+    ∙ ap (λ x. Some (seen_line seen (shown_line spelling x))) (sym is.2) ∙ text) is.3 ∙ sym (there old reader _ is.0)
 one_step spelling old (requests.Edit e) replies.Memory new printed is text = absurd (cc (text))
 one_step spelling old requests.Publish replies.Memory new printed is text = absurd (cc (text))
 one_step spelling old (requests.Show reader names) replies.Memory new printed is text = absurd (cc (text))
 one_step spelling old r reply new printed is text = absurd is
-
--- what is told of why, and the machine then
-abbrev pub reasons : Spelling → MappingValue → TokenValue → ℕ → Option DescriptorValue → List ℕ
-reasons spelling g t asked (Some d) = why_text g spelling d t asked
-reasons spelling g t asked None = line (codes "nonode")
-
-abbrev pub explained : Spelling → Machine → ℕ → Names → TokenValue → ℕ → List ℕ × Machine
-explained spelling m reader names t asked = for_reader m reader
-    (seen_line (length m.published) (reasons spelling m.opening.mapping t asked (descriptor_at m.opening.mapping (replay m.opening m.published) names)), with_look m reader)
-
-reasons_are : (spelling : Spelling) (g : MappingValue) (t : TokenValue) (asked : ℕ) (d : Option Descriptor)
-    → node_why_text spelling g t asked d ≡ reasons spelling g t asked (option_map descriptor_of d)
-reasons_are spelling g t asked (Some d) = refl
-reasons_are spelling g t asked None = refl
-
-pub one_explained : (spelling : Spelling) (old : Machine) (reader : ℕ) (names : Names) (t : TokenValue) (asked : ℕ) (reply : Reply) (new : Machine) (printed : List ℕ)
-    → Steps old (requests.Show reader names) reply new → explained_reply spelling old.opening.mapping t asked reply ≡ Some printed
-    → pair printed new ≡ explained spelling old reader names t asked
-one_explained spelling old reader names t asked replies.NoReader new printed is text =
-    printed_is _ printed _ new text is.1 ∙ sym (absent old reader _ is.0)
-one_explained spelling old reader names t asked (replies.Shown seen d) new printed is text =
-    printed_is _ printed _ new (ap (λ n. Some (seen_line n (reasons spelling old.opening.mapping t asked (descriptor_at old.opening.mapping (replay old.opening old.published) names)))) (sym is.1)
-    ∙ ap (λ x. Some (seen_line seen (reasons spelling old.opening.mapping t asked x))) (sym is.2) ∙ ap (λ x. Some (seen_line seen x)) (sym (reasons_are spelling old.opening.mapping t asked d)) ∙ text) is.3 ∙ sym (there old reader _ is.0)
-one_explained spelling old reader names t asked replies.Memory new printed is text = absurd (cc (text))
-one_explained spelling old reader names t asked reply new printed is text = absurd is
-
--- the nodes that are found, and the machine then
-abbrev found : Notation → Machine → ℕ → Names → TokenValue → ℕ → List ℕ × Machine
-found notation m reader names t asked = for_reader m reader (
-  found_in notation m.opening.mapping (replay m.opening m.published) names (Granting t asked) (length m.published)
-      (kind_at (replay m.opening m.published) names),
-  with_look m reader,
-)
-
-one_found : (notation : Notation) (old : Machine) (reader : ℕ) (names : Names) (t : TokenValue) (asked : ℕ) (reply : Reply) (new : Machine) (printed : List ℕ)
-    → Steps old (requests.Show reader names) reply new → found_reply notation new names (Granting t asked) reply ≡ Some printed
-    → pair printed new ≡ found notation old reader names t asked
-one_found notation old reader names t asked replies.NoReader new printed is text =
-    printed_is _ printed _ new text is.1 ∙ sym (absent old reader _ is.0)
-one_found notation old reader names t asked (replies.Shown seen d) new printed is text =
-    printed_is _ printed _ new (ap (λ n. found_reply notation (with_look old reader) names (Granting t asked) (replies.Shown n d)) (sym is.1)
-    ∙ ap (λ n. found_reply notation n names (Granting t asked) (replies.Shown seen d)) (sym is.3) ∙ text) is.3 ∙ sym (there old reader _ is.0)
-one_found notation old reader names t asked replies.Memory new printed is text = absurd (cc (text))
-one_found notation old reader names t asked reply new printed is text = absurd is
-
--- whether a node may be deleted, and the machine then
-abbrev pub deleted : Machine → Bool → ℕ → Names → TokenValue → List ℕ × Machine
-deleted m by_parent reader names t = for_reader m reader
-    (seen_line (length m.published) (deletion_line (answer m.opening m.published names t delete_right) by_parent), with_look m reader)
-
-pub one_deletion : (spelling : Spelling) (old : Machine) (by_parent : Bool) (reader : ℕ) (names : Names) (t : TokenValue) (reply : Reply) (new : Machine) (printed : List ℕ)
-    → Steps old (requests.Check reader names t delete_right) reply new → deletion_reply spelling by_parent reply ≡ Some printed
-    → pair printed new ≡ deleted old by_parent reader names t
-one_deletion spelling old by_parent reader names t replies.NoReader new printed is text =
-    printed_is _ printed _ new text is.1 ∙ sym (absent old reader _ is.0)
-one_deletion spelling old by_parent reader names t (replies.Answered given) new printed is text =
-    printed_is _ printed _ new (ap (λ g. deletion_reply spelling by_parent (replies.Answered g)) (sym is.1) ∙ text) is.2 ∙ sym (there old reader _ is.0)
-one_deletion spelling old by_parent reader names t reply new printed is text = absurd is
 
 -- ---- openings
 
@@ -272,16 +203,9 @@ done-one old (Opening readers root) p q x y one other =
 done-one (Opened notation m) (Asking r) p q x y one other =
     let same = one_step notation.spelling m r one.0 one.1 p one.2 one.3 ∙ sym (one_step notation.spelling m r other.0 other.1 q other.2 other.3) in
     (λ plain. ap (λ (z : List ℕ × Machine). z.0) same, one.4 ∙ ap (λ (z : List ℕ × Machine). Opened notation z.1) same ∙ sym other.4)
-done-one (Opened notation m) (Explaining reader names t asked) p q x y one other =
-    let same = one_explained notation.spelling m reader names t asked one.0 one.1 p one.2 one.3 ∙ sym (one_explained notation.spelling m reader names t asked other.0 other.1 q other.2 other.3) in
-    (λ plain. ap (λ (z : List ℕ × Machine). z.0) same, one.4 ∙ ap (λ (z : List ℕ × Machine). Opened notation z.1) same ∙ sym other.4)
-done-one (Opened notation m) (Finding reader names t asked) p q x y one other =
-    let same = one_found notation m reader names t asked one.0 one.1 p one.2 one.3 ∙ sym (one_found notation m reader names t asked other.0 other.1 q other.2 other.3) in
-    (λ plain. ap (λ (z : List ℕ × Machine). z.0) same, one.4 ∙ ap (λ (z : List ℕ × Machine). Opened notation z.1) same ∙ sym other.4)
-done-one (Opened notation m) (Deleting reader names t) p q x y one other =
-    let by_parent = parent_grants m.opening m.published names t in
-    let same = one_deletion notation.spelling m by_parent reader names t one.0 one.1 p one.2 one.3 ∙ sym (one_deletion notation.spelling m by_parent reader names t other.0 other.1 q other.2 other.3) in
-    (λ plain. ap (λ (z : List ℕ × Machine). z.0) same, one.4 ∙ ap (λ (z : List ℕ × Machine). Opened notation z.1) same ∙ sym other.4)
+done-one (Opened notation m) (Explaining reader names t asked) p q x y one other = (λ plain. one.0 ∙ sym other.0, one.1 ∙ sym other.1)
+done-one (Opened notation m) (Finding reader names t asked) p q x y one other = (λ plain. one.0 ∙ sym other.0, one.1 ∙ sym other.1)
+done-one (Opened notation m) (Deleting reader names t) p q x y one other = (λ plain. one.0 ∙ sym other.0, one.1 ∙ sym other.1)
 done-one (Opened notation m) (Viewing view) p q x y one other = (λ plain. viewed-one notation m view p q plain one.0 other.0, one.1 ∙ sym other.1)
 done-one (Opened notation m) (Importing e path given) p q x y one other =
     let stepped = step-one notation.spelling m e one.0 other.0 one.1 other.1 p q path given one.2 other.2 one.3 other.3 in

@@ -1,5 +1,5 @@
 -- What a line can ask for: an opening where no store is open, and something of a store where one is.
-use Rattle.std.proofs.Common.{◌≡◌, ⊎_elim, ℕ, List, [], ◌∷◌, Bool, true, false, not, Option, Some, None, Ok, Err, inl, inr, refl, sym, subst, ◌∙◌}
+use Rattle.std.proofs.Common.{◌≡◌, ⊎_elim, ℕ, List, [], ◌∷◌, Bool, true, false, not, Option, Some, None, Ok, Err, inl, inr, refl, sym, subst}
 use Rattle.std.specs.Prelude.{⊤, MatchBool, if◌then◌else◌, option_map}
 use Rattle.sd_sid.specs.Sid.{SidValue}
 use Rattle.sd_check.specs.Token.{TokenValue}
@@ -13,16 +13,13 @@ use Rattle.sd_script.specs.Command.{Arguments, Asks, Number, Path, Sid, Mask, To
 use Rattle.sd_script.specs.Command.{asks, asks_where, command_of, imports, is_untimely, kind_named, line_asks, reads, reads_where}
 use Rattle.sd_script.specs.Fault.{Reading, Then}
 use Rattle.sd_script.specs.Lines.{words_of}
-use Rattle.sd_script.specs.Output.{is_open, line_asks_in}
+use Rattle.sd_script.specs.Output.{opens}
 use Rattle.sd_script.specs.declared.asked.Asked.{Asked}
-use Rattle.sd_script.specs.declared.asked.Asked.TheVariants.{Opening, Asking, Explaining, Finding, Deleting, Viewing, Importing}
 use Rattle.sd_script.specs.declared.command.ScriptCommand.{ScriptCommand}
 use Rattle.sd_script.specs.declared.command.ScriptCommand.TheVariants.{Open, AddContainer, AddObject, SetOwner, SetGroup, SetDacl, Remove, Protect, Move, Publish, Tell, Learn, Check, Why, Find, Show, ListNodes, Dump, Who, Review, ImportNode, Delete}
 use Rattle.sd_script.specs.declared.fault.LineFault.TheVariants as faults
 use Rattle.sd_script.specs.declared.importing.Import.{Import}
 use Rattle.sd_script.specs.declared.manner.Notation.{Notation}
-use Rattle.sd_script.specs.declared.session.Session.{Session}
-use Rattle.sd_script.specs.declared.session.Session.TheVariants.{Closed, Opened}
 
 -- ---- what holds of all that a reading gives
 
@@ -30,15 +27,6 @@ abbrev Gives : {A : Type 0} → (A → Type 0) → Reading A → Type 0
 Gives {A = A} P reading = (a : A) → reading (Ok a) → P a
 
 -- ---- openings
-
-abbrev pub opens : Asked → Bool
-opens (Opening readers root) = true
-opens (Asking r) = false
-opens (Explaining reader path token asked) = false
-opens (Finding reader path token asked) = false
-opens (Deleting reader path token) = false
-opens (Viewing view) = false
-opens (Importing edit path given) = false
 
 abbrev is_opening : ScriptCommand → Bool
 is_opening Open = true
@@ -138,8 +126,3 @@ where_open notation is_open (Some command) b h =
 -- a line opens a store just where none is open
 pub line_opens : (notation : Notation) (is_open : Bool) (line : List ℕ) → Gives (Opens (not is_open)) (line_asks notation is_open line)
 line_opens notation is_open line b h = ⊎_elim (λ x. where_open notation is_open (command_of (words_of line)) b x.1) (λ x. absurd (cc (x.1))) h
-
--- where a line asks something of a store, one is open
-pub open_where_asked : (old : Session) (line : List ℕ) (asked : Asked) → opens asked ≡ false → line_asks_in old line (Ok asked) → is_open old ≡ true
-open_where_asked (Opened notation machine) line asked of_store h = refl
-open_where_asked (Closed manner) line asked of_store h = absurd (let same = sym of_store ∙ line_opens manner.notation false line asked h in cc (same))

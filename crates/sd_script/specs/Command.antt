@@ -1,6 +1,6 @@
 -- What a line asks for: the table of commands.
-use Rattle.std.specs.Prelude.{◌≡◌, ℕ, Bool, not, ⊤, ◌==◌, MatchBool, if◌then◌else◌, ◌⊎◌, List, [], ◌∷◌, length}
-use Rattle.std.specs.Prelude.{Option, Some, None, Result, Err, option_map, codes, bytes_eq}
+use Rattle.std.specs.Prelude.{◌≡◌, ℕ, Bool, not, ◌==◌, MatchBool, if◌then◌else◌, ◌⊎◌, List, [], ◌∷◌, length}
+use Rattle.std.specs.Prelude.{Option, Some, None, Result, Ok, Err, option_map, codes, bytes_eq}
 use Rattle.std.specs.List.{list_any}
 use Rattle.std.specs.Str.{IsUtf8}
 use Rattle.sd_sid.specs.Sid.{SidValue}
@@ -24,9 +24,9 @@ use Rattle.sd_script.specs.declared.asked.Asked.{Asked}
 use Rattle.sd_script.specs.declared.asked.Asked.TheVariants.{Opening, Asking, Explaining, Finding, Deleting, Viewing}
 use Rattle.sd_script.specs.declared.asked.Asked.TheVariants.{Importing}
 use Rattle.sd_script.specs.declared.asked.OnGroups.{OnGroups}
+use Rattle.sd_script.specs.declared.asked.OnUser.{OnUser}
 use Rattle.sd_script.specs.declared.asked.TokenQuestion.{TokenQuestion}
 use Rattle.sd_script.specs.declared.asked.TokenQuestion.TheVariants as questions
-use Rattle.sd_script.specs.declared.deletion.OnUser.{OnUser}
 use Rattle.sd_script.specs.declared.command.Command.{Command}
 use Rattle.sd_script.specs.declared.command.ScriptCommand.{ScriptCommand}
 use Rattle.sd_script.specs.declared.command.ScriptCommand.TheVariants.{Open, AddContainer, AddObject, SetOwner}
@@ -219,7 +219,8 @@ line_asks notation is_open line read =
 
 -- ---- what parses a command's arguments and may be out of memory; nothing, where they aren't as many as it takes
 
-abbrev pub Parses : Notation → Option Arguments → Option (Result Asked LineStop) → Type 0
-Parses notation None None = ⊤
-Parses notation (Some arguments) (Some result) = UnlessMemory (reads notation arguments) result
-Parses notation arguments result = ⊥
+abbrev pub Parses : Notation → Option Arguments → Result (Option Asked) LineStop → Type 0
+Parses notation None parsed = parsed ≡ Ok None
+Parses notation (Some arguments) (Ok (Some asked)) = reads notation arguments (Ok asked)
+Parses notation (Some arguments) (Err stop) = UnlessMemory (reads notation arguments) (Err stop)
+Parses notation (Some arguments) (Ok None) = ⊥

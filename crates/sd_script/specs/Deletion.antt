@@ -9,12 +9,8 @@ use Rattle.sd_tree.specs.declared.edit.Edit.{Edit}
 use Rattle.sd_tree.specs.declared.opening.Opening.{Opening}
 use Rattle.sd_tree.specs.declared.tree.CheckReply.{CheckReply}
 use Rattle.sd_tree.specs.declared.tree.CheckReply.TheVariants.{Verdict, NoNode}
-use Rattle.sd_desk.specs.declared.request.Reply.{Reply}
-use Rattle.sd_desk.specs.declared.request.Reply.TheVariants.{Answered}
 use Rattle.sd_answer.specs.Answer.{line}
-use Rattle.sd_answer.specs.declared.answer.Spelling.{Spelling}
 use Rattle.sd_script.specs.Listing.{grants}
-use Rattle.sd_script.specs.Reply.{reply_line, seen_line}
 
 -- DELETE ([MS-DTYP] 2.4.3)
 abbrev pub delete_right : ℕ
@@ -34,15 +30,10 @@ parent_grants opening journal path token =
     option_map_or (λ (parent : Names). grants (answer opening journal parent token delete_child_right))
     (parent_of path) false
 
--- by the reply to a check of the node for DELETE: which descriptor grants the deletion, the node's own first
+-- by a check of the node for DELETE: which descriptor grants the deletion, the node's own first
 abbrev pub deletion_line : CheckReply → Bool → List ℕ
 deletion_line NoNode by_parent = line (codes "nonode")
 deletion_line (Verdict verdict) by_parent =
     if grants (Verdict verdict) then line (codes "granted by node")
     else if by_parent then line (codes "granted by parent")
     else line (codes "denied")
-
--- of the reply to a reader who asks for that check
-abbrev pub deletion_reply : Spelling → Bool → Reply → Option (List ℕ)
-deletion_reply spelling by_parent (Answered given) = Some (seen_line given.seen (deletion_line given.reply by_parent))
-deletion_reply spelling by_parent reply = reply_line spelling reply

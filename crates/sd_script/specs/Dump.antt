@@ -1,6 +1,6 @@
 -- What `dump` prints: the published tree as lines of a script, that of its root first and a parent before what it
 -- holds. They are printed only where each is parsed to what makes its node.
-use Rattle.std.specs.Prelude.{◌≡◌, ◌⊎◌, ⊤, ℕ, Bool, true, false, List, [], ◌∷◌, ◌++◌, length, map, Ok, codes}
+use Rattle.std.specs.Prelude.{◌≡◌, ◌⊎◌, ⊤, ℕ, Bool, true, false, List, [], ◌∷◌, ◌++◌, length, map, Option, Some, None, Ok, codes}
 use Rattle.std.specs.List.{flat_map}
 use Rattle.std.specs.Fmt.{decimal}
 use Rattle.std.specs.FinMap.{entries}
@@ -54,6 +54,11 @@ making_lines notation readers nodes =
 
 abbrev pub makings : ℕ → List (Names × Row) → List Asked
 makings readers nodes = map (λ (node : Names × Row). making readers node.0 node.1) nodes
+
+-- after the nodes' lines one asks for a publish
+abbrev pub wanted : ℕ → Option (Names × Row) → Asked
+wanted readers None = Asking requests.Publish
+wanted readers (Some node) = making readers node.0 node.1
 
 -- a line asks for this, where a store is open or none is
 abbrev pub IsAskedBy : Notation → Bool → List ℕ → Asked → Type 0

@@ -4,7 +4,7 @@ pub mod Fault
 pub mod Expect
 pub mod Laws
 pub mod Lines
-pub mod Find
+pub mod Question
 pub mod Output
 pub mod Reply
 pub mod Ids

@@ -1,6 +1,7 @@
 -- Lines of the nodes at and below a path, in the order of their paths: what `list` and `find` print of the published
 -- tree.
-use Rattle.std.specs.Prelude.{ℕ, Bool, true, false, ◌&&◌, List, [], ◌++◌, Option, Some, None, if◌then◌else◌, codes}
+use Rattle.std.specs.Prelude.{ℕ, Bool, true, false, ◌&&◌, List, [], ◌++◌, Option, Some, None, is_none}
+use Rattle.std.specs.Prelude.{if◌then◌else◌, codes}
 use Rattle.std.specs.List.{flat_map, list_any}
 use Rattle.std.specs.FinMap.{entries}
 use Rattle.sd_sid.specs.Mapping.{MappingValue}
@@ -10,12 +11,13 @@ use Rattle.sd_tree.specs.Plain.{PlainTree}
 use Rattle.sd_check.specs.declared.verdict.Verdict.TheVariants.{Granted}
 use Rattle.sd_tree.specs.Answers.{descriptor_at, kind_at, reply_in}
 use Rattle.sd_tree.specs.Journal.{replay}
+use Rattle.sd_tree.specs.declared.edit.Edit.{Edit}
 use Rattle.sd_tree.specs.declared.node.NodeKind.{NodeKind}
 use Rattle.sd_tree.specs.declared.node.NodeKind.TheVariants.{Container, Object}
 use Rattle.sd_tree.specs.declared.node.Row.{Row}
+use Rattle.sd_tree.specs.declared.opening.Opening.{Opening}
 use Rattle.sd_tree.specs.declared.tree.CheckReply.{CheckReply}
 use Rattle.sd_tree.specs.declared.tree.CheckReply.TheVariants.{Verdict}
-use Rattle.sd_desk.specs.Machine.{Machine}
 use Rattle.sd_answer.specs.Answer.{line, fault_line}
 use Rattle.sd_script.specs.Paths.{is_split, path_word}
 use Rattle.sd_script.specs.Reply.{shown_sddl}
@@ -58,15 +60,11 @@ abbrev pub lacks_words : PathSpelling → PlainTree → Names → Bool
 lacks_words Plain t top = list_any (is_split_below top) (entries t)
 lacks_words Percent t top = false
 
--- where no node is at the path, the answer says so
-abbrev pub unless_none : Option NodeKind → List ℕ → List ℕ
-unless_none None text = line (codes "nonode")
-unless_none (Some kind) text = text
-
-abbrev pub listed_in : Notation → MappingValue → PlainTree → Names → List ℕ
-listed_in notation g t top = unless_none (kind_at t top)
-    (if lacks_words notation.paths t top then fault_line (codes "name")
-    else flat_map (line_below notation g t top All) (entries t))
-
-abbrev pub list_text : Notation → Machine → Names → List ℕ
-list_text notation m top = listed_in notation m.opening.mapping (replay m.opening m.published) top
+-- the lines of the nodes at and below a path, after what the answer begins with and a title; where no node is at the
+-- path, or a path can't be printed, the answer says so
+abbrev pub nodes_text : Notation → Opening → List Edit → Names → Which → (begins title : List ℕ) → List ℕ
+nodes_text notation opening journal top which begins title =
+    let t = replay opening journal in
+    if is_none (kind_at t top) then begins ++ line (codes "nonode")
+    else if lacks_words notation.paths t top then fault_line (codes "name")
+    else begins ++ title ++ flat_map (line_below notation opening.mapping t top which) (entries t)

@@ -8,19 +8,17 @@ use Rattle.sd_tree.specs.declared.opening.RootSpec.{RootSpec}
 use Rattle.sd_desk.specs.Machine.{Machine, Steps, started}
 use Rattle.sd_versions.specs.Starts.{IsReaderCount, IsStartError}
 use Rattle.sd_desk.specs.declared.request.Reply.{Reply}
-use Rattle.sd_desk.specs.declared.request.Request.TheVariants.{Check, Edit as Edits, Show}
+use Rattle.sd_desk.specs.declared.request.Request.TheVariants.{Edit as Edits}
 use Rattle.sd_versions.specs.declared.start.StartError.{StartError}
 use Rattle.sd_lines.specs.Answers.{AreAnswered}
 use Rattle.sd_script.specs.Command.{line_asks}
-use Rattle.sd_script.specs.Deletion.{delete_right, deletion_reply, parent_grants}
 use Rattle.sd_script.specs.Expect.{expect_line, expects, is_met, last_after}
 use Rattle.sd_script.specs.Fault.{Reading, line_of_fault}
-use Rattle.sd_script.specs.Find.{found_reply}
 use Rattle.sd_script.specs.Importing.{IsImported}
 use Rattle.sd_script.specs.Lines.{is_silent, wants_lines}
+use Rattle.sd_script.specs.Question.{IsSeen}
 use Rattle.sd_script.specs.Reply.{counted_line, reply_line, start_error_line}
 use Rattle.sd_script.specs.Tally.{no_lines, tallied}
-use Rattle.sd_script.specs.Reply.{explained_reply}
 use Rattle.sd_script.specs.View.{IsViewed}
 use Rattle.sd_script.specs.declared.asked.Asked.{Asked}
 use Rattle.sd_script.specs.declared.asked.Asked.TheVariants.{Opening as Opens, Asking, Explaining, Finding, Viewing}
@@ -29,6 +27,7 @@ use Rattle.sd_script.specs.declared.carried.Carried.{Carried}
 use Rattle.sd_script.specs.declared.fault.LineFault.{LineFault}
 use Rattle.sd_script.specs.declared.listing.Which.TheVariants.{Granting}
 use Rattle.sd_script.specs.declared.manner.Manner.{Manner}
+use Rattle.sd_script.specs.declared.question.Question.TheVariants.{Why, Find, Delete}
 use Rattle.sd_script.specs.declared.session.Session.{Session}
 use Rattle.sd_script.specs.declared.session.Session.TheVariants.{Closed, Opened}
 use Rattle.sd_script.specs.declared.tally.Tally.{Tally}
@@ -47,6 +46,11 @@ manner_of (Opened notation m) =
 -- the opening of a store with this root, in this manner
 abbrev pub opening_in : Manner → RootSpec → Opening
 opening_in manner root = opening_within manner.mapping root manner.limits
+
+-- what is asked opens a store
+abbrev pub opens : Asked → Bool
+opens (Opens readers root) = true
+opens asked = false
 
 -- what a line asks for where this stands
 abbrev pub line_asks_in : Session → List ℕ → Reading Asked
@@ -69,17 +73,11 @@ IsDone (Opened notation old) (Asking request) printed new =
     × (reply_line notation.spelling reply ≡ Some printed)
     × (new ≡ Opened notation machine)
 IsDone (Opened notation old) (Explaining reader path token asked) printed new =
-    (reply : Reply) × (machine : Machine) × Steps old (Show reader path) reply machine
-    × (explained_reply notation.spelling old.opening.mapping token asked reply ≡ Some printed)
-    × (new ≡ Opened notation machine)
+    IsSeen notation old reader path (Why token asked) printed new
 IsDone (Opened notation old) (Finding reader path token asked) printed new =
-    (reply : Reply) × (machine : Machine) × Steps old (Show reader path) reply machine
-    × (found_reply notation machine path (Granting token asked) reply ≡ Some printed)
-    × (new ≡ Opened notation machine)
+    IsSeen notation old reader path (Find (Granting token asked)) printed new
 IsDone (Opened notation old) (Deleting reader path token) printed new =
-    (reply : Reply) × (machine : Machine) × Steps old (Check reader path token delete_right) reply machine
-    × (deletion_reply notation.spelling (parent_grants old.opening old.published path token) reply ≡ Some printed)
-    × (new ≡ Opened notation machine)
+    IsSeen notation old reader path (Delete token) printed new
 IsDone (Opened notation old) (Viewing view) printed new =
     IsViewed notation old view printed × (new ≡ Opened notation old)
 IsDone (Opened notation old) (Importing edit path given) printed new =
@@ -120,24 +118,13 @@ pub record IsNext (old : Carried) (line printed : List ℕ) (new : Carried) : Ty
   pub answered : IsAnsweredAfter old.session old.last line printed new.session new.last
   pub counted : new.tally ≡ tallied line printed old.tally
 
--- what is asked is done, whatever is printed. No line asks to open a store where one is open
+-- what is asked is done, whatever is printed
 abbrev pub IsMade : Session → Asked → Session → Type 0
-IsMade old (Opens readers root) new =
-    (IsReaderCount readers × (root_refusal (opening_in (manner_of old) root) ≡ None)
-    × (new ≡ Opened (manner_of old).notation (started (opening_in (manner_of old) root) readers)))
-    ⊎ (new ≡ Closed (manner_of old))
 IsMade (Opened notation old) (Asking request) new =
     (reply : Reply) × (machine : Machine) × Steps old request reply machine × (new ≡ Opened notation machine)
-IsMade (Opened notation old) (Explaining reader path token asked) new =
-    (reply : Reply) × (machine : Machine) × Steps old (Show reader path) reply machine × (new ≡ Opened notation machine)
-IsMade (Opened notation old) (Finding reader path token asked) new =
-    (reply : Reply) × (machine : Machine) × Steps old (Show reader path) reply machine × (new ≡ Opened notation machine)
-IsMade (Opened notation old) (Deleting reader path token) new =
-    (reply : Reply) × (machine : Machine) × Steps old (Check reader path token delete_right) reply machine
-    × (new ≡ Opened notation machine)
 IsMade (Opened notation old) (Importing edit path given) new =
     (reply : Reply) × (machine : Machine) × Steps old (Edits edit) reply machine × (new ≡ Opened notation machine)
-IsMade old asked new = ⊥
+IsMade old asked new = (printed : List ℕ) × IsDone old asked printed new
 
 -- a line isn't answered, out of memory: nothing has changed, or what it asks for is done, without an answer
 abbrev pub IsUntold : Session → List ℕ → Session → Type 0

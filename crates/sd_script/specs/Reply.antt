@@ -1,8 +1,7 @@
 -- The line of each reply of a store.
-use Rattle.std.specs.Prelude.{ℕ, List, ◌++◌, Option, Some, None, codes}
+use Rattle.std.specs.Prelude.{ℕ, List, ◌++◌, Option, Some, None, option_map, codes}
 use Rattle.std.specs.Fmt.{decimal}
 use Rattle.sd_acl.specs.Descriptor.{DescriptorValue, descriptor_of}
-use Rattle.sd_acl.specs.declared.descriptor.Descriptor.{Descriptor}
 use Rattle.sd_check.specs.Token.{TokenValue}
 use Rattle.sd_sid.specs.Mapping.{MappingValue}
 use Rattle.sd_text.specs.Canon.{canon_in}
@@ -38,8 +37,8 @@ check_line spelling checks.NoNode = line (codes "nonode")
 abbrev pub shown_sddl : Spelling → DescriptorValue → List ℕ
 shown_sddl spelling d = canon_in (right_names_of spelling) d
 
-abbrev pub shown_line : Spelling → Option Descriptor → List ℕ
-shown_line spelling (Some d) = line (codes "shown " ++ shown_sddl spelling (descriptor_of d))
+abbrev pub shown_line : Spelling → Option DescriptorValue → List ℕ
+shown_line spelling (Some d) = line (codes "shown " ++ shown_sddl spelling d)
 shown_line spelling None = line (codes "nonode")
 
 -- out of memory has no line
@@ -50,7 +49,8 @@ reply_line spelling (Published len) = Some (counted_line (codes "published") len
 reply_line spelling (Told len) = Some (counted_line (codes "told") len)
 reply_line spelling (Learned floor) = Some (counted_line (codes "learned") floor)
 reply_line spelling (Answered answer) = Some (seen_line answer.seen (check_line spelling answer.reply))
-reply_line spelling (Shown seen descriptor) = Some (seen_line seen (shown_line spelling descriptor))
+reply_line spelling (Shown seen descriptor) =
+    Some (seen_line seen (shown_line spelling (option_map descriptor_of descriptor)))
 reply_line spelling NoReader = Some (line (codes "noreader"))
 reply_line spelling NoNotice = Some (line (codes "nonotice"))
 reply_line spelling Memory = None
@@ -65,11 +65,6 @@ start_error_line starts.Place = None
 -- ---- why
 
 -- the explanation by the descriptor of a node, where there is one
-abbrev pub node_why_text : Spelling → MappingValue → TokenValue → ℕ → Option Descriptor → List ℕ
+abbrev pub node_why_text : Spelling → MappingValue → TokenValue → ℕ → Option DescriptorValue → List ℕ
 node_why_text spelling g t asked None = line (codes "nonode")
-node_why_text spelling g t asked (Some d) = why_text g spelling (descriptor_of d) t asked
-
--- of the reply to a reader who asks for the descriptor of the node
-abbrev pub explained_reply : Spelling → MappingValue → TokenValue → ℕ → Reply → Option (List ℕ)
-explained_reply spelling g t asked (Shown seen d) = Some (seen_line seen (node_why_text spelling g t asked d))
-explained_reply spelling g t asked reply = reply_line spelling reply
+node_why_text spelling g t asked (Some d) = why_text g spelling d t asked

@@ -1,18 +1,19 @@
 -- What a script sees of the store at once, and no reader asks for.
-use Rattle.std.specs.Prelude.{◌≡◌, List, ℕ}
+use Rattle.std.specs.Prelude.{◌≡◌, List, [], ℕ}
 use Rattle.sd_tree.specs.Answers.{descriptor_at}
 use Rattle.sd_tree.specs.Journal.{replay}
 use Rattle.sd_desk.specs.Machine.{Machine}
 use Rattle.sd_script.specs.Dump.{IsDump}
-use Rattle.sd_script.specs.Listing.{list_text}
+use Rattle.sd_script.specs.Listing.{nodes_text}
 use Rattle.sd_script.specs.Review.{IsReview}
 use Rattle.sd_script.specs.Who.{IsWhoText}
+use Rattle.sd_script.specs.declared.listing.Which.TheVariants.{All}
 use Rattle.sd_script.specs.declared.manner.Notation.{Notation}
 use Rattle.sd_script.specs.declared.view.View.{View}
 use Rattle.sd_script.specs.declared.view.View.TheVariants.{List as Lists, Dump, Who, Review}
 
 abbrev pub IsViewed : Notation → Machine → View → List ℕ → Type 0
-IsViewed notation m (Lists path) printed = printed ≡ list_text notation m path
+IsViewed notation m (Lists path) printed = printed ≡ nodes_text notation m.opening m.published path All [] []
 IsViewed notation m Dump printed = IsDump notation m printed
 IsViewed notation m (Who path groups asked) printed =
     IsWhoText notation.spelling m.opening.mapping

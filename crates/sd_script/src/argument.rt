@@ -1,20 +1,21 @@
 //! The arguments of a line, each parsed.
 ghost use Rattle.std.specs.Prelude.{◌≡◌, Err, IfErr, IfOk, Ok};
 ghost use Rattle.sd_acl.specs.Descriptor.{descriptor_of};
-ghost use Rattle.sd_script.specs.Argument.{base, dacl, dacl_of, descriptor, mask, node, node_of, number, own_dacl, sid};
-ghost use Rattle.sd_script.specs.Argument.{token};
+ghost use Rattle.sd_script.specs.Argument.{base, dacl, dacl_of, descriptor, mask, node, node_of, number, own_dacl};
+ghost use Rattle.sd_script.specs.Argument.{path, sid, token};
 ghost use Rattle.sd_script.specs.Fault.{UnlessMemory};
 ghost use Rattle.sd_answer.specs.Word.{texts};
 
 use crate::fault::{LineFault, LineStop};
 use crate::manner::Notation;
+use crate::paths::path_in;
 use crate::view::Groups;
 use sd_acl::{Dacl, Descriptor};
 use sd_answer::{TokenError, read_base, read_mask_in, read_sddl_argument, read_token};
 use sd_check::Token;
 use sd_sid::{Mask, Sid};
 use sd_text::{TextError, WithoutSacl, read_sid_text_in};
-use sd_tree::{Entries, NodeDacl, RootSpec};
+use sd_tree::{Entries, NodeDacl, Path, RootSpec};
 use std::alloc::{AllocError, Global};
 
 /// A run of decimal digits with a value below 2^64.
@@ -30,85 +31,97 @@ pub fn number_in(word: &str) -> Result<u64, LineFault>
     }
 }
 
-/// The text of a SID ([MS-DTYP] 2.4.2.1).
-pub(crate) fn sid_in(notation: Notation, word: &str) -> Result<Sid, LineFault>
-    ensures { sid notation word.now result }
-{
-    match read_sid_text_in(notation.aliases, word) {
-        Ok(sid) => Ok(sid),
-        Err(_) => Err(LineFault::Sid),
-    }
+/// What parses the arguments of a command, written in this notation.
+#[derive(Clone, Copy)]
+pub(crate) struct Parser {
+    pub(crate) alloc: Global,
+    pub(crate) notation: Notation,
 }
 
-/// A mask ([MS-DTYP] 2.4.3): a rights field, or names.
-pub(crate) fn mask_in(notation: Notation, word: &str) -> Result<Mask, LineFault>
-    ensures { mask notation word.now result }
-{
-    match read_mask_in(notation.spelling, word) {
-        Ok(mask) => Ok(mask),
-        Err(_) => Err(LineFault::Mask),
-    }
-}
-
-/// The token of a user and of words.
-pub(crate) fn token_in(
-    alloc: Global,
-    notation: Notation,
-    user: Sid,
-    words: &[&str],
-) -> Result<Token, LineStop>
-    ensures { UnlessMemory (token notation user (texts words.now)) result }
-{
-    match read_token(alloc, notation.aliases, user, words) {
-        Ok(token) => Ok(token),
-        Err(TokenError::NoWord { place: _ }) => Err(LineStop::Fault(LineFault::Token)),
-        Err(TokenError::Memory) => Err(LineStop::Memory),
-    }
-}
-
-/// The groups that words are.
-pub(crate) fn base_in(alloc: Global, notation: Notation, words: &[&str]) -> Result<Groups, LineStop>
-    ensures { UnlessMemory (base notation (texts words.now)) result }
-{
-    match read_base(alloc, notation.aliases, words) {
-        Ok(groups) => Ok(Groups::new(groups)),
-        Err(TokenError::NoWord { place: _ }) => Err(LineStop::Fault(LineFault::Token)),
-        Err(TokenError::Memory) => Err(LineStop::Memory),
-    }
-}
-
-/// The text of a descriptor ([MS-DTYP] 2.5.1), whose SACL may be left out.
-pub(crate) fn descriptor_in(
-    alloc: Global,
-    notation: Notation,
-    word: &str,
-) -> Result<Descriptor, LineStop>
-    ensures read { IfOk result (λ d. descriptor notation word.now (Ok (descriptor_of d))) }
-    ensures stop { IfErr result (λ stop. UnlessMemory (descriptor notation word.now) (Err stop)) }
-{
-    match read_sddl_argument(alloc, notation.aliases, notation.without_sacl, word) {
-        Ok(WithoutSacl { descriptor, .. }) => Ok(descriptor),
-        Err(TextError::Fault { fault, place }) => {
-            Err(LineStop::Fault(LineFault::Sddl { fault, place }))
+impl Parser {
+    /// The text of a SID ([MS-DTYP] 2.4.2.1).
+    pub(crate) fn sid(self, word: &str) -> Result<Sid, LineFault>
+        ensures { sid self.notation word.now result }
+    {
+        match read_sid_text_in(self.notation.aliases, word) {
+            Ok(sid) => Ok(sid),
+            Err(_) => Err(LineFault::Sid),
         }
-        Err(TextError::Memory) => Err(LineStop::Memory),
     }
-}
 
-/// The text of a descriptor with an owner and a group.
-pub(crate) fn node_in(alloc: Global, notation: Notation, word: &str) -> Result<RootSpec, LineStop>
-    ensures { UnlessMemory (node notation word.now) result }
-{
-    let descriptor = descriptor_in(alloc, notation, word)?;
-    node_of(alloc, &descriptor)
-}
+    /// A mask ([MS-DTYP] 2.4.3): a rights field, or names.
+    pub(crate) fn mask(self, word: &str) -> Result<Mask, LineFault>
+        ensures { mask self.notation word.now result }
+    {
+        match read_mask_in(self.notation.spelling, word) {
+            Ok(mask) => Ok(mask),
+            Err(_) => Err(LineFault::Mask),
+        }
+    }
 
-/// The text of a descriptor with neither.
-pub(crate) fn dacl_in(alloc: Global, notation: Notation, word: &str) -> Result<NodeDacl, LineStop>
-    ensures { UnlessMemory (dacl notation word.now) result }
-{
-    let descriptor = descriptor_in(alloc, notation, word)?;
-    dacl_of(alloc, &descriptor)
+    /// The token of a user and of words.
+    pub(crate) fn token(self, user: Sid, words: &[&str]) -> Result<Token, LineStop>
+        ensures { UnlessMemory (token self.notation user (texts words.now)) result }
+    {
+        match read_token(self.alloc, self.notation.aliases, user, words) {
+            Ok(token) => Ok(token),
+            Err(TokenError::NoWord { place: _ }) => Err(LineStop::Fault(LineFault::Token)),
+            Err(TokenError::Memory) => Err(LineStop::Memory),
+        }
+    }
+
+    /// The groups that words are.
+    pub(crate) fn base(self, words: &[&str]) -> Result<Groups, LineStop>
+        ensures { UnlessMemory (base self.notation (texts words.now)) result }
+    {
+        match read_base(self.alloc, self.notation.aliases, words) {
+            Ok(groups) => Ok(Groups::new(groups)),
+            Err(TokenError::NoWord { place: _ }) => Err(LineStop::Fault(LineFault::Token)),
+            Err(TokenError::Memory) => Err(LineStop::Memory),
+        }
+    }
+
+    /// A path, as a word spells it.
+    pub(crate) fn path(self, word: &str) -> Result<Path, LineStop>
+        ensures { UnlessMemory (path self.notation.paths word.now) result }
+    {
+        path_in(self.alloc, self.notation.paths, word)
+    }
+
+    /// The text of a descriptor ([MS-DTYP] 2.5.1), whose SACL may be left out.
+    pub(crate) fn descriptor(self, word: &str) -> Result<Descriptor, LineStop>
+        ensures read { IfOk result (λ d. descriptor self.notation word.now (Ok (descriptor_of d))) }
+        ensures stop { IfErr result (λ stop. UnlessMemory (descriptor self.notation word.now) (Err stop)) }
+    {
+        match read_sddl_argument(
+            self.alloc,
+            self.notation.aliases,
+            self.notation.without_sacl,
+            word,
+        ) {
+            Ok(WithoutSacl { descriptor, .. }) => Ok(descriptor),
+            Err(TextError::Fault { fault, place }) => {
+                Err(LineStop::Fault(LineFault::Sddl { fault, place }))
+            }
+            Err(TextError::Memory) => Err(LineStop::Memory),
+        }
+    }
+
+    /// The text of a descriptor with an owner and a group.
+    pub(crate) fn node(self, word: &str) -> Result<RootSpec, LineStop>
+        ensures { UnlessMemory (node self.notation word.now) result }
+    {
+        let descriptor = self.descriptor(word)?;
+        node_of(self.alloc, &descriptor)
+    }
+
+    /// The text of a descriptor with neither.
+    pub(crate) fn dacl(self, word: &str) -> Result<NodeDacl, LineStop>
+        ensures { UnlessMemory (dacl self.notation word.now) result }
+    {
+        let descriptor = self.descriptor(word)?;
+        dacl_of(self.alloc, &descriptor)
+    }
 }
 
 fn node_of(alloc: Global, descriptor: &Descriptor) -> Result<RootSpec, LineStop>

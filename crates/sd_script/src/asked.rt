@@ -1,26 +1,20 @@
 //! What a line asks for, and how a command's arguments are parsed.
-ghost use Rattle.std.specs.Prelude.{◌≡◌, ◌∷◌, [], Some, option_map};
-ghost use Rattle.sd_script.specs.Command.{Parses, asks, asks_taking, asks_who, kind_named, posed, poses};
-ghost use Rattle.sd_script.specs.Command.{asks_groups, groups_given, on_groups_value, reads};
-ghost use Rattle.sd_script.specs.Fault.{UnlessMemory};
-ghost use Rattle.sd_script.specs.declared.command.ScriptCommand.TheVariants.{Open, Learn, Show, ListNodes, Review};
+ghost use Rattle.std.specs.Prelude.{◌≡◌, ◌∷◌, [], Some, Ok, option_map};
+ghost use Rattle.sd_script.specs.Command.{Parses, asks, asks_delete, asks_groups, asks_taking, asks_who, deletes};
+ghost use Rattle.sd_script.specs.Command.{groups_given, kind_named, on_groups_value, on_user_value, posed, poses};
+ghost use Rattle.sd_script.specs.Command.{user_given};
+ghost use Rattle.sd_script.specs.declared.asked.Asked.TheVariants.{Asking, Viewing};
+ghost use Rattle.sd_desk.specs.declared.request.Request.TheVariants as requests;
 ghost use Rattle.sd_answer.specs.Word.{texts};
-ghost use Rattle.sd_script.specs.declared.manner.Notation.{Notation as NotationValue};
 
-use crate::argument::{base_in, mask_in, node_in, number_in, sid_in, token_in};
+use crate::argument::{Parser, number_in};
 use crate::command::{Command, ScriptCommand};
-use crate::deletion::deletion;
-use crate::edits::{added, moved, protected, removed, set_dacl, set_group, set_owner};
 use crate::fault::LineStop;
-use crate::importing::importing;
-use crate::manner::Notation;
-use crate::paths::path_in;
 use crate::view::View;
 use sd_check::Token;
 use sd_desk::Request;
 use sd_sid::Mask;
 use sd_tree::{Edit, Entries, NodeKind, Path, RootSpec};
-use std::alloc::Global;
 
 /// What a line asks for.
 #[derive(Debug, Drop)]
@@ -71,6 +65,15 @@ struct OnGroups<'a> {
     words: &'a [&'a str],
 }
 
+/// A reader, a path, a user and words.
+#[derive(Clone, Copy)]
+struct OnUser<'a> {
+    reader: &'a str,
+    path: &'a str,
+    user: &'a str,
+    words: &'a [&'a str],
+}
+
 /// What is asked of a reader and a path for a token.
 #[derive(Clone, Copy)]
 enum TokenQuestion {
@@ -79,29 +82,218 @@ enum TokenQuestion {
     Find,
 }
 
-/// What a command asks for, or its first argument from the left that is rejected. None where it doesn't take as many
-/// arguments.
-pub(crate) fn asked_by(
-    alloc: Global,
-    notation: Notation,
-    command: Command<'_>,
-) -> Option<Result<Asked, LineStop>>
-    ensures { Parses notation (asks command.entry.name (texts command.entry.arguments.now)) result }
-{
-    match command.name {
-        ScriptCommand::Who => who(alloc, notation, command.arguments),
-        ScriptCommand::Delete => deletion(alloc, notation, command.arguments),
-        _ => taking(alloc, notation, command.name, command.arguments),
-    }
-}
+/// What a command's arguments ask for, or the first from the left that is rejected; none where the command doesn't take
+/// as many.
+pub(crate) type Parsed = Result<Option<Asked>, LineStop>;
 
-/// Who is granted a mask on a path, of groups.
-fn who(alloc: Global, notation: Notation, arguments: &[&str]) -> Option<Result<Asked, LineStop>>
-    ensures { Parses notation (asks_who (texts arguments.now)) result }
-{
-    match on_groups(arguments) {
-        Some(OnGroups { path, mask, words }) => Some(granted(alloc, notation, path, mask, words)),
-        None => None,
+impl Parser {
+    /// What a command asks for.
+    pub(crate) fn asked(self, command: Command<'_>) -> Parsed
+        ensures { Parses self.notation (asks command.entry.name (texts command.entry.arguments.now)) result }
+    {
+        match command.name {
+            ScriptCommand::Who => self.who(command.arguments),
+            ScriptCommand::Delete => self.deletion(command.arguments),
+            _ => self.taking(command.name, command.arguments),
+        }
+    }
+
+    /// Who is granted a mask on a path, of groups.
+    fn who(self, arguments: &[&str]) -> Parsed
+        ensures { Parses self.notation (asks_who (texts arguments.now)) result }
+    {
+        match on_groups(arguments) {
+            Some(OnGroups { path, mask, words }) => self.granted(path, mask, words),
+            None => Ok(None),
+        }
+    }
+
+    fn granted(self, path: &str, mask: &str, words: &[&str]) -> Parsed
+        ensures { Parses self.notation (Some (asks_groups (path.now, mask.now, texts words.now))) result }
+    {
+        let path = self.path(path)?;
+        let asked = self.mask(mask)?;
+        let groups = self.base(words)?;
+        view(View::Who {
+            path,
+            groups,
+            asked,
+        })
+    }
+
+    /// Whether a user may delete a node.
+    fn deletion(self, arguments: &[&str]) -> Parsed
+        ensures { Parses self.notation (asks_delete (texts arguments.now)) result }
+    {
+        match on_user(arguments) {
+            Some(
+                OnUser {
+                    reader,
+                    path,
+                    user,
+                    words,
+                },
+            ) => self.deleting(reader, path, user, words),
+            None => Ok(None),
+        }
+    }
+
+    fn deleting(self, reader: &str, path: &str, user: &str, words: &[&str]) -> Parsed
+        ensures { Parses self.notation (Some (deletes (reader.now, path.now, user.now, texts words.now))) result }
+    {
+        let reader = number_in(reader)?;
+        let path = self.path(path)?;
+        let user = self.sid(user)?;
+        let token = self.token(user, words)?;
+        Ok(Some(Asked::Deleting {
+            reader,
+            path,
+            token,
+        }))
+    }
+
+    /// What each other command asks for, by the number of its arguments.
+    fn taking(self, name: ScriptCommand, arguments: &[&str]) -> Parsed
+        ensures { Parses self.notation (asks_taking name (texts arguments.now)) result }
+    {
+        match arguments {
+            [] => self.alone(name),
+            [path] => self.on_one(name, path),
+            [first, second] => self.on_two(name, first, second),
+            [kind, path, sddl] => self.on_three(name, kind, path, sddl),
+            [reader, path, user, mask, words @ ..] => {
+                self.on_question(name, reader, path, user, mask, words)
+            }
+        }
+    }
+
+    /// Without an argument.
+    fn alone(self, name: ScriptCommand) -> Parsed
+        ensures { Parses self.notation (asks_taking name []) result }
+    {
+        match name {
+            ScriptCommand::Publish => Ok(Some(Asked::Asking(Request::Publish))),
+            ScriptCommand::Tell => Ok(Some(Asked::Asking(Request::Tell))),
+            ScriptCommand::Dump => view(View::Dump),
+            ScriptCommand::ListNodes => self.on_one(name, "/"),
+            ScriptCommand::Review => self.on_one(name, "/"),
+            _ => Ok(None),
+        }
+    }
+
+    /// On a path.
+    fn on_one(self, name: ScriptCommand, path: &str) -> Parsed
+        ensures { Parses self.notation (asks_taking name (path.now ∷ [])) result }
+    {
+        match name {
+            ScriptCommand::Remove => edit(Edit::Remove {
+                path: self.path(path)?,
+            }),
+            ScriptCommand::Protect => edit(Edit::ProtectKeeping {
+                path: self.path(path)?,
+            }),
+            ScriptCommand::ListNodes => view(View::List {
+                path: self.path(path)?,
+            }),
+            ScriptCommand::Review => view(View::Review {
+                path: self.path(path)?,
+            }),
+            _ => Ok(None),
+        }
+    }
+
+    /// On two arguments.
+    fn on_two(self, name: ScriptCommand, first: &str, second: &str) -> Parsed
+        ensures { Parses self.notation (asks_taking name (first.now ∷ second.now ∷ [])) result }
+    {
+        match name {
+            ScriptCommand::Open => Ok(Some(Asked::Opening {
+                readers: number_in(first)?,
+                root: self.node(second)?,
+            })),
+            ScriptCommand::AddContainer => self.added(NodeKind::Container, first, second),
+            ScriptCommand::AddObject => self.added(NodeKind::Object, first, second),
+            ScriptCommand::SetOwner => edit(Edit::SetOwner {
+                path: self.path(first)?,
+                owner: self.sid(second)?,
+            }),
+            ScriptCommand::SetGroup => edit(Edit::SetGroup {
+                path: self.path(first)?,
+                group: self.sid(second)?,
+            }),
+            ScriptCommand::SetDacl => edit(Edit::SetDacl {
+                path: self.path(first)?,
+                dacl: self.dacl(second)?,
+            }),
+            ScriptCommand::Move => edit(Edit::Move {
+                source: self.path(first)?,
+                target: self.path(second)?,
+            }),
+            ScriptCommand::Learn => Ok(Some(Asked::Asking(Request::Learn {
+                reader: number_in(first)?,
+                length: number_in(second)?,
+            }))),
+            ScriptCommand::Show => Ok(Some(Asked::Asking(Request::Show {
+                reader: number_in(first)?,
+                path: self.path(second)?,
+            }))),
+            _ => Ok(None),
+        }
+    }
+
+    /// On a kind, a path and a descriptor.
+    fn on_three(self, name: ScriptCommand, kind: &str, path: &str, sddl: &str) -> Parsed
+        ensures { Parses self.notation (asks_taking name (kind.now ∷ path.now ∷ sddl.now ∷ [])) result }
+    {
+        match name {
+            ScriptCommand::ImportNode => match kind_named(kind) {
+                Some(kind) => self.importing(kind, path, sddl),
+                None => Ok(None),
+            },
+            _ => Ok(None),
+        }
+    }
+
+    /// On a reader, a path and a question.
+    fn on_question(
+        self,
+        name: ScriptCommand,
+        reader: &str,
+        path: &str,
+        user: &str,
+        mask: &str,
+        words: &[&str],
+    ) -> Parsed
+        ensures { Parses self.notation
+            (asks_taking name (reader.now ∷ path.now ∷ user.now ∷ mask.now ∷ texts words.now)) result }
+    {
+        let question = match name {
+            ScriptCommand::Check => TokenQuestion::Check,
+            ScriptCommand::Why => TokenQuestion::Why,
+            ScriptCommand::Find => TokenQuestion::Find,
+            _ => return Ok(None),
+        };
+        self.posed(question, reader, path, user, mask, words)
+    }
+
+    fn posed(
+        self,
+        question: TokenQuestion,
+        reader: &str,
+        path: &str,
+        user: &str,
+        mask: &str,
+        words: &[&str],
+    ) -> Parsed
+        ensures { Parses self.notation
+            (Some (posed question reader.now path.now user.now mask.now (texts words.now))) result }
+    {
+        let reader = number_in(reader)?;
+        let path = self.path(path)?;
+        let user = self.sid(user)?;
+        let asked = self.mask(mask)?;
+        let token = self.token(user, words)?;
+        Ok(Some(question.about(reader, path, token, asked)))
     }
 }
 
@@ -115,106 +307,32 @@ fn on_groups<'a>(arguments: &'a [&'a str]) -> Option<OnGroups<'a>>
     }
 }
 
-/// What each other command asks for, by the number of its arguments.
-fn taking(
-    alloc: Global,
-    notation: Notation,
-    name: ScriptCommand,
-    arguments: &[&str],
-) -> Option<Result<Asked, LineStop>>
-    ensures { Parses notation (asks_taking name (texts arguments.now)) result }
+fn on_user<'a>(arguments: &'a [&'a str]) -> Option<OnUser<'a>>
+    ensures { option_map on_user_value result ≡ user_given (texts arguments.entry.now) }
 {
     match arguments {
-        [] => alone(alloc, notation, name),
-        [path] => on_one(alloc, notation, name, path),
-        [first, second] => on_two(alloc, notation, name, first, second),
-        [kind, path, sddl] => on_three(alloc, notation, name, kind, path, sddl),
-        [reader, path, user, mask, words @ ..] => {
-            on_question(alloc, notation, name, reader, path, user, mask, words)
-        }
+        [reader, path, user, words @ ..] => Some(OnUser {
+            reader,
+            path,
+            user,
+            words,
+        }),
+        [_, _] => None,
+        [_] => None,
+        [] => None,
     }
 }
 
-/// Without an argument.
-fn alone(alloc: Global, notation: Notation, name: ScriptCommand) -> Option<Result<Asked, LineStop>>
-    ensures { Parses notation (asks_taking name []) result }
+pub(crate) fn edit(edit: Edit) -> Parsed
+    ensures { result ≡ Ok (Some (Asking (requests.Edit edit))) }
 {
-    match name {
-        ScriptCommand::Publish => Some(Ok(Asked::Asking(Request::Publish))),
-        ScriptCommand::Tell => Some(Ok(Asked::Asking(Request::Tell))),
-        ScriptCommand::Dump => Some(Ok(Asked::Viewing(View::Dump))),
-        ScriptCommand::ListNodes => Some(listed(alloc, notation, "/")),
-        ScriptCommand::Review => Some(reviewed(alloc, notation, "/")),
-        _ => None,
-    }
+    Ok(Some(Asked::Asking(Request::Edit(edit))))
 }
 
-/// On a path.
-fn on_one(
-    alloc: Global,
-    notation: Notation,
-    name: ScriptCommand,
-    path: &str,
-) -> Option<Result<Asked, LineStop>>
-    ensures { Parses notation (asks_taking name (path.now ∷ [])) result }
+fn view(view: View) -> Parsed
+    ensures { result ≡ Ok (Some (Viewing view)) }
 {
-    match name {
-        ScriptCommand::Remove => Some(removed(alloc, notation, path)),
-        ScriptCommand::Protect => Some(protected(alloc, notation, path)),
-        ScriptCommand::ListNodes => Some(listed(alloc, notation, path)),
-        ScriptCommand::Review => Some(reviewed(alloc, notation, path)),
-        _ => None,
-    }
-}
-
-/// On two arguments.
-fn on_two(
-    alloc: Global,
-    notation: Notation,
-    name: ScriptCommand,
-    first: &str,
-    second: &str,
-) -> Option<Result<Asked, LineStop>>
-    ensures { Parses notation (asks_taking name (first.now ∷ second.now ∷ [])) result }
-{
-    match name {
-        ScriptCommand::Open => Some(opening(alloc, notation, first, second)),
-        ScriptCommand::AddContainer => Some(added(
-            alloc,
-            notation,
-            NodeKind::Container,
-            first,
-            second,
-        )),
-        ScriptCommand::AddObject => Some(added(alloc, notation, NodeKind::Object, first, second)),
-        ScriptCommand::SetOwner => Some(set_owner(alloc, notation, first, second)),
-        ScriptCommand::SetGroup => Some(set_group(alloc, notation, first, second)),
-        ScriptCommand::SetDacl => Some(set_dacl(alloc, notation, first, second)),
-        ScriptCommand::Move => Some(moved(alloc, notation, first, second)),
-        ScriptCommand::Learn => Some(learned(first, second)),
-        ScriptCommand::Show => Some(shown(alloc, notation, first, second)),
-        _ => None,
-    }
-}
-
-/// On a kind, a path and a descriptor.
-fn on_three(
-    alloc: Global,
-    notation: Notation,
-    name: ScriptCommand,
-    kind: &str,
-    path: &str,
-    sddl: &str,
-) -> Option<Result<Asked, LineStop>>
-    ensures { Parses notation (asks_taking name (kind.now ∷ path.now ∷ sddl.now ∷ [])) result }
-{
-    match name {
-        ScriptCommand::ImportNode => {
-            let kind = kind_named(kind)?;
-            Some(importing(alloc, notation, kind, path, sddl))
-        }
-        _ => None,
-    }
+    Ok(Some(Asked::Viewing(view)))
 }
 
 /// The kind of node that the word names.
@@ -226,67 +344,6 @@ fn kind_named(word: &str) -> Option<NodeKind>
         "object" => Some(NodeKind::Object),
         _ => None,
     }
-}
-
-/// On a reader, a path and a question.
-fn on_question(
-    alloc: Global,
-    notation: Notation,
-    name: ScriptCommand,
-    reader: &str,
-    path: &str,
-    user: &str,
-    mask: &str,
-    words: &[&str],
-) -> Option<Result<Asked, LineStop>>
-    ensures { Parses notation
-        (asks_taking name (reader.now ∷ path.now ∷ user.now ∷ mask.now ∷ texts words.now)) result }
-{
-    let question = match name {
-        ScriptCommand::Check => TokenQuestion::Check,
-        ScriptCommand::Why => TokenQuestion::Why,
-        ScriptCommand::Find => TokenQuestion::Find,
-        _ => return None,
-    };
-    Some(posed(alloc, notation, question, reader, path, user, mask, words))
-}
-
-fn opening(alloc: Global, notation: Notation, readers: &str, sddl: &str) -> Result<Asked, LineStop>
-    ensures { Parses notation (asks_taking Open (readers.now ∷ sddl.now ∷ [])) (Some result) }
-{
-    let readers = number_in(readers)?;
-    let root = node_in(alloc, notation, sddl)?;
-    Ok(Asked::Opening { readers, root })
-}
-
-fn learned(reader: &str, length: &str) -> Result<Asked, LineStop>
-    ensures { (notation : NotationValue)
-        → Parses notation (asks_taking Learn (reader.now ∷ length.now ∷ [])) (Some result) }
-{
-    let reader = number_in(reader)?;
-    let length = number_in(length)?;
-    Ok(Asked::Asking(Request::Learn { reader, length }))
-}
-
-fn posed(
-    alloc: Global,
-    notation: Notation,
-    question: TokenQuestion,
-    reader: &str,
-    path: &str,
-    user: &str,
-    mask: &str,
-    words: &[&str],
-) -> Result<Asked, LineStop>
-    ensures { UnlessMemory
-        (reads notation (posed question reader.now path.now user.now mask.now (texts words.now))) result }
-{
-    let reader = number_in(reader)?;
-    let path = path_in(alloc, notation.paths, path)?;
-    let user = sid_in(notation, user)?;
-    let asked = mask_in(notation, mask)?;
-    let token = token_in(alloc, notation, user, words)?;
-    Ok(question.about(reader, path, token, asked))
 }
 
 impl TokenQuestion {
@@ -314,45 +371,4 @@ impl TokenQuestion {
             },
         }
     }
-}
-
-fn shown(alloc: Global, notation: Notation, reader: &str, path: &str) -> Result<Asked, LineStop>
-    ensures { Parses notation (asks_taking Show (reader.now ∷ path.now ∷ [])) (Some result) }
-{
-    let reader = number_in(reader)?;
-    let path = path_in(alloc, notation.paths, path)?;
-    Ok(Asked::Asking(Request::Show { reader, path }))
-}
-
-fn listed(alloc: Global, notation: Notation, path: &str) -> Result<Asked, LineStop>
-    ensures { Parses notation (asks_taking ListNodes (path.now ∷ [])) (Some result) }
-{
-    let path = path_in(alloc, notation.paths, path)?;
-    Ok(Asked::Viewing(View::List { path }))
-}
-
-fn granted(
-    alloc: Global,
-    notation: Notation,
-    path: &str,
-    mask: &str,
-    words: &[&str],
-) -> Result<Asked, LineStop>
-    ensures { UnlessMemory (reads notation (asks_groups (path.now, mask.now, texts words.now))) result }
-{
-    let path = path_in(alloc, notation.paths, path)?;
-    let asked = mask_in(notation, mask)?;
-    let groups = base_in(alloc, notation, words)?;
-    Ok(Asked::Viewing(View::Who {
-        path,
-        groups,
-        asked,
-    }))
-}
-
-fn reviewed(alloc: Global, notation: Notation, path: &str) -> Result<Asked, LineStop>
-    ensures { Parses notation (asks_taking Review (path.now ∷ [])) (Some result) }
-{
-    let path = path_in(alloc, notation.paths, path)?;
-    Ok(Asked::Viewing(View::Review { path }))
 }

@@ -1,96 +1,124 @@
 //! A published tree as lines of a script.
-ghost use Rattle.std.specs.Prelude.{◌≡◌, ◌∷◌, IfOk, [], string_bytes};
+ghost use Rattle.std.specs.Prelude.{◌≡◌, IfOk, option_map, string_bytes};
 ghost use Rattle.std.specs.Bool.{Decides};
 ghost use Rattle.std.specs.FinMap.{entries};
 ghost use Rattle.sd_tree.specs.Journal.{replay};
 ghost use Rattle.sd_tree.specs.Listing.{listed};
-ghost use Rattle.std.specs.Str.Lines.{lines};
 ghost use Rattle.sd_acl.specs.Descriptor.{descriptor_of};
 ghost use Rattle.sd_tree.specs.Descriptors.{own_descriptor_of_row};
-ghost use Rattle.sd_script.specs.Dump.{AreAskedBy, IsAskedBy, IsDumpOf, IsReadBack, adding_word};
-ghost use Rattle.sd_script.specs.Dump.{making, making_line, making_lines};
-ghost use Rattle.sd_script.specs.declared.asked.Asked.TheVariants.{Asking};
-ghost use Rattle.sd_desk.specs.declared.request.Request.TheVariants.{Publish};
+ghost use Rattle.sd_script.specs.Dump.{IsAskedBy, IsDumpOf, IsReadBack, adding_word, making_line, making_lines, wanted};
 
-use crate::asked::Asked;
 use crate::fault::LineStop;
 use crate::line::read_line;
 use crate::lines::is_silent;
-use crate::manner::Notation;
+use crate::listing::Printer;
 use crate::paths::path_word;
 use crate::reply::shown_sddl;
-use crate::same::{is_making, is_publishing};
+use crate::same::is_wanted;
 use sd_acl::Descriptor;
 use sd_answer::fault_line;
 use sd_lines::{Ending, first_line};
-use sd_tree::{NodeKind, NodeRef, Tree};
-use std::alloc::{AllocError, Global};
+use sd_tree::{NodeKind, NodeRef};
+use std::alloc::AllocError;
 
-/// The lines that make the tree: an opening for so many readers, an addition for each other node, a parent before what
-/// it holds, and `publish`. `fault name` where one of them isn't parsed to what makes its node.
-pub(crate) fn dump_text(
-    alloc: Global,
-    notation: Notation,
-    tree: &Tree,
-    readers: u64,
-) -> Result<String, AllocError>
-    ensures { IfOk result
-        (λ text. IsDumpOf notation readers (replay tree.now.opening tree.now.journal) (string_bytes text)) }
-{
-    let mut text = making_lines(alloc, notation, tree, readers)?;
-    text.push_str("publish\n")?;
-    if is_read_back(alloc, notation, tree, readers, text.as_bytes())? {
+impl Printer<'_> {
+    /// The lines that make the tree: an opening for so many readers, an addition for each other node, a parent before
+    /// what it holds, and `publish`. `fault name` where one of them isn't parsed to what makes its node.
+    pub(crate) fn dump_text(&self, readers: u64) -> Result<String, AllocError>
+        ensures { IfOk result (λ text. IsDumpOf self.now.notation readers
+            (replay self.now.tree.now.opening self.now.tree.now.journal) (string_bytes text)) }
+    {
+        let mut text = self.making_lines(readers)?;
+        text.push_str("publish\n")?;
+        if self.is_read_back(readers, text.as_bytes())? {
+            Ok(text)
+        } else {
+            fault_line(self.alloc, "name")
+        }
+    }
+
+    /// The line of each node.
+    fn making_lines(&self, readers: u64) -> Result<String, AllocError>
+        ensures { IfOk result (λ text. string_bytes text ≡ making_lines self.now.notation readers
+            (entries (replay self.now.tree.now.opening self.now.tree.now.journal))) }
+    {
+        let mut text = String::new(self.alloc);
+        for index in 0..self.tree.node_count() {
+            let Some(node) = self.tree.node(index) else {
+                unreachable!()
+            };
+            let Some((_, given)) = self.tree.given(node.path)? else {
+                unreachable!()
+            };
+            let line = self.making_line(readers, &node, &given)?;
+            text.push_str(&line)?;
+        }
         Ok(text)
-    } else {
-        fault_line(alloc, "name")
     }
-}
 
-/// The line of each node.
-fn making_lines(
-    alloc: Global,
-    notation: Notation,
-    tree: &Tree,
-    readers: u64,
-) -> Result<String, AllocError>
-    ensures { IfOk result (λ text. string_bytes text
-        ≡ making_lines notation readers (entries (replay tree.now.opening tree.now.journal))) }
-{
-    let mut text = String::new(alloc);
-    for index in 0..tree.node_count() {
-        let Some(node) = tree.node(index) else {
-            unreachable!()
-        };
-        let Some((_, given)) = tree.given(node.path)? else {
-            unreachable!()
-        };
-        let line = making_line(alloc, notation, readers, &node, &given)?;
-        text.push_str(&line)?;
+    /// The line that makes a node with this descriptor of its own: an opening for the root, and else an addition.
+    fn making_line(
+        &self,
+        readers: u64,
+        node: &NodeRef<'_>,
+        given: &Descriptor,
+    ) -> Result<String, AllocError>
+        requires { descriptor_of given.now ≡ own_descriptor_of_row (listed node.now).1 }
+        ensures { IfOk result (λ text. string_bytes text
+            ≡ making_line self.now.notation readers (listed node.now).0 (listed node.now).1) }
+    {
+        let sddl = shown_sddl(self.alloc, self.notation.spelling, given)?;
+        if node.path.as_path_ref().is_root() {
+            let text = format!(in self.alloc; "open {readers} {sddl}\n")?;
+            return Ok(text);
+        }
+        let word = adding_word(node.kind);
+        let path = path_word(self.alloc, self.notation.paths, node.path)?;
+        let text = format!(in self.alloc; "{word} {path} {sddl}\n")?;
+        Ok(text)
     }
-    Ok(text)
-}
 
-/// The line that makes a node with this descriptor of its own: an opening for the root, and else an addition.
-fn making_line(
-    alloc: Global,
-    notation: Notation,
-    readers: u64,
-    node: &NodeRef<'_>,
-    given: &Descriptor,
-) -> Result<String, AllocError>
-    requires { descriptor_of given.now ≡ own_descriptor_of_row (listed node.now).1 }
-    ensures { IfOk result (λ text. string_bytes text
-        ≡ making_line notation readers (listed node.now).0 (listed node.now).1) }
-{
-    let sddl = shown_sddl(alloc, notation.spelling, given)?;
-    if node.path.as_path_ref().is_root() {
-        let text = format!(in alloc; "open {readers} {sddl}\n")?;
-        return Ok(text);
+    /// Whether the text is parsed to what makes the tree, line by line, and a publish. Only for the first line no store
+    /// is open.
+    fn is_read_back(&self, readers: u64, text: &[u8]) -> Result<bool, AllocError>
+        ensures { IfOk result (λ is. Decides is (IsReadBack self.now.notation readers
+            (replay self.now.tree.now.opening self.now.tree.now.journal) text.now)) }
+    {
+        let mut rest = text;
+        for index in 0..=self.tree.node_count() {
+            if rest.is_empty() {
+                return Ok(false);
+            }
+            let (line, after) = first_line(Ending::Feed, rest);
+            let node = self.tree.node(index);
+            if !self.is_read_as(index > 0, line, readers, &node)? {
+                return Ok(false);
+            }
+            rest = after;
+        }
+        Ok(rest.is_empty())
     }
-    let word = adding_word(node.kind);
-    let path = path_word(alloc, notation.paths, node.path)?;
-    let text = format!(in alloc; "{word} {path} {sddl}\n")?;
-    Ok(text)
+
+    /// Whether a line is parsed to what makes the node, or to a publish after the last one.
+    fn is_read_as(
+        &self,
+        is_open: bool,
+        line: &[u8],
+        readers: u64,
+        node: &Option<NodeRef<'_>>,
+    ) -> Result<bool, AllocError>
+        ensures { IfOk result (λ is. Decides is
+            (IsAskedBy self.now.notation is_open line.now (wanted readers (option_map listed node.now)))) }
+    {
+        if is_silent(line) {
+            return Ok(false);
+        }
+        match read_line(self.alloc, self.notation, is_open, line) {
+            Ok(asked) => Ok(is_wanted(&asked, readers, node)),
+            Err(LineStop::Fault(_)) => Ok(false),
+            Err(LineStop::Memory) => Err(AllocError),
+        }
+    }
 }
 
 fn adding_word(kind: NodeKind) -> &'static str
@@ -99,79 +127,5 @@ fn adding_word(kind: NodeKind) -> &'static str
     match kind {
         NodeKind::Container => "addc",
         NodeKind::Object => "addo",
-    }
-}
-
-/// Whether the text is parsed to what makes the tree, line by line, and a publish. Only for the first line no store is
-/// open.
-fn is_read_back(
-    alloc: Global,
-    notation: Notation,
-    tree: &Tree,
-    readers: u64,
-    text: &[u8],
-) -> Result<bool, AllocError>
-    ensures { IfOk result (λ is. Decides is
-        (IsReadBack notation readers (replay tree.now.opening tree.now.journal) text.now)) }
-{
-    let mut rest = text;
-    for index in 0..tree.node_count() {
-        if rest.is_empty() {
-            return Ok(false);
-        }
-        let (line, after) = first_line(Ending::Feed, rest);
-        let Some(node) = tree.node(index) else {
-            unreachable!()
-        };
-        if !is_read_as(alloc, notation, index > 0, line, readers, &node)? {
-            return Ok(false);
-        }
-        rest = after;
-    }
-    is_read_as_publish(alloc, notation, tree.node_count() > 0, rest)
-}
-
-/// Whether a line is parsed to what makes the node.
-fn is_read_as(
-    alloc: Global,
-    notation: Notation,
-    is_open: bool,
-    line: &[u8],
-    readers: u64,
-    node: &NodeRef<'_>,
-) -> Result<bool, AllocError>
-    ensures { IfOk result (λ is. Decides is
-        (IsAskedBy notation is_open line.now (making readers (listed node.now).0 (listed node.now).1))) }
-{
-    if is_silent(line) {
-        return Ok(false);
-    }
-    match read_line(alloc, notation, is_open, line) {
-        Ok(asked) => Ok(is_making(&asked, readers, node)),
-        Err(LineStop::Fault(_)) => Ok(false),
-        Err(LineStop::Memory) => Err(AllocError),
-    }
-}
-
-/// Whether a text is one line, which asks for a publish.
-fn is_read_as_publish(
-    alloc: Global,
-    notation: Notation,
-    is_open: bool,
-    text: &[u8],
-) -> Result<bool, AllocError>
-    ensures { IfOk result (λ is. Decides is (AreAskedBy notation is_open (lines text.now) (Asking Publish ∷ []))) }
-{
-    if text.is_empty() {
-        return Ok(false);
-    }
-    let (line, after) = first_line(Ending::Feed, text);
-    if !after.is_empty() || is_silent(line) {
-        return Ok(false);
-    }
-    match read_line(alloc, notation, is_open, line) {
-        Ok(asked) => Ok(is_publishing(&asked)),
-        Err(LineStop::Fault(_)) => Ok(false),
-        Err(LineStop::Memory) => Err(AllocError),
     }
 }

@@ -1,23 +1,21 @@
 //! A node that comes with the descriptor that it had elsewhere.
-ghost use Rattle.std.specs.Prelude.{◌≡◌, IfOk, filter, string_bytes};
+ghost use Rattle.std.specs.Prelude.{◌≡◌, IfOk, Some, filter, string_bytes};
 ghost use Rattle.std.specs.Bool.{Decides};
 ghost use Rattle.sd_acl.specs.Canonical.{is_explicit, is_inherited};
 ghost use Rattle.sd_acl.specs.Descriptor.{descriptor_of};
 ghost use Rattle.sd_script.specs.Argument.{entries_in, import_of, imported};
 ghost use Rattle.sd_script.specs.Argument.{imported_dacl};
-ghost use Rattle.sd_script.specs.Command.{imports, reads};
+ghost use Rattle.sd_script.specs.Command.{Parses, imports};
 ghost use Rattle.sd_script.specs.Fault.{UnlessMemory};
 ghost use Rattle.sd_script.specs.Importing.{AreOrderedAlike, InheritAlike, IsImported, entries_by, imported_line};
 ghost use Rattle.sd_desk.specs.Machine.{Machine, accepted};
 ghost use Rattle.sd_tree.specs.Answers.{descriptor_at};
 ghost use Rattle.sd_tree.specs.Journal.{replay};
 
-use crate::argument::{descriptor_in, own_dacl};
-use crate::asked::Asked;
-use crate::edits::addition;
+use crate::addition::addition;
+use crate::argument::{Parser, own_dacl};
+use crate::asked::{Asked, Parsed};
 use crate::fault::{LineFault, LineStop};
-use crate::manner::Notation;
-use crate::paths::path_in;
 use crate::reply::reply_line;
 use sd_acl::{Ace, Dacl, Descriptor, canonicalize};
 use sd_answer::Spelling;
@@ -33,29 +31,25 @@ struct Import {
     given: Entries,
 }
 
-/// A node of the kind with the descriptor of a text, and the entries that it had elsewhere.
-pub(crate) fn importing(
-    alloc: Global,
-    notation: Notation,
-    kind: NodeKind,
-    path: &str,
-    sddl: &str,
-) -> Result<Asked, LineStop>
-    ensures { UnlessMemory (reads notation (imports path.now sddl.now kind)) result }
-{
-    let path = path_in(alloc, notation.paths, path)?;
-    let Import { node, given } = import_in(alloc, notation, sddl)?;
-    let added = path.copy(alloc)?;
-    let edit = addition(kind, added, node);
-    Ok(Asked::Importing { edit, path, given })
-}
+impl Parser {
+    /// A node of the kind with the descriptor of a text, and the entries that it had elsewhere.
+    pub(crate) fn importing(self, kind: NodeKind, path: &str, sddl: &str) -> Parsed
+        ensures { Parses self.notation (Some (imports path.now sddl.now kind)) result }
+    {
+        let path = self.path(path)?;
+        let Import { node, given } = self.imported(sddl)?;
+        let added = path.copy(self.alloc)?;
+        let edit = addition(kind, added, node);
+        Ok(Some(Asked::Importing { edit, path, given }))
+    }
 
-/// The text of a descriptor with an owner and a group, as a node had it.
-fn import_in(alloc: Global, notation: Notation, word: &str) -> Result<Import, LineStop>
-    ensures { UnlessMemory (imported notation word.now) result }
-{
-    let descriptor = descriptor_in(alloc, notation, word)?;
-    import_of(alloc, &descriptor)
+    /// The text of a descriptor with an owner and a group, as a node had it.
+    fn imported(self, word: &str) -> Result<Import, LineStop>
+        ensures { UnlessMemory (imported self.notation word.now) result }
+    {
+        let descriptor = self.descriptor(word)?;
+        import_of(self.alloc, &descriptor)
+    }
 }
 
 fn import_of(alloc: Global, descriptor: &Descriptor) -> Result<Import, LineStop>

@@ -17,16 +17,15 @@
 //! What parses a line and what prints a reply is public, for who carries out a script in another way.
 #![tactic(auto)]
 
+mod addition;
 mod argument;
 mod asked;
 mod carried;
 mod command;
 mod deletion;
 mod dump;
-mod edits;
 mod expect;
 mod fault;
-mod find;
 mod ids;
 mod importing;
 mod laws;
@@ -35,6 +34,7 @@ mod lines;
 mod listing;
 mod manner;
 mod paths;
+mod question;
 mod reply;
 mod review;
 mod same;

@@ -2,7 +2,8 @@
 ghost use Rattle.sd_script.specs.Command.{line_asks};
 ghost use Rattle.sd_script.specs.Fault.{UnlessMemory};
 
-use crate::asked::{Asked, asked_by};
+use crate::argument::Parser;
+use crate::asked::Asked;
 use crate::command::command_of;
 use crate::fault::{LineFault, LineStop};
 use crate::lines::words_of;
@@ -26,7 +27,7 @@ pub fn read_line(
     let Some(command) = command_of(&words) else {
         return Err(LineStop::Fault(LineFault::Words));
     };
-    let Some(asked) = asked_by(alloc, notation, command) else {
+    let Some(asked) = Parser { alloc, notation }.asked(command).transpose() else {
         return Err(LineStop::Fault(LineFault::Words));
     };
     if command.name.is_untimely(is_open) {

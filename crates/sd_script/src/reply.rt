@@ -1,7 +1,7 @@
 //! The line of each reply of a store.
-ghost use Rattle.std.specs.Prelude.{◌≡◌, Some, IfOk, codes, string_bytes};
+ghost use Rattle.std.specs.Prelude.{◌≡◌, Some, IfOk, option_map, string_bytes};
 ghost use Rattle.sd_acl.specs.Descriptor.{descriptor_of};
-ghost use Rattle.sd_script.specs.Reply.{check_line, counted_line, explained_reply, node_why_text, refused_line};
+ghost use Rattle.sd_script.specs.Reply.{check_line, counted_line, node_why_text, refused_line};
 ghost use Rattle.sd_script.specs.Reply.{reply_line, seen_line, shown_line, shown_sddl, start_error_line};
 
 use sd_acl::Descriptor;
@@ -100,7 +100,7 @@ fn shown_line(
     spelling: Spelling,
     descriptor: &Option<Descriptor>,
 ) -> Result<String, AllocError>
-    ensures { IfOk result (λ text. string_bytes text ≡ shown_line spelling descriptor.now) }
+    ensures { IfOk result (λ text. string_bytes text ≡ shown_line spelling (option_map descriptor_of descriptor.now)) }
 {
     match descriptor {
         None => String::from_str(alloc, "nonode\n"),
@@ -111,30 +111,8 @@ fn shown_line(
     }
 }
 
-/// The lines for a reader who asked for the descriptor of a node, and was replied so: by how long a journal, and the
-/// explanation or `nonode`; or the line of another reply.
-pub(crate) fn explained_reply(
-    alloc: Global,
-    spelling: Spelling,
-    mapping: &GenericMapping,
-    token: &Token,
-    asked: Mask,
-    reply: &Reply,
-) -> Result<String, AllocError>
-    ensures { IfOk result
-        (λ text. explained_reply spelling mapping.now token.now asked reply.now ≡ Some (string_bytes text)) }
-{
-    match reply {
-        Reply::Shown { seen, descriptor } => {
-            let lines = node_why_text(alloc, spelling, mapping, token, asked, descriptor)?;
-            seen_line(alloc, *seen, &lines)
-        }
-        _ => reply_line(alloc, spelling, reply),
-    }
-}
-
 /// The lines of an explanation by the descriptor of a node, where there is one.
-fn node_why_text(
+pub(crate) fn node_why_text(
     alloc: Global,
     spelling: Spelling,
     mapping: &GenericMapping,
@@ -142,8 +120,8 @@ fn node_why_text(
     asked: Mask,
     descriptor: &Option<Descriptor>,
 ) -> Result<String, AllocError>
-    ensures { IfOk result
-        (λ text. string_bytes text ≡ node_why_text spelling mapping.now token.now asked descriptor.now) }
+    ensures { IfOk result (λ text. string_bytes text
+        ≡ node_why_text spelling mapping.now token.now asked (option_map descriptor_of descriptor.now)) }
 {
     match descriptor {
         None => String::from_str(alloc, "nonode\n"),

@@ -15,9 +15,9 @@ ghost use Rattle.sd_script.specs.Review.{ArePrinted, IsChangeText, IsCompared, I
 ghost use Rattle.sd_script.specs.Review.{IsReview, IsReviewOf, gone_line, has_no_words, moved_line, new_line};
 ghost use Rattle.sd_script.specs.Review.{reviewed_line};
 
-use crate::listing::lacks_words;
+use crate::listing::Printer;
 use crate::manner::Notation;
-use crate::paths::{PathSpelling, path_word};
+use crate::paths::path_word;
 use sd_answer::fault_line;
 use sd_desk::Desk;
 use sd_review::{Compared, Former, Review};
@@ -38,10 +38,11 @@ pub(crate) fn review_text(
     let old = desk.published();
     let new = desk.draft();
     let review = ReviewText {
+        alloc,
         notation,
         review: Review::of(old, new),
     };
-    let text = review.text(alloc, top)?;
+    let text = review.text(top)?;
     Ok(text)
 }
 
@@ -56,13 +57,14 @@ fn reviewed_line(alloc: Global, old: u64, new: u64) -> Result<String, AllocError
 /// A review whose lines are written so.
 #[derive(Drop)]
 pub(crate) struct ReviewText<'a> {
+    alloc: Global,
     notation: Notation,
     review: Review<'a>,
 }
 
 impl ReviewText<'_> {
     /// The lines, and the last one.
-    fn text(&self, alloc: Global, top: &Path) -> Result<String, AllocError>
+    fn text(&self, top: &Path) -> Result<String, AllocError>
         ensures { IfOk result (λ text. IsReviewOf self.now.notation (trees_of self.now.review) top.now
             (reviewed_line (length self.now.review.old.now.journal) (length self.now.review.new.now.journal))
             (stands_in (trees_of self.now.review) top.now)
@@ -70,42 +72,42 @@ impl ReviewText<'_> {
             (string_bytes text)) }
     {
         if !self.review.has(top) {
-            return String::from_str(alloc, "nonode\n");
+            return String::from_str(self.alloc, "nonode\n");
         }
-        if self.lacks_words(alloc)? {
-            return fault_line(alloc, "name");
+        if self.lacks_words()? {
+            return fault_line(self.alloc, "name");
         }
-        let changes = self.changes(alloc, top)?;
-        let gone = self.gone(alloc, top)?;
-        let last = reviewed_line(alloc, self.review.old.len(), self.review.new.len())?;
+        let changes = self.changes(top)?;
+        let gone = self.gone(top)?;
+        let last = reviewed_line(self.alloc, self.review.old.len(), self.review.new.len())?;
         let (changes, gone, last) = (changes.as_str(), gone.as_str(), last.as_str());
-        let text = format!(in alloc; "{changes}{gone}{last}")?;
+        let text = format!(in self.alloc; "{changes}{gone}{last}")?;
         Ok(text)
     }
 
     /// Whether the path of some node can't be printed.
-    fn lacks_words(&self, alloc: Global) -> Result<bool, AllocError>
+    fn lacks_words(&self) -> Result<bool, AllocError>
         ensures { IfOk result (λ lacks. lacks ≡ has_no_words self.now.notation.paths (trees_of self.now.review)) }
     {
-        let root = Path::root(alloc);
-        if lacks_words(alloc, self.notation.paths, self.review.old, &root)? {
+        let root = Path::root(self.alloc);
+        if Printer::of(self.alloc, self.notation, self.review.old).lacks_words(&root)? {
             return Ok(true);
         }
-        lacks_words(alloc, self.notation.paths, self.review.new, &root)
+        Printer::of(self.alloc, self.notation, self.review.new).lacks_words(&root)
     }
 
     /// The lines of the nodes of the new tree.
-    fn changes(&self, alloc: Global, top: &Path) -> Result<String, AllocError>
+    fn changes(&self, top: &Path) -> Result<String, AllocError>
         ensures { IfOk result (λ text. ArePrinted (IsNodeReview self.now.notation (trees_of self.now.review) top.now)
             (entries (trees_of self.now.review).new) (string_bytes text)) }
     {
-        let mut text = String::new(alloc);
+        let mut text = String::new(self.alloc);
         let mut last = None;
         for index in 0..self.review.new.node_count() {
             let Some(node) = self.review.new.node(index) else {
                 unreachable!()
             };
-            let lines = self.changes_at(alloc, &mut last, top, &node)?;
+            let lines = self.changes_at(&mut last, top, &node)?;
             text.push_str(&lines)?;
         }
         Ok(text)
@@ -114,7 +116,6 @@ impl ReviewText<'_> {
     /// Those of a node.
     fn changes_at(
         &self,
-        alloc: Global,
         last: &mut Option<Compared>,
         top: &Path,
         node: &NodeRef<'_>,
@@ -125,24 +126,23 @@ impl ReviewText<'_> {
         ensures right { OnOk result (ForSome last.new (IsRight self.now.review.old.now.opening.mapping)) }
     {
         if !node.path.as_path_ref().is_within(&top.as_path_ref()) {
-            return Ok(String::new(alloc));
+            return Ok(String::new(self.alloc));
         }
-        match self.review.former(alloc, node.path)? {
-            Former::Same => self.compared(alloc, last, node.path, node.path),
+        match self.review.former(self.alloc, node.path)? {
+            Former::Same => self.compared(last, node.path, node.path),
             Former::Moved(before) => {
-                let mut text = moved_line(alloc, self.notation.paths, &before, node.path)?;
-                let changes = self.compared(alloc, last, &before, node.path)?;
+                let mut text = self.moved_line(&before, node.path)?;
+                let changes = self.compared(last, &before, node.path)?;
                 text.push_str(&changes)?;
                 Ok(text)
             }
-            Former::New => new_line(alloc, self.notation.paths, node.path),
+            Former::New => self.new_line(node.path),
         }
     }
 
     /// What the node of a path changes beside the one of a path of the old tree.
     fn compared(
         &self,
-        alloc: Global,
         last: &mut Option<Compared>,
         before: &Path,
         path: &Path,
@@ -152,85 +152,76 @@ impl ReviewText<'_> {
             (string_bytes text)) }
         ensures right { OnOk result (ForSome last.new (IsRight self.now.review.old.now.opening.mapping)) }
     {
-        self.review.compare(alloc, last, before, path)?;
+        self.review.compare(self.alloc, last, before, path)?;
         match &*last {
             Some(compared) => {
-                let text = change_text(alloc, self.notation, path, compared)?;
+                let text = self.change_text(path, compared)?;
                 Ok(text)
             }
-            None => Ok(String::new(alloc)),
+            None => Ok(String::new(self.alloc)),
         }
     }
 
     /// The lines of the nodes of the old tree at whose paths none stands in the new one.
-    fn gone(&self, alloc: Global, top: &Path) -> Result<String, AllocError>
+    fn gone(&self, top: &Path) -> Result<String, AllocError>
         ensures { IfOk result (λ text. string_bytes text
             ≡ flat_map (gone_line self.now.notation.paths (trees_of self.now.review) top.now)
             (entries (trees_of self.now.review).old)) }
     {
-        let mut text = String::new(alloc);
+        let mut text = String::new(self.alloc);
         for index in 0..self.review.old.node_count() {
             let Some(node) = self.review.old.node(index) else {
                 unreachable!()
             };
-            let line = self.gone_line(alloc, top, &node)?;
+            let line = self.gone_line(top, &node)?;
             text.push_str(&line)?;
         }
         Ok(text)
     }
 
-    fn gone_line(&self, alloc: Global, top: &Path, node: &NodeRef<'_>) -> Result<String, AllocError>
+    fn gone_line(&self, top: &Path, node: &NodeRef<'_>) -> Result<String, AllocError>
         ensures { IfOk result (λ text. string_bytes text
             ≡ gone_line self.now.notation.paths (trees_of self.now.review) top.now (listed node.now)) }
     {
         if !node.path.as_path_ref().is_within(&top.as_path_ref()) {
-            return Ok(String::new(alloc));
+            return Ok(String::new(self.alloc));
         }
         if self.review.new.lookup(node.path).is_some() {
-            return Ok(String::new(alloc));
+            return Ok(String::new(self.alloc));
         }
-        let path = path_word(alloc, self.notation.paths, node.path)?;
-        format!(in alloc; "gone {path}\n")
+        let path = path_word(self.alloc, self.notation.paths, node.path)?;
+        format!(in self.alloc; "gone {path}\n")
     }
-}
 
-/// The lines of what tokens gain and lose at the node of a path: none where nothing changes.
-fn change_text(
-    alloc: Global,
-    notation: Notation,
-    path: &Path,
-    compared: &Compared,
-) -> Result<String, AllocError>
-    ensures { (g : MappingValue) → IsRight g compared.now
-        → IfOk result (λ text. IsChangeText notation.spelling g (path_word notation.paths path.now ++ codes " ")
-        (parts_in (descriptor_of compared.now.before)) (parts_in (descriptor_of compared.now.after))
-        (string_bytes text)) }
-{
-    let word = path_word(alloc, notation.paths, path)?;
-    let word = word.as_str();
-    let head = format!(in alloc; "{word} ")?;
-    let text = compared.lines(alloc, notation.spelling, head.as_str())?;
-    Ok(text)
-}
+    /// The lines of what tokens gain and lose at the node of a path: none where nothing changes.
+    fn change_text(&self, path: &Path, compared: &Compared) -> Result<String, AllocError>
+        ensures { (g : MappingValue) → IsRight g compared.now
+            → IfOk result (λ text. IsChangeText self.now.notation.spelling g
+            (path_word self.now.notation.paths path.now ++ codes " ")
+            (parts_in (descriptor_of compared.now.before)) (parts_in (descriptor_of compared.now.after))
+            (string_bytes text)) }
+    {
+        let word = path_word(self.alloc, self.notation.paths, path)?;
+        let word = word.as_str();
+        let head = format!(in self.alloc; "{word} ")?;
+        let text = compared.lines(self.alloc, self.notation.spelling, head.as_str())?;
+        Ok(text)
+    }
 
-fn new_line(alloc: Global, paths: PathSpelling, path: &Path) -> Result<String, AllocError>
-    ensures { IfOk result (λ text. string_bytes text ≡ new_line paths path.now) }
-{
-    let path = path_word(alloc, paths, path)?;
-    format!(in alloc; "new {path}\n")
-}
+    fn new_line(&self, path: &Path) -> Result<String, AllocError>
+        ensures { IfOk result (λ text. string_bytes text ≡ new_line self.now.notation.paths path.now) }
+    {
+        let path = path_word(self.alloc, self.notation.paths, path)?;
+        format!(in self.alloc; "new {path}\n")
+    }
 
-fn moved_line(
-    alloc: Global,
-    paths: PathSpelling,
-    before: &Path,
-    path: &Path,
-) -> Result<String, AllocError>
-    ensures { IfOk result (λ text. string_bytes text ≡ moved_line paths before.now path.now) }
-{
-    let before = path_word(alloc, paths, before)?;
-    let path = path_word(alloc, paths, path)?;
-    let (before, path) = (before.as_str(), path.as_str());
-    let text = format!(in alloc; "moved {before} {path}\n")?;
-    Ok(text)
+    fn moved_line(&self, before: &Path, path: &Path) -> Result<String, AllocError>
+        ensures { IfOk result (λ text. string_bytes text ≡ moved_line self.now.notation.paths before.now path.now) }
+    {
+        let before = path_word(self.alloc, self.notation.paths, before)?;
+        let path = path_word(self.alloc, self.notation.paths, path)?;
+        let (before, path) = (before.as_str(), path.as_str());
+        let text = format!(in self.alloc; "moved {before} {path}\n")?;
+        Ok(text)
+    }
 }

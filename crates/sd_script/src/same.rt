@@ -1,11 +1,9 @@
 //! Whether what a line asks for is what makes a node, or a publish.
-ghost use Rattle.std.specs.Prelude.{◌≡◌};
+ghost use Rattle.std.specs.Prelude.{◌≡◌, option_map};
 ghost use Rattle.std.specs.Bool.{Decides};
 ghost use Rattle.sd_tree.specs.Listing.{listed};
 ghost use Rattle.sd_script.specs.Addition.{addition};
-ghost use Rattle.sd_script.specs.Dump.{making, root_of};
-ghost use Rattle.sd_script.specs.declared.asked.Asked.TheVariants.{Asking};
-ghost use Rattle.sd_desk.specs.declared.request.Request.TheVariants.{Publish};
+ghost use Rattle.sd_script.specs.Dump.{making, root_of, wanted};
 
 use crate::asked::Asked;
 use sd_desk::Request;
@@ -13,8 +11,18 @@ use sd_review::same_entries;
 use sd_sid::Sid;
 use sd_tree::{Edit, NodeDacl, NodeKind, NodeRef, Path, RootSpec};
 
-/// Whether this makes the node, whose tree is opened for so many readers.
-pub(crate) fn is_making(asked: &Asked, readers: u64, node: &NodeRef<'_>) -> bool
+/// Whether this makes the node, whose tree is opened for so many readers; or is a publish, where there is none.
+pub(crate) fn is_wanted(asked: &Asked, readers: u64, node: &Option<NodeRef<'_>>) -> bool
+    ensures { Decides result (asked.now ≡ wanted readers (option_map listed node.now)) }
+{
+    match node {
+        Some(node) => is_making(asked, readers, node),
+        None => matches!(asked, Asked::Asking(Request::Publish)),
+    }
+}
+
+/// Whether this makes the node.
+fn is_making(asked: &Asked, readers: u64, node: &NodeRef<'_>) -> bool
     ensures { Decides result (asked.now ≡ making readers (listed node.now).0 (listed node.now).1) }
 {
     let is_root = node.path.as_path_ref().is_root();
@@ -26,13 +34,6 @@ pub(crate) fn is_making(asked: &Asked, readers: u64, node: &NodeRef<'_>) -> bool
         Asked::Asking(Request::Edit(edit)) => !is_root && is_addition(edit, node),
         _ => false,
     }
-}
-
-/// Whether this asks for a publish.
-pub(crate) fn is_publishing(asked: &Asked) -> bool
-    ensures { Decides result (asked.now ≡ Asking Publish) }
-{
-    matches!(asked, Asked::Asking(Request::Publish))
 }
 
 /// Whether the root is given what the node has of its own.

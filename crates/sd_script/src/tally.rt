@@ -1,6 +1,6 @@
 //! What is counted of a script's lines, beside what they are answered by.
 ghost use Rattle.std.specs.Prelude.{◌≡◌};
-ghost use Rattle.sd_script.specs.Tally.{first_of, has_mark, is_unmet, no_lines, one_more_where, tallied};
+ghost use Rattle.sd_script.specs.Tally.{has_mark, is_unmet, no_lines, one_more_where, tallied};
 ghost use Rattle.sd_script.specs.Tally.{tells_difference, tells_fault, tells_order};
 
 use crate::expect::expects;
@@ -51,12 +51,16 @@ impl Tally {
         let is_unmet = is_unmet(line, answer);
         Tally {
             lines: number,
-            first_fault: first_of(self.first_fault, tells_fault(answer), number),
-            first_difference: first_of(self.first_difference, tells_difference(answer), number),
-            first_reordered: first_of(self.first_reordered, tells_order(answer), number),
+            first_fault: self.first_fault.or(tells_fault(answer).then_some(number)),
+            first_difference: self
+                .first_difference
+                .or(tells_difference(answer).then_some(number)),
+            first_reordered: self
+                .first_reordered
+                .or(tells_order(answer).then_some(number)),
             expected: one_more_where(expects(line), self.expected),
             unmet: one_more_where(is_unmet, self.unmet),
-            first_unmet: first_of(self.first_unmet, is_unmet, number),
+            first_unmet: self.first_unmet.or(is_unmet.then_some(number)),
             begins_with_mark: self.begins_with_mark || (self.lines == 0 && has_mark(line)),
         }
     }
@@ -70,16 +74,6 @@ fn one_more_where(holds: bool, count: u64) -> u64
         count.saturating_add(1)
     } else {
         count
-    }
-}
-
-/// The line where this holds of it, if none was before it.
-fn first_of(before: Option<u64>, holds: bool, number: u64) -> Option<u64>
-    ensures { result ≡ first_of before holds number }
-{
-    match before {
-        None if holds => Some(number),
-        _ => before,
     }
 }
 

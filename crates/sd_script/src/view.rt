@@ -2,8 +2,7 @@
 ghost use Rattle.std.specs.Prelude.{◌≡◌, IfOk, string_bytes};
 ghost use Rattle.sd_script.specs.View.{IsViewed};
 
-use crate::dump::dump_text;
-use crate::listing::list_text;
+use crate::listing::{Printer, Which};
 use crate::manner::Notation;
 use crate::review::review_text;
 use crate::who::node_who_text;
@@ -75,9 +74,10 @@ pub(crate) fn view_text(
     ensures { IfOk result (λ text. IsViewed notation desk.now view.now (string_bytes text)) }
 {
     let tree = desk.published();
+    let printer = Printer::of(alloc, notation, tree);
     match view {
-        View::List { path } => list_text(alloc, notation, tree, path),
-        View::Dump => dump_text(alloc, notation, tree, desk.readers()),
+        View::List { path } => printer.nodes_text(path, &Which::All, "", ""),
+        View::Dump => printer.dump_text(desk.readers()),
         View::Who {
             path,
             groups,

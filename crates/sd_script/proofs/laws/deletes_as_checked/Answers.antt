@@ -1,4 +1,4 @@
-use Rattle.sd_script.proofs.DeletedAsChecked as laws
+use Rattle.sd_script.proofs.AsChecked as laws
 use Rattle.sd_script.proofs.laws.deletes_as_checked.Goals as goal
 
 pub returns : goal.returns

@@ -1,0 +1,136 @@
+-- What `why` and `delete` print beside what `check` prints.
+use Rattle.std.proofs.Common.{◌≡◌, ℕ, List, [], ◌++◌, length, Option, Some, None, refl, sym, ◌∙◌, ap, append_assoc, append-nil, Bool, true, false, subst, arith}
+use Rattle.std.specs.Prelude.{codes, option_map, get_or, if◌then◌else◌}
+use Rattle.sd_sid.specs.Mapping.{MappingValue}
+use Rattle.sd_acl.specs.declared.ace.Ace.{Ace}
+use Rattle.sd_check.specs.Token.{TokenValue}
+use Rattle.sd_explain.specs.Parts.{reason_in}
+use Rattle.sd_explain.specs.Reasons.{reasons_of}
+use Rattle.sd_tree.specs.Answers.{reply_for, answer}
+use Rattle.sd_tree.specs.Descriptors.{descriptor_of_row}
+use Rattle.sd_tree.specs.Journal.{replay}
+use Rattle.sd_tree.specs.Names.{Names}
+use Rattle.sd_tree.specs.Plain.{dacl_at, row_at}
+use Rattle.sd_tree.specs.declared.node.Row.{Row}
+use Rattle.sd_desk.specs.Machine.{Machine}
+use Rattle.sd_desk.specs.declared.request.Request.TheVariants as requests
+use Rattle.sd_answer.specs.Answer.{line, spelled}
+use Rattle.sd_script.specs.Laws.{BeginsAsCheck, DeletesAsChecked, IsGranted, by_node_line}
+use Rattle.sd_script.specs.Question.{outcome_of}
+use Rattle.sd_script.specs.Reply.{check_line, node_why_text, seen_line}
+use Rattle.sd_answer.specs.Why.{listed, part_lines}
+use Rattle.sd_answer.specs.declared.answer.Spelling.{Spelling}
+use Rattle.sd_script.specs.declared.manner.Notation.{Notation}
+use Rattle.sd_script.specs.declared.question.Question.TheVariants.{Why, Delete}
+use Rattle.sd_script.specs.declared.session.Session.TheVariants.{Opened}
+use Rattle.sd_script.proofs.OneOutput.{by_reader, one_step, outcome}
+use Rattle.std.specs.Fmt.{decimal}
+use Rattle.std.proofs.lemmas.List.{append_cancel_left}
+use Rattle.sd_check.specs.declared.verdict.Verdict.TheVariants.{Granted, Denied, Reserved, EmptyRequest}
+use Rattle.sd_tree.specs.declared.tree.CheckReply.{CheckReply}
+use Rattle.sd_tree.specs.declared.tree.CheckReply.TheVariants.{Verdict, NoNode}
+use Rattle.sd_script.specs.Deletion.{delete_right, deletion_line, parent_grants}
+
+-- ---- the answer to `why` begins with that to `check`
+
+-- a text that another begins
+abbrev Begins : List ℕ → List ℕ → Type 0
+Begins text whole = (rest : List ℕ) × (whole ≡ text ++ rest)
+
+abbrev parts : Spelling → MappingValue → Option (List Ace) → Row → TokenValue → ℕ → List ℕ
+parts spelling g dacl row t asked = part_lines spelling (Some row.owner) (listed dacl) (reason_in (reasons_of (Some row.owner) dacl g t asked)) 32
+
+-- of a node, or of none
+node_begins : (spelling : Spelling) (g : MappingValue) (dacl : Option (List Ace)) (row : Option Row) (t : TokenValue) (asked : ℕ)
+    → Begins (check_line spelling (reply_for g dacl t asked row)) (node_why_text spelling g t asked (option_map (λ (r : Row). descriptor_of_row r dacl) row))
+node_begins spelling g dacl None t asked = ([], sym (append-nil (line (codes "nonode"))))
+node_begins spelling g None (Some row) t asked = (parts spelling g None row t asked, refl)
+node_begins spelling g (Some es) (Some row) t asked = (parts spelling g (Some es) row t asked, refl)
+
+seen_begins : (seen : ℕ) (text whole : List ℕ) → Begins text whole → Begins (seen_line seen text) (seen_line seen whole)
+seen_begins seen text whole begins =
+    let longer : seen_line seen (text ++ begins.0) ≡ seen_line seen text ++ begins.0 = simp append_assoc in
+    (begins.0, ap (seen_line seen) begins.1 ∙ longer)
+
+abbrev Starts : List ℕ × Machine → List ℕ × Machine → Type 0
+Starts check why = Begins check.0 why.0 × (why.1 ≡ check.1)
+
+outcomes_begin : (notation : Notation) (m : Machine) (reader : ℕ) (path : Names) (t : TokenValue) (asked : ℕ)
+    → Starts (outcome notation.spelling m (requests.Check reader path t asked)) (outcome_of notation m reader path (Why t asked))
+outcomes_begin notation m reader path t asked =
+    let tree = replay m.opening m.published in
+    by_reader Starts m reader _ _
+    (seen_begins (length m.published) _ _ (node_begins notation.spelling m.opening.mapping (dacl_at m.opening.mapping tree path) (row_at tree path) t asked), refl)
+    (([], sym (append-nil (line (codes "noreader")))), refl)
+
+pub begins_as_check : BeginsAsCheck
+begins_as_check notation m reader path t asked checked told one other first second =
+    let check = one_step notation.spelling m (requests.Check reader path t asked) first.0 first.1 checked first.2 first.3 in
+    let both = outcomes_begin notation m reader path t asked in (
+      (both.0.0, second.0 ∙ both.0.1 ∙ ap (λ (z : List ℕ × Machine). z.0 ++ both.0.0) (sym check)),
+      second.1 ∙ ap (Opened notation) (both.1 ∙ ap (λ (z : List ℕ × Machine). z.1) (sym check)) ∙ sym first.4,
+    )
+
+-- ---- `delete` is granted by the node just where `check` for DELETE is granted
+
+abbrev letter : ℕ → List ℕ → ℕ
+letter k xs = get_or xs k 0
+
+after_seen : (len : ℕ) (xs ys : List ℕ) → seen_line len xs ≡ seen_line len ys → xs ≡ ys
+after_seen len xs ys same = append_cancel_left (codes "seen " ++ decimal len ++ codes " ") xs ys same
+
+abbrev AreAlike : Spelling → ℕ → List ℕ → List ℕ → Type 0
+AreAlike spelling len checked deleted =
+    (IsGranted spelling len checked → deleted ≡ by_node_line len) × (deleted ≡ by_node_line len → IsGranted spelling len checked)
+
+-- neither is a grant: the one begins otherwise
+neither : (spelling : Spelling) (len : ℕ) (xs ys : List ℕ) → (letter 0 xs ≡ 103 → ⊥) → (ys ≡ line (codes "granted by node") → ⊥)
+    → AreAlike spelling len (seen_line len xs) (seen_line len ys)
+neither spelling len xs ys other others = (
+  λ is. absurd (other (ap (letter 0) (after_seen len xs (line (codes "granted " ++ spelled spelling is.0)) is.1))),
+  λ is. absurd (others (after_seen len ys (line (codes "granted by node")) is)),
+)
+
+abbrev otherwise : Bool → List ℕ
+otherwise by_parent = if by_parent then line (codes "granted by parent") else line (codes "denied")
+
+not_by_node : (by_parent : Bool) → otherwise by_parent ≡ line (codes "granted by node") → ⊥
+not_by_node true is = let there : 112 ≡ 110 = ap (letter 11) is in omega (arith, there)
+not_by_node false is = let there : 100 ≡ 103 = ap (letter 0) is in omega (arith, there)
+
+-- by the reply to the check
+replies_alike : (spelling : Spelling) (len : ℕ) (reply : CheckReply) (by_parent : Bool)
+    → AreAlike spelling len (seen_line len (check_line spelling reply)) (seen_line len (deletion_line reply by_parent))
+replies_alike spelling len (Verdict (Granted mask)) by_parent = (λ is. refl, λ is. (mask, refl))
+replies_alike spelling len (Verdict (Denied mask)) by_parent =
+    neither spelling len (line (codes "denied " ++ spelled spelling mask)) (otherwise by_parent) (λ h. omega (arith, h)) (not_by_node by_parent)
+replies_alike spelling len (Verdict (Reserved mask)) by_parent =
+    neither spelling len (line (codes "reserved " ++ spelled spelling mask)) (otherwise by_parent) (λ h. omega (arith, h)) (not_by_node by_parent)
+replies_alike spelling len (Verdict EmptyRequest) by_parent =
+    neither spelling len (line (codes "empty")) (otherwise by_parent) (λ h. omega (arith, h)) (not_by_node by_parent)
+replies_alike spelling len NoNode by_parent =
+    neither spelling len (line (codes "nonode")) (line (codes "nonode")) (λ h. omega (arith, h))
+    (λ is. let there : 110 ≡ 103 = ap (letter 0) is in omega (arith, there))
+
+abbrev Alike : Spelling → ℕ → List ℕ × Machine → List ℕ × Machine → Type 0
+Alike spelling len check deletion = AreAlike spelling len check.0 deletion.0 × (deletion.1 ≡ check.1)
+
+pub deletes_as_checked : DeletesAsChecked
+deletes_as_checked notation m reader path t checked told one other first second =
+    let len = length m.published in
+    let by_parent = parent_grants m.opening m.published path t in
+    let check = one_step notation.spelling m (requests.Check reader path t delete_right) first.0 first.1 checked first.2 first.3 in
+    let both : Alike notation.spelling len (outcome notation.spelling m (requests.Check reader path t delete_right)) (outcome_of notation m reader path (Delete t)) =
+    by_reader (Alike notation.spelling len) m reader _ _
+    (replies_alike notation.spelling len (answer m.opening m.published path t delete_right) by_parent, refl) (
+      (
+        λ is. absurd (let there : 110 ≡ 115 = ap (letter 0) is.1 in omega (arith, there)),
+        λ is. absurd (let there : 110 ≡ 115 = ap (letter 0) is in omega (arith, there)),
+      ),
+      refl,
+    ) in
+    let text = ap (λ (z : List ℕ × Machine). z.0) check in (
+      λ is. second.0 ∙ both.0.0 (subst (IsGranted notation.spelling len) text is),
+      λ is. subst (IsGranted notation.spelling len) (sym text) (both.0.1 (sym second.0 ∙ is)),
+      second.1 ∙ ap (Opened notation) (both.1 ∙ sym (ap (λ (z : List ℕ × Machine). z.1) check)) ∙ sym first.4,
+    )

@@ -1,0 +1,9 @@
+-- Where one of the words is no group, they are no base.
+use Rattle.std.proofs.Common.{Err, ap, refl}
+use Rattle.sd_answer.proofs.OneToken.{groups_or_none}
+use Rattle.sd_script.proofs.argument.Parser.base.Goals as goal
+
+pub returns-in-Err-NoWord : goal.returns-in-Err-NoWord
+returns-in-Err-NoWord c =
+    let place = c.in-Err-NoWord.field-0-0 in
+    (λ groups are. groups_or_none c.args.self.notation.aliases _ groups place are (c.in-Err-NoWord.ensures.no_group place (ap Err c.in-Err-NoWord.field-0-is)), refl)
