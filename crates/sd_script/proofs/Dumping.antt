@@ -1,5 +1,5 @@
 -- The lines that make a tree, and whether they are read as what makes it.
-use Rattle.std.proofs.Common.{◌≡◌, ℕ, zero, suc, ◌+◌, ◌<◌, ◌≤◌, Bool, true, false, List, [], ◌∷◌, ◌++◌, length, Option, Some, None, Result, Ok, Err, refl, sym, ◌∙◌, ap, subst, inl, inr, add-one, append_assoc, append-nil, arith}
+use Rattle.std.proofs.Common.{◌≡◌, ℕ, zero, suc, ◌+◌, ◌<◌, ◌≤◌, Bool, true, false, List, [], ◌∷◌, ◌++◌, length, Option, Some, None, Result, Ok, Err, refl, sym, ◌∙◌, ap, subst, inl, inr, add-one, append_assoc, append-nil, take-append-drop, arith}
 use Rattle.std.specs.Prelude.{drop, nat_lt, take, slice_get, option_map, codes}
 use Rattle.std.specs.Bool.{Decides}
 use Rattle.std.specs.Fmt.{decimal}
@@ -32,9 +32,9 @@ use Rattle.sd_script.specs.declared.asked.Asked.{Asked}
 use Rattle.sd_script.specs.declared.asked.Asked.TheVariants.{Asking}
 use Rattle.sd_script.specs.declared.fault.LineFault.{LineFault}
 use Rattle.sd_script.specs.declared.manner.Notation.{Notation}
-use Rattle.sd_lines.specs.Lines.{HasNoEnd}
+use Rattle.sd_lines.specs.Lines.{HasNoEnd, end_byte}
 use Rattle.sd_lines.specs.declared.ending.Ending.TheVariants.{Feed}
-use Rattle.sd_lines.proofs.Cutting.{cut_at_end, ends, lines_cut, lines_last, none_before}
+use Rattle.sd_lines.proofs.Cutting.{end_at, ends, lines_cut, lines_last, none_before}
 use Rattle.sd_script.proofs.OneReading.{line-one}
 
 -- the order of paths tells whether they are one
@@ -131,7 +131,9 @@ some_lines : (xs : List ℕ) → 0 < length xs → (x : List ℕ) × (more : Lis
 some_lines xs some = elim (cases_lt (position_or_len (ends Feed) xs) (length xs)) [
   | inl low ↦
       let n = position_or_len (ends Feed) xs in
-      (_, lines (drop (n + 1) xs), ap lines (cut_at_end Feed xs low) ∙ lines_cut Feed (take n xs) (drop (n + 1) xs) (none_before Feed xs))
+      let rest = drop 1 (drop n xs) in
+      let cut : xs ≡ take n xs ++ end_byte Feed ∷ rest = sym (take-append-drop n xs) ∙ ap (λ ys. take n xs ++ ys) (end_at Feed xs low) in
+      (_, lines rest, ap lines cut ∙ lines_cut Feed (take n xs) rest (none_before Feed xs))
   | inr whole ↦
       let all = take_all (position_or_len (ends Feed) xs) xs whole in
       (xs, [], lines_last Feed xs (subst (HasNoEnd Feed) all (none_before Feed xs)) some)
