@@ -11,7 +11,7 @@ use std::process::Abort;
 #[derive(Debug)]
 struct Brackets;
 
-impl Answers for Brackets {
+impl AnswersLines for Brackets {
     /// Whether a line so far was refused.
     type State = bool;
 
