@@ -1,5 +1,5 @@
 -- What a descriptor grants in a pass, as masks, and whom it speaks of.
-use Rattle.std.proofs.Common.{◌≡◌, ℕ, ◌<◌, Bool, true, not, ◌&&◌, ◌||◌, ◌==◌, cond, inl, inr, refl, sym, ◌∙◌, ap, arith}
+use Rattle.std.proofs.Common.{◌≡◌, ℕ, ◌<◌, Bool, true, false, not, ◌&&◌, ◌||◌, ◌==◌, cond, inl, inr, refl, sym, ◌∙◌, ap, arith}
 use Rattle.std.proofs.lemmas.Bool.{and_parts, agree_below_at, cases_lt, false≢true}
 use Rattle.std.proofs.lemmas.Nat.Bits.{bit_at_above}
 use Rattle.sd_sid.specs.Mask.{holds, mask_of}
@@ -41,3 +41,21 @@ module _ (granted listed owned one two rest low_rest worth among b : ℕ) (g l o
   pub met_held : (result : ℕ) → owned ≡ cond unowned two 0 → result ≡ mask_of (λ k. holds worth k && not (holds owned k)) 32 → holds two b ≡ o
       → holds result b ≡ ((g && (not (unlisted && l) && not (unowned && o))) && holds among b)
   met_held result is_owned is_result ho = grind (arith, worth_held, holds_place, holds_when)
+
+-- the bits that lists leave in question
+pub in_question : (granted listed rest bits one among b : ℕ) (a l by_owner unlisted : Bool) → b < 21
+    → holds granted b ≡ (by_owner || a) → listed ≡ cond unlisted one 0 → holds one b ≡ l
+    → rest ≡ mask_of (λ k. holds granted k && not (holds listed k)) 32 → bits ≡ mask_of (λ k. holds rest k && holds among k) 32
+    → holds bits b ≡ (((by_owner || a) && not (unlisted && l)) && holds among b)
+in_question granted listed rest bits one among b a l by_owner unlisted low hg is_listed hl is_rest is = grind (
+  arith,
+  holds_place (λ k. holds rest k && holds among k) b (omega arith),
+  holds_place (λ k. holds granted k && not (holds listed k)) b (omega arith),
+  holds_when unlisted one b,
+)
+
+-- where none is left, no SIDs meet the demand for one
+pub none_in_question : (bits among b : ℕ) (a l grants denies owned owns by_owner unlisted unowned : Bool)
+    → holds bits b ≡ (((by_owner || a) && not (unlisted && l)) && holds among b) → (bits == 0) ≡ true → a ≡ grants → l ≡ denies
+    → (cond by_owner owns grants && (not (unlisted && denies) && not (unowned && owned))) ≡ true → holds among b ≡ false
+none_in_question bits among b a l grants denies owned owns by_owner unlisted unowned is none ha hl h = grind (arith, none_held bits b none)

@@ -1,11 +1,12 @@
 //! The search for SIDs of a pass that meet a demand.
 
-ghost use Rattle.std.specs.Prelude.{◌≡◌, ◌<◌, ℕ, Option, Some, None, OnOk, IfOk, true, false, ◌⊎◌, ◌&&◌};
+ghost use Rattle.std.specs.Prelude.{◌≡◌, ◌<◌, ℕ, Option, Some, None, OnOk, IfOk, true, false, not, ◌⊎◌, ◌&&◌, ◌||◌};
 ghost use Rattle.std.specs.Prelude.{length, take, slice_index_or, ◌++◌, ◌∷◌, []};
 ghost use Rattle.sd_sid.specs.Mask.{holds};
 ghost use Rattle.sd_sid.specs.Sid.{SidValue};
 ghost use Rattle.sd_analysis.specs.Sufficient.{is_among};
 ghost use Rattle.sd_analysis.specs.Report.{AreFindings, ArePlaced, HasRoom, IsCase, IsFound, IsLessLeft, IsPlace};
+ghost use Rattle.sd_analysis.specs.Table.{listed_of, point_at};
 ghost use Rattle.sd_analysis.specs.Report.{IsSought, is_granted_alone, is_granted_to, sids_in, sids_meet};
 
 use crate::base::Base;
@@ -219,13 +220,39 @@ impl Case<'_> {
         both.walk(&self.table.old, &self.table.new, role);
         for (number, denied) in self.denied.iter().enumerate() {
             let at = self.table.places[self.allowed.len() + number];
-            let pair = PassSids {
-                allowed: *allowed,
-                denied: Some(*denied),
-            };
-            self.try_sids(found, both, pass, demand, &pair, at)?;
+            self.try_pair(found, both, pass, demand, allowed, denied, at)?;
         }
         Ok(())
+    }
+
+    /// Tries the SID with one of these. Only for speed: the two are copied where the lists leave a bit in question.
+    #[inline(always)]
+    fn try_pair(
+        &self,
+        found: &mut Found,
+        both: &Both,
+        pass: Pass,
+        demand: Demand,
+        allowed: &Sid,
+        denied: &Sid,
+        place: usize,
+    ) -> Result<(), AllocError>
+        requires { ArePlaced self.now pass (record { allowed = allowed.now; denied = Some denied.now }) both.now place }
+        ensures found { OnOk result ((wanted : ℕ)
+            → IsFound self.now pass demand wanted found.old → IsFound self.now pass demand wanted found.new) }
+        ensures less { OnOk result (IsLessLeft found.old found.new) }
+        ensures gone { OnOk result ((b : ℕ) → b < 21
+            → sids_meet self.now pass demand (record { allowed = allowed.now; denied = Some denied.now }) b ≡ true
+            → holds found.new.left b ≡ false) }
+    {
+        if in_question(both, demand, place, found.left).is_empty() {
+            return Ok(());
+        }
+        let pair = PassSids {
+            allowed: *allowed,
+            denied: Some(*denied),
+        };
+        self.try_sids(found, both, pass, demand, &pair, place)
     }
 
     /// Adds the bits for which the SIDs meet the demand, by what both lists grant with them: it is at the place.
@@ -298,6 +325,24 @@ impl Case<'_> {
             both.after.listed(place)
         }
     }
+}
+
+/// Those of the bits that the lists leave in question at the place: of what the owner may have, all of its own.
+#[inline(always)]
+fn in_question(both: &Both, demand: Demand, place: usize, among: Mask) -> Mask
+    requires before { place < length both.now.before.own.items }
+    requires after { place < length both.now.after.own.items }
+    ensures { (b : ℕ) → b < 21 → holds result b
+        ≡ (((demand.by_owner || holds (listed_of (point_at both.now.after place)) b)
+        && not (demand.unlisted && holds (listed_of (point_at both.now.before place)) b)) && holds among b) }
+{
+    let granted = if demand.by_owner {
+        OBJECT_RIGHTS
+    } else {
+        both.after.listed(place)
+    };
+    let listed = both.before.listed(place).when(demand.unlisted);
+    granted.minus(listed).common(among)
 }
 
 fn add_finding(
