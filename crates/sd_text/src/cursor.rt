@@ -33,21 +33,11 @@ impl<'a> Cursor<'a> {
     }
 
     /// Whether the rest begins with these letters, at least one, of either case.
-    #[tactic(auto, using(crate::proofs::Letters::begins_nothing, crate::proofs::Letters::begins_short))]
     pub(crate) fn begins(&self, letters: &[u8]) -> bool
         ensures value { result ≡ begins self.now.rest.now letters.now }
         ensures within { IsTrue result → length letters.now ≤ length self.now.rest.now }
     {
-        let text = self.rest;
-        if letters.is_empty() || text.len() < letters.len() {
-            return false;
-        }
-        for (i, letter) in letters.iter().enumerate() {
-            if !is_letter(text[i], *letter) {
-                return false;
-            }
-        }
-        true
+        begins(self.rest, letters)
     }
 
     /// Whether the rest begins with a digit.
@@ -78,7 +68,7 @@ impl<'a> Cursor<'a> {
         ensures rest { self.new.rest.now
             ≡ (if result then drop (length letters.now) self.old.rest.now else self.old.rest.now) }
     {
-        if !self.begins(letters) {
+        if !begins(self.rest, letters) {
             return false;
         }
         let (_, behind) = self.rest.split_at(letters.len());
@@ -132,6 +122,23 @@ impl<'a> Cursor<'a> {
     }
 }
 
+/// The same of a text. Only for speed a function of slices: a loop over the cursor's field was slower.
+#[tactic(auto, using(crate::proofs::Letters::begins_nothing, crate::proofs::Letters::begins_short))]
+fn begins(text: &[u8], letters: &[u8]) -> bool
+    ensures value { result ≡ begins text.now letters.now }
+    ensures within { IsTrue result → length letters.now ≤ length text.now }
+{
+    if letters.is_empty() || text.len() < letters.len() {
+        return false;
+    }
+    for (i, letter) in letters.iter().enumerate() {
+        if !is_letter(text[i], *letter) {
+            return false;
+        }
+    }
+    true
+}
+
 /// Whether a byte is this letter, of either case. Only for speed: equal bytes are found first, and case is ignored only
 /// for a letter that has one.
 #[inline(always)]
@@ -151,16 +158,15 @@ fn run_of(text: &[u8], radix: u32, limit: u64) -> (u64, usize)
     ensures within { result.1 ≤ length text.now }
     ensures value { IsCapped limit result.0 (digits_value radix (take result.1 text.now)) }
 {
-    if text.len() < NUMBER_FRONT {
-        return short_run_of(text, radix);
+    if text.len() >= NUMBER_FRONT {
+        let (front, _) = text.split_at(NUMBER_FRONT);
+        let (value, len) = short_run_of(front, radix);
+        if len < NUMBER_FRONT {
+            return (value, len);
+        }
+        return long_run_of(text, radix, limit);
     }
-    let (front, _) = text.split_at(NUMBER_FRONT);
-    let (value, len) = short_run_of(front, radix);
-    if len < NUMBER_FRONT {
-        (value, len)
-    } else {
-        long_run_of(text, radix, limit)
-    }
+    short_run_of(text, radix)
 }
 
 /// The digits of a decimal number of 32 bits and the byte after them. Only for speed such a front is parsed by itself:

@@ -253,6 +253,9 @@ fn write_flags(out: &mut String, flags: AceFlags) -> Result<(), AllocError>
     ensures { OnOk result (string_bytes out.new ≡ string_bytes out.old ++ flags_canon flags.0) }
 {
     let bits = u32::from(flags.bits());
+    if bits == 0 {
+        return Ok(());
+    }
     for (letters, flag) in flag_names() {
         write_where(out, bits & flag != 0, letters)?;
     }

@@ -1,6 +1,6 @@
 use Rattle.std.proofs.Common.{◌≡◌, drop}
 use Rattle.sd_text.proofs.Letters.{matches}
-use Rattle.sd_text.proofs.cursor.Cursor.begins.Given as goal
+use Rattle.sd_text.proofs.cursor.begins.Given as goal
 
 -- the letters that have been passed stand there
 abbrev pub invariant-loop-i : goal.invariant-loop-i
