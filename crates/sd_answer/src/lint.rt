@@ -3,11 +3,11 @@ ghost use Rattle.std.specs.Prelude.{◌≡◌, ◌<◌, ◌^◌, ◌++◌, IfOk,
 ghost use Rattle.sd_acl.specs.Descriptor.{descriptor_of};
 ghost use Rattle.sd_check.specs.Check.{is_limit};
 ghost use Rattle.sd_answer.specs.Lint.{IsLintText, entry_head, entry_lines, is_misplaced, is_repeated};
-ghost use Rattle.sd_answer.specs.Lint.{is_stranded, is_useless, list_lines, same_kind, where_behind, where_so};
+ghost use Rattle.sd_answer.specs.Lint.{is_stranded, is_useless, list_lines, where_behind, where_so};
 
 use crate::answer::Spelling;
 use bitflags::Flags;
-use sd_acl::{Ace, AceFlags, AceKind, Dacl, Descriptor};
+use sd_acl::{Ace, AceFlags, Dacl, Descriptor};
 use sd_analysis::{Base, redundant};
 use sd_sid::GenericMapping;
 use sd_text::print_entry_in;
@@ -37,6 +37,7 @@ pub fn lint_text(
 }
 
 /// The lines of these entries, of which the marks say which are redundant.
+#[tactic(auto, unfolding(crate::specs::Lint::list_lines))]
 fn list_lines(
     alloc: Global,
     spelling: Spelling,
@@ -62,7 +63,7 @@ fn list_lines(
 }
 
 /// The findings of the entry at the place.
-#[tactic(auto, unfolding(crate::specs::Lint::entry_lines))]
+#[tactic(auto, unfolding(crate::specs::Lint::entry_lines), using(std::proofs::Common::append_assoc))]
 fn entry_lines(
     alloc: Global,
     spelling: Spelling,
@@ -173,20 +174,10 @@ fn is_misplaced(later: &Ace, earlier: &Ace) -> bool
 fn is_repeated(later: &Ace, earlier: &Ace) -> bool
     ensures { result ≡ is_repeated later.now earlier.now }
 {
-    same_kind(later.kind, earlier.kind)
+    later.kind.is_allow() == earlier.kind.is_allow()
         && later.flags.bits() == earlier.flags.bits()
         && later.mask.bits() == earlier.mask.bits()
         && earlier.sid.is(&later.sid)
-}
-
-fn same_kind(later: AceKind, earlier: AceKind) -> bool
-    ensures { result ≡ same_kind later earlier }
-{
-    if later.is_allow() {
-        earlier.is_allow()
-    } else {
-        !earlier.is_allow()
-    }
 }
 
 /// Whether the entry waits to be inherited, and nothing inherits it ([MS-DTYP] 2.4.4.1).

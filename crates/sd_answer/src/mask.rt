@@ -31,7 +31,6 @@ pub fn read_mask_in(spelling: Spelling, text: &str) -> Result<Mask, TextError>
 fn words_mask(kind: Option<ObjectKind>, text: &str) -> Result<Mask, TextError>
     ensures value { IfOk result (AreJoined kind 0 (between_pluses text.now)) }
     ensures fault { IfErr result (IsErrorFrom kind 0 (between_pluses text.now)) }
-    ensures spelled { (mask : ℕ) → AreJoined kind 0 (between_pluses text.now) mask → result ≡ Ok mask }
 {
     let mut bits = 0;
     let mut start = 0;
@@ -62,7 +61,6 @@ fn word_mask(kind: Option<ObjectKind>, start: u64, word: &str) -> Result<u32, Te
     requires { start + length word.now < 2 ^ 64 }
     ensures value { IfOk result (IsWordMask kind word.now) }
     ensures fault { IfErr result (IsWordErrorAt kind start word.now) }
-    ensures spelled { (mask : ℕ) → IsWordMask kind word.now mask → result ≡ Ok mask }
 {
     match mask_named(kind, word) {
         Some(mask) => Ok(mask),
@@ -81,7 +79,6 @@ fn rights_word(word: &str) -> Result<Mask, (TextFault, u64)>
     ensures value { IfOk result (Spells rights_word word.now) }
     ensures fault { IfErr result (λ at. HasFault rights_word word.now at.0 at.1) }
     ensures within { IfErr result (λ at. at.1 ≤ length word.now) }
-    ensures spelled { (mask : ℕ) → Spells rights_word word.now mask → result ≡ Ok mask }
 {
     if word.is_empty() {
         return Err((TextFault::Syntax, 0));

@@ -298,8 +298,7 @@ fn push_word(text: &mut String, word: &str) -> Result<(), AllocError>
     if !text.is_empty() {
         text.push_str("+")?;
     }
-    text.push_str(word)?;
-    Ok(())
+    text.push_str(word)
 }
 
 /// Appends the bits that no name has, or the number 0 if the text is empty.
