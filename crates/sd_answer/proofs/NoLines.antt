@@ -52,20 +52,16 @@ none_at spelling head lines (suc n) c low none =
       | inr other ↦ elim other [ inl below ↦ none_at spelling head lines n c below parts.0 | inr above ↦ absurd (omega (arith, low, above)) ]
     ]
 
-printed_there : (spelling : Spelling) (head : List ℕ) (one : LineValue) (lines : List LineValue) (c : ℕ) → is_lowest one.0 c ≡ true
-    → lines_at spelling head (one ∷ lines) c ≡ [] → ⊥
-printed_there spelling head one lines c lowest none =
-    let rest = lines_at spelling head lines c in
-    let first = parts_empty (if is_lowest one.0 c then bits_line spelling head one else []) rest none in
-    ended _ _ (sym (ap (λ (b : Bool). if b then bits_line spelling head one else []) lowest) ∙ first.0)
-
 no_changes : (spelling : Spelling) (head : List ℕ) (old new : Parts) (changes : List Change) → All (λ (c : Change). HasABit c.mask) changes
     → changes_text spelling head old new changes ≡ [] → changes ≡ []
 no_changes spelling head old new [] bits none = refl
 no_changes spelling head old new (c ∷ changes) bits none =
     let lowest = has_lowest c.mask (All-head (λ (c : Change). HasABit c.mask) c changes bits) in
+    let one = change_line old new c in
     let lines = map (change_line old new) changes in
-    absurd (printed_there spelling head (change_line old new c) lines lowest.0 lowest.1.1 (none_at spelling head (change_line old new c ∷ lines) 32 lowest.0 lowest.1.0 none))
+    let there = none_at spelling head (one ∷ lines) 32 lowest.0 lowest.1.0 none in
+    let first = parts_empty (if is_lowest one.0 lowest.0 then bits_line spelling head one else []) (lines_at spelling head lines lowest.0) there in
+    absurd (ended _ _ (sym (ap (λ (b : Bool). if b then bits_line spelling head one else []) lowest.1.1) ∙ first.0))
 
 -- where no line is printed of gains and losses, there are none
 pub no_gain_no_loss : (spelling : Spelling) (head : List ℕ) (old new : Parts) (gained lost : List Change)

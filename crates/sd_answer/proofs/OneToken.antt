@@ -1,5 +1,5 @@
 -- A user and texts make one token, or one of the texts is no word.
-use Rattle.std.proofs.Common.{◌≡◌, ℕ, zero, suc, List, [], ◌∷◌, inl, inr, refl, sym, ◌∙◌, ap, subst}
+use Rattle.std.proofs.Common.{◌≡◌, ℕ, zero, suc, List, [], ◌∷◌, inl, inr, sym, ◌∙◌, ap, subst}
 use Rattle.std.proofs.lemmas.List.{append_cancel_right}
 use Rattle.sd_sid.specs.Sid.{SidValue}
 use Rattle.sd_text.specs.Grammar.{Spells}
@@ -39,9 +39,7 @@ word_one known text =
 
 module _ {A : Type 0} (Is : List ℕ → A → Type 0) where
   each_one : ((text : List ℕ) → IsOne (Is text)) → (texts : List (List ℕ)) → IsOne (AreEach Is texts)
-  each_one same [] [] [] a b = refl
-  each_one same [] [] (y ∷ ys) a b = absurd b
-  each_one same [] (x ∷ xs) ys a b = absurd a
+  each_one same [] xs ys a b = a ∙ sym b
   each_one same (text ∷ texts) [] ys a b = absurd a
   each_one same (text ∷ texts) (x ∷ xs) [] a b = absurd b
   each_one same (text ∷ texts) (x ∷ xs) (y ∷ ys) a b = cc (same text x y a.0 b.0, each_one same texts xs ys a.1 b.1)

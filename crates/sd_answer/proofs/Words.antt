@@ -45,8 +45,7 @@ list_any-texts test (text ∷ lent) = ap (λ b. test text.now || b) (list_any-te
 module _ {A : Type 0} (Is : List ℕ → A → Type 0) where
   AreEach-push : (front : List (Bor (List ℕ))) (ones : List A) (text : Bor (List ℕ)) (one : A)
       → AreEach Is (texts front) ones → Is text.now one → AreEach Is (texts (front ++ text ∷ [])) (ones ++ one ∷ [])
-  AreEach-push [] [] text one are is = (is, tt)
-  AreEach-push [] (o ∷ ones) text one are is = absurd are
+  AreEach-push [] ones text one are is = rw are (is, refl)
   AreEach-push (t ∷ front) [] text one are is = absurd are
   AreEach-push (t ∷ front) (o ∷ ones) text one are is = (are.0, AreEach-push front ones text one are.1 is)
 

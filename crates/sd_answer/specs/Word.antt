@@ -1,6 +1,6 @@
 -- The words that make a token: a user's groups, restricting SIDs and privileges. SIDs may have the aliases that are
 -- known.
-use Rattle.std.specs.Prelude.{◌≡◌, ◌⊎◌, ℕ, zero, suc, true, ⊤, List, [], ◌∷◌, ◌++◌, fold, map, codes}
+use Rattle.std.specs.Prelude.{◌≡◌, ◌⊎◌, ℕ, zero, suc, true, List, [], ◌∷◌, ◌++◌, fold, map, codes}
 use Rattle.std.specs.Borrow.{Bor}
 use Rattle.sd_sid.specs.Sid.{SidValue}
 use Rattle.sd_text.specs.Grammar.{Spells}
@@ -50,8 +50,7 @@ texts lent = map (λ (text : Bor (List ℕ)). text.now) lent
 
 -- the texts are these, one for one
 abbrev pub AreEach : {A : Type 0} → (List ℕ → A → Type 0) → List (List ℕ) → List A → Type 0
-AreEach Is [] [] = ⊤
-AreEach Is [] (one ∷ ones) = ⊥
+AreEach Is [] ones = ones ≡ []
 AreEach Is (text ∷ texts) [] = ⊥
 AreEach Is (text ∷ texts) (one ∷ ones) = Is text one × AreEach Is texts ones
 

@@ -1,10 +1,8 @@
 //! The mask that a question asks for ([MS-DTYP] 2.4.3): a rights field of SDDL, or words joined by `+`.
-ghost use Rattle.std.specs.Prelude.{◌≡◌, ◌+◌, ◌<◌, ◌≤◌, ◌^◌, ◌∷◌, [], ℕ, IfErr, IfNone, IfOk, IfSome, Ok, length};
-ghost use Rattle.std.specs.Prelude.{IsErrOf};
-ghost use Rattle.sd_text.specs.Grammar.{HasFault, Spells};
+ghost use Rattle.std.specs.Prelude.{◌≡◌, ◌+◌, ◌<◌, ◌^◌, ◌∷◌, [], ℕ, IfErr, IfNone, IfOk, IfSome, IsErrOf, Ok, length};
 ghost use Rattle.sd_text.specs.declared.fault.TextError.TheVariants.{Memory};
 ghost use Rattle.sd_answer.specs.Mask.{AreJoined, IsErrorFrom, IsMaskErrorIn, IsMaskIn, IsWordErrorAt, IsWordMask};
-ghost use Rattle.sd_answer.specs.Mask.{between_pluses, rights_word};
+ghost use Rattle.sd_answer.specs.Mask.{between_pluses};
 
 use crate::answer::Spelling;
 use crate::names::{ObjectKind, mask_named};
@@ -62,30 +60,21 @@ fn word_mask(kind: Option<ObjectKind>, start: u64, word: &str) -> Result<u32, Te
     ensures value { IfOk result (IsWordMask kind word.now) }
     ensures fault { IfErr result (IsWordErrorAt kind start word.now) }
 {
-    match mask_named(kind, word) {
-        Some(mask) => Ok(mask),
-        None => match rights_word(word) {
-            Ok(mask) => Ok(mask.bits()),
-            Err((fault, place)) => Err(TextError::Fault {
-                fault,
-                place: start + place,
-            }),
-        },
+    if let Some(mask) = mask_named(kind, word) {
+        return Ok(mask);
     }
-}
-
-/// The mask of a rights field that isn't empty, or its fault and the fault's offset.
-fn rights_word(word: &str) -> Result<Mask, (TextFault, u64)>
-    ensures value { IfOk result (Spells rights_word word.now) }
-    ensures fault { IfErr result (λ at. HasFault rights_word word.now at.0 at.1) }
-    ensures within { IfErr result (λ at. at.1 ≤ length word.now) }
-{
     if word.is_empty() {
-        return Err((TextFault::Syntax, 0));
+        return Err(TextError::Fault {
+            fault: TextFault::Syntax,
+            place: start,
+        });
     }
     match read_mask(word) {
-        Ok(mask) => Ok(mask),
-        Err(TextError::Fault { fault, place }) => Err((fault, place)),
+        Ok(mask) => Ok(mask.bits()),
+        Err(TextError::Fault { fault, place }) => Err(TextError::Fault {
+            fault,
+            place: start + place,
+        }),
         Err(TextError::Memory) => unreachable!(),
     }
 }
