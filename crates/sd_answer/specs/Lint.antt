@@ -57,20 +57,20 @@ abbrev pub where_behind : Option ℕ → List ℕ → List ℕ → List ℕ
 where_behind None head what = []
 where_behind (Some earlier) head what = line (head ++ what ++ decimal (earlier + 1))
 
--- the findings of an entry, by a mark whether it is redundant
-unfoldable pub entry_lines : Spelling → List Ace → ℕ → Ace → Bool → List ℕ
-entry_lines spelling es place e mark =
-    where_behind (position (is_misplaced e) (take place es)) (entry_head spelling place e)
-    (codes "is out of order behind entry ")
-    ++ where_so (e.mask == 0) (entry_head spelling place e) (codes "names no right")
-    ++ where_so (is_stranded e) (entry_head spelling place e) (codes "is inherited by nothing")
-    ++ where_behind (position (is_repeated e) (take place es)) (entry_head spelling place e) (codes "repeats entry ")
-    ++ where_so (is_useless e mark) (entry_head spelling place e) (codes "has no effect")
-    ++ where_so (is_limit e) (entry_head spelling place e) (codes "limits the owner")
+-- the findings of an entry behind these, by a mark whether it is redundant
+unfoldable pub entry_lines : Spelling → List Ace → Ace → Bool → List ℕ
+entry_lines spelling before e mark =
+    let head = entry_head spelling (length before) e in
+    where_behind (position (is_misplaced e) before) head (codes "is out of order behind entry ")
+    ++ where_so (e.mask == 0) head (codes "names no right")
+    ++ where_so (is_stranded e) head (codes "is inherited by nothing")
+    ++ where_behind (position (is_repeated e) before) head (codes "repeats entry ")
+    ++ where_so (is_useless e mark) head (codes "has no effect")
+    ++ where_so (is_limit e) head (codes "limits the owner")
 
 abbrev pub lines_at : Spelling → List Ace → ℕ → Option Ace → Bool → List ℕ
 lines_at spelling es place None mark = []
-lines_at spelling es place (Some e) mark = entry_lines spelling es place e mark
+lines_at spelling es place (Some e) mark = entry_lines spelling (take place es) e mark
 
 -- those of the entries below a place
 unfoldable pub list_lines : Spelling → List Ace → List Bool → ℕ → List ℕ

@@ -49,42 +49,34 @@ fn list_lines(
 {
     let mut text = String::new(alloc);
     for place in 0..entries.len() {
-        let lines = entry_lines(
-            alloc,
-            spelling,
-            entries,
-            place,
-            &entries[place],
-            marks[place],
-        )?;
+        let (before, entry) = (&entries[..place], &entries[place]);
+        let lines = entry_lines(alloc, spelling, before, entry, marks[place])?;
         text.push_str(lines.as_str())?;
     }
     Ok(text)
 }
 
-/// The findings of the entry at the place.
+/// The findings of the entry that these are before.
 #[tactic(auto, unfolding(crate::specs::Lint::entry_lines), using(std::proofs::Common::append_assoc))]
 fn entry_lines(
     alloc: Global,
     spelling: Spelling,
-    entries: &[Ace],
-    place: usize,
+    before: &[Ace],
     entry: &Ace,
     mark: bool,
 ) -> Result<String, AllocError>
-    requires { place < length entries.now }
-    ensures { IfOk result (λ text. string_bytes text ≡ entry_lines spelling entries.now place entry.now mark) }
+    ensures { IfOk result (λ text. string_bytes text ≡ entry_lines spelling before.now entry.now mark) }
 {
     let mut text = String::new(alloc);
-    let head = entry_head(alloc, spelling, place, entry)?;
+    let head = entry_head(alloc, spelling, before.len(), entry)?;
     let head = head.as_str();
-    let misplaced = first_misplaced(&entries[..place], entry);
+    let misplaced = first_misplaced(before, entry);
     let out_of_order = "is out of order behind entry ";
     push_behind(alloc, &mut text, misplaced, head, out_of_order)?;
     push_where(&mut text, entry.mask.is_empty(), head, "names no right")?;
     let stranded = is_stranded(entry);
     push_where(&mut text, stranded, head, "is inherited by nothing")?;
-    let repeated = first_repeated(&entries[..place], entry);
+    let repeated = first_repeated(before, entry);
     push_behind(alloc, &mut text, repeated, head, "repeats entry ")?;
     let useless = is_useless(entry, mark);
     push_where(&mut text, useless, head, "has no effect")?;
