@@ -1,9 +1,8 @@
 //! The lines of `lint`: what stands in a descriptor that its author may not have meant.
 ghost use Rattle.std.specs.Prelude.{◌≡◌, ◌<◌, ◌^◌, ◌++◌, IfOk, IfSome, OnOk, length, position, string_bytes};
 ghost use Rattle.sd_acl.specs.Descriptor.{descriptor_of};
-ghost use Rattle.sd_check.specs.Check.{is_limit};
 ghost use Rattle.sd_answer.specs.Lint.{IsLintText, entry_head, entry_lines, is_misplaced, is_repeated};
-ghost use Rattle.sd_answer.specs.Lint.{is_stranded, is_useless, list_lines, where_behind, where_so};
+ghost use Rattle.sd_answer.specs.Lint.{is_stranded, list_lines, where_behind, where_so};
 
 use crate::answer::Spelling;
 use bitflags::Flags;
@@ -78,9 +77,10 @@ fn entry_lines(
     push_where(&mut text, stranded, head, "is inherited by nothing")?;
     let repeated = first_repeated(before, entry);
     push_behind(alloc, &mut text, repeated, head, "repeats entry ")?;
-    let useless = is_useless(entry, mark);
-    push_where(&mut text, useless, head, "has no effect")?;
-    push_where(&mut text, is_limit(entry), head, "limits the owner")?;
+    let effective = !entry.is_inherit_only();
+    push_where(&mut text, mark && effective, head, "has no effect")?;
+    let limits = effective && entry.sid.is_owner_rights();
+    push_where(&mut text, limits, head, "limits the owner")?;
     Ok(text)
 }
 
@@ -179,18 +179,4 @@ fn is_stranded(entry: &Ace) -> bool
     let to_objects = entry.flags.contains(AceFlags::OI);
     let to_containers = entry.flags.contains(AceFlags::CI);
     entry.is_inherit_only() && !to_objects && !to_containers
-}
-
-/// Whether the entry is effective and for OWNER RIGHTS, so that it limits the owner ([MS-DTYP] 2.5.3.2).
-fn is_limit(entry: &Ace) -> bool
-    ensures { result ≡ is_limit entry.now }
-{
-    !entry.is_inherit_only() && entry.sid.is_owner_rights()
-}
-
-/// Whether the entry is effective, and redundant as the mark says.
-fn is_useless(entry: &Ace, mark: bool) -> bool
-    ensures { result ≡ is_useless entry.now mark }
-{
-    mark && !entry.is_inherit_only()
 }

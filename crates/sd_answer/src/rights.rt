@@ -2,7 +2,7 @@
 ghost use Rattle.std.specs.Prelude.{◌≡◌, IfOk, string_bytes};
 ghost use Rattle.sd_answer.specs.Rights.{rights_line};
 
-use crate::names::{ObjectKind, permission_named, right_names};
+use crate::names::{ObjectKind, names_before_rights, permission_named};
 use sd_sid::Mask;
 use std::alloc::{AllocError, Global};
 
@@ -16,7 +16,7 @@ pub fn rights_line(
 ) -> Result<String, AllocError>
     ensures { IfOk result (λ text. string_bytes text ≡ rights_line kind mask) }
 {
-    let names = right_names(alloc, kind, mask)?;
+    let names = names_before_rights(alloc, &[], kind, mask)?;
     let (bits, names) = (mask.bits(), names.as_str());
     match permission_named(kind, mask) {
         Some(name) => {
