@@ -2,8 +2,7 @@ pub mod Words
 pub mod OneToken
 pub mod Joins
 pub mod NoLines
-mod Descriptors
 mod RightNames
 pub mod Cuts
-mod WordsLeft
+pub mod WordsLeft
 mod ComeBack

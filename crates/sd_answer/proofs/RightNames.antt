@@ -1,7 +1,7 @@
 -- The names of a table of named bits, one row after the other.
-use Rattle.std.proofs.Common.{◌≡◌, ℕ, zero, suc, ◌+◌, ◌<◌, ◌≤◌, ◌&&◌, not, Bool, true, false, cond, List, [], ◌∷◌, ◌++◌, length, drop, get_or, map, Option, refl, sym, append-nil, ◌∙◌, arith, add-one}
+use Rattle.std.proofs.Common.{◌≡◌, ℕ, ◌+◌, ◌<◌, ◌≤◌, ◌&&◌, not, Bool, true, false, cond, List, [], ◌∷◌, ◌++◌, length, drop, get_or, map, Option, refl, sym, append-nil, ◌∙◌}
 use Rattle.std.specs.Prelude.{bit_or}
-use Rattle.std.proofs.lemmas.List.{drop_all}
+use Rattle.std.proofs.lemmas.List.{at_drop_more, drop_all}
 use Rattle.sd_sid.specs.Mask.{holds, mask_of}
 use Rattle.std.specs.Borrow.{Bor}
 use Rattle.sd_text.specs.Grammar.{Name}
@@ -13,7 +13,7 @@ abbrev pub Row : Type 0
 Row = Bor (List ℕ) × ℕ × Option ObjectKind
 
 -- where a test decides whether a name is among those
-by_test : (test : Bool) (name : Name ℕ) (rest : List (Name ℕ)) (mask named : ℕ) (text : List ℕ)
+pub by_test : (test : Bool) (name : Name ℕ) (rest : List (Name ℕ)) (mask named : ℕ) (text : List ℕ)
     → named_from (cond test (name ∷ rest) rest) mask named text
     ≡ cond (test && is_due mask named name.stands_for) (named_from rest mask (bit_or named name.stands_for) (with_word text name.letters))
     (named_from rest mask named text)
@@ -26,26 +26,13 @@ module _ (kind : Option ObjectKind) (more : List NamedBits) (mask : ℕ) where
   abbrev after : List Row → ℕ → List ℕ → List ℕ
   after rs named text = named_from (names_of kind (map named_bits rs ++ more)) mask named text
 
-  -- a row, and those after it
-  row_at : (rs : List Row) (i : ℕ) (d : Row) (named : ℕ) (text : List ℕ) → i < length rs
-      → after (drop i rs) named text
-      ≡ cond (is_of kind (get_or rs i d).2 && is_due mask named (get_or rs i d).1)
-      (after (drop (i + 1) rs) (bit_or named (get_or rs i d).1) (with_word text (get_or rs i d).0.now))
-      (after (drop (i + 1) rs) named text)
-  row_at [] i d named text low = absurd (omega arith)
-  row_at (q ∷ rs) zero d named text low = by_test (is_of kind q.2) (named_bits q).0 (names_of kind (map named_bits rs ++ more)) mask named text
-  row_at (q ∷ rs) (suc i) d named text low = rw add-one (let h = row_at rs i d named text (omega arith) in rw add-one at h)
-
-  -- whose name is due, or isn't
-  pub named_due : (rs : List Row) (i : ℕ) (d : Row) (named : ℕ) (text whole : List ℕ) → i < length rs
-      → (is_of kind (get_or rs i d).2 && is_due mask named (get_or rs i d).1) ≡ true → whole ≡ after (drop i rs) named text
-      → whole ≡ after (drop (i + 1) rs) (bit_or named (get_or rs i d).1) (with_word text (get_or rs i d).0.now)
-  named_due rs i d named text whole low due is = let row = row_at rs i d named text low in is ∙ rw due at row
-
-  pub not_due : (rs : List Row) (i : ℕ) (d : Row) (named : ℕ) (text whole : List ℕ) → i < length rs
-      → (is_of kind (get_or rs i d).2 && is_due mask named (get_or rs i d).1) ≡ false → whole ≡ after (drop i rs) named text
-      → whole ≡ after (drop (i + 1) rs) named text
-  not_due rs i d named text whole low due is = let row = row_at rs i d named text low in is ∙ rw due at row
+  -- a row, whose name is due or isn't, and those after it
+  pub row_done : (rs : List Row) (i : ℕ) (d : Row) (named : ℕ) (text whole : List ℕ) (due : Bool) → i < length rs
+      → (is_of kind (get_or rs i d).2 && is_due mask named (get_or rs i d).1) ≡ due → whole ≡ after (drop i rs) named text
+      → whole ≡ cond due (after (drop (i + 1) rs) (bit_or named (get_or rs i d).1) (with_word text (get_or rs i d).0.now)) (after (drop (i + 1) rs) named text)
+  row_done rs i d named text whole due low is all = rw (← is)
+      (all ∙ at_drop_more (λ rows. after rows named text) rs i d low
+      ∙ by_test (is_of kind (get_or rs i d).2) (named_bits (get_or rs i d)).0 (names_of kind (map named_bits (drop (i + 1) rs) ++ more)) mask named text)
 
 -- no row is left
 pub named_end : (kind : Option ObjectKind) (rs : List Row) (i : ℕ) (more : List NamedBits) (mask named : ℕ) (text : List ℕ) → length rs ≤ i

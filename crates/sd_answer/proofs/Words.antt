@@ -1,6 +1,6 @@
 -- Texts that are no SID and no word, and texts that are groups or words one for one.
-use Rattle.std.proofs.Common.{◌≡◌, ℕ, suc, zero, ◌+◌, ◌<◌, List, [], ◌∷◌, ◌++◌, length, get_or, take, refl, ap, sym, ◌∙◌, arith}
-use Rattle.std.specs.Prelude.{Bool, false, ◌||◌, codes}
+use Rattle.std.proofs.Common.{◌≡◌, ℕ, suc, zero, ◌+◌, ◌<◌, List, [], ◌∷◌, ◌++◌, length, get_or, inl, inr, take, refl, ap, sym, ◌∙◌, arith}
+use Rattle.std.specs.Prelude.{Bool, false, ◌||◌}
 use Rattle.std.specs.List.{list_any}
 use Rattle.std.specs.Borrow.{Bor}
 use Rattle.std.specs.Str.{bytes_eq}
@@ -13,13 +13,8 @@ use Rattle.sd_text.specs.Fault.{StandsIn}
 use Rattle.sd_text.proofs.Engine.{no_fault}
 use Rattle.sd_text.specs.declared.fault.TextError.{TextError}
 use Rattle.sd_text.specs.declared.fault.TextError.TheVariants.{Fault, Memory}
-use Rattle.sd_text.specs.Sid.{sid_text_in}
 use Rattle.sd_text.specs.declared.alias.Aliases.{Aliases}
-use Rattle.sd_check.specs.declared.token.GroupState.{GroupState}
-use Rattle.sd_check.specs.declared.token.GroupState.TheVariants.{Enabled, DenyOnly, Disabled}
-use Rattle.sd_answer.specs.Word.{AreEach, IsFirstNone, IsGroup, IsWord, texts}
-use Rattle.sd_answer.specs.declared.word.Word.{Word}
-use Rattle.sd_answer.specs.declared.word.Word.TheVariants.{Group, Restricting, Security, TakeOwnership}
+use Rattle.sd_answer.specs.Word.{AreEach, Ended, IsFirstNone, IsSidBefore, Or, texts}
 
 -- a text whose fault is told spells nothing
 pub not_spelled : {A : Type 0} (grammar : Grammar A) (text : List ℕ) (e : TextError)
@@ -31,22 +26,14 @@ not_spelled grammar text Memory stands told a spelled = told refl
 pub apart : (xs ys : List ℕ) → bytes_eq xs ys ≡ false → xs ≡ ys → ⊥
 apart xs ys h e = false≢true (sym h ∙ (bytes_decides xs ys).1 e)
 
-pub no_group : (known : Aliases) (text : List ℕ) → ((sid : SidValue) → Spells (sid_text_in known) text sid → ⊥)
-    → ((front : List ℕ) (sid : SidValue) → text ≡ front ++ codes "=deny" → Spells (sid_text_in known) front sid → ⊥)
-    → ((front : List ℕ) (sid : SidValue) → text ≡ front ++ codes "=off" → Spells (sid_text_in known) front sid → ⊥)
-    → (sid : SidValue) (state : GroupState) → IsGroup known text sid state → ⊥
-no_group known text enabled deny off sid Enabled h = enabled sid h
-no_group known text enabled deny off sid DenyOnly h = deny h.1.0 sid h.1.1 h.1.2
-no_group known text enabled deny off sid Disabled h = off h.1.0 sid h.1.1 h.1.2
+-- what neither reading gives, and a text without a SID before the ending
+pub neither : {A : Type 0} (First Second : A → Type 0) → ((one : A) → First one → ⊥) → ((one : A) → Second one → ⊥) → (one : A) → Or First Second one → ⊥
+neither First Second first second one (inl is) = first one is
+neither First Second first second one (inr is) = second one is.1
 
-pub no_word : (known : Aliases) (text : List ℕ) → (text ≡ codes "+security" → ⊥) → (text ≡ codes "+take" → ⊥)
-    → ((sid : SidValue) (state : GroupState) → IsGroup known text sid state → ⊥)
-    → ((front : List ℕ) (sid : SidValue) → text ≡ front ++ codes "=restrict" → Spells (sid_text_in known) front sid → ⊥)
-    → (word : Word) → IsWord known text word → ⊥
-no_word known text security take group restrict (Group sid state) h = group sid state h
-no_word known text security take group restrict (Restricting sid) h = restrict h.1.0 sid h.1.1 h.1.2
-no_word known text security take group restrict Security h = security h
-no_word known text security take group restrict TakeOwnership h = take h
+pub not_ended : {A : Type 0} (known : Aliases) (text ending : List ℕ) (made : SidValue → A) → ((sid : SidValue) → IsSidBefore known text ending sid → ⊥)
+    → (one : A) → Ended known text ending made one → ⊥
+not_ended known text ending made none one is = none is.0 is.1
 
 -- a test of lent texts
 pub list_any-texts : (test : List ℕ → Bool) (lent : List (Bor (List ℕ))) → list_any (λ (text : Bor (List ℕ)). test text.now) lent ≡ list_any test (texts lent)
@@ -58,8 +45,7 @@ list_any-texts test (text ∷ lent) = ap (λ b. test text.now || b) (list_any-te
 module _ {A : Type 0} (Is : List ℕ → A → Type 0) where
   AreEach-push : (front : List (Bor (List ℕ))) (ones : List A) (text : Bor (List ℕ)) (one : A)
       → AreEach Is (texts front) ones → Is text.now one → AreEach Is (texts (front ++ text ∷ [])) (ones ++ one ∷ [])
-  AreEach-push [] [] text one are is = (is, tt)
-  AreEach-push [] (o ∷ ones) text one are is = absurd are
+  AreEach-push [] ones text one are is = rw are (is, refl)
   AreEach-push (t ∷ front) [] text one are is = absurd are
   AreEach-push (t ∷ front) (o ∷ ones) text one are is = (are.0, AreEach-push front ones text one are.1 is)
 

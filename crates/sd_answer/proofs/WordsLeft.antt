@@ -1,77 +1,69 @@
--- The words of a mask that are left, after those whose bits are joined already.
-use Rattle.std.proofs.Common.{◌≡◌, ◌+◌, ℕ, List, [], ◌∷◌, length, inl, inr, refl, arith, subst, sym, ◌∙◌}
-use Rattle.std.specs.Prelude.{bit_or}
+-- The words of a mask: those that are left after some whose bits are joined, and a text that is one mask at most.
+use Rattle.std.proofs.Common.{◌≡◌, ◌+◌, ◌==◌, ℕ, false, List, [], ◌∷◌, length, Option, Result, Ok, Err, inl, inr, subst, sym, ◌∙◌, ap}
+use Rattle.std.specs.Prelude.{bit_or, IfErr, IfOk, IsErrOf}
+use Rattle.std.specs.Result.{MatchResult}
 use Rattle.sd_text.specs.declared.fault.TextError.{TextError}
 use Rattle.sd_text.specs.declared.fault.TextError.TheVariants.{Fault, Memory}
-use Rattle.sd_answer.specs.Mask.{AreJoined, IsErrorFrom, IsWordErrorAt, IsWordMask, between_pluses}
+use Rattle.sd_text.proofs.Engine.{no_fault, one_value}
+use Rattle.sd_answer.specs.Mask.{AreJoined, IsErrorFrom, IsMaskIn, IsWordErrorAt, IsWordMask, between_pluses, rights_word}
+use Rattle.sd_answer.specs.declared.answer.Spelling.TheVariants.{Names}
 use Rattle.sd_answer.specs.declared.names.ObjectKind.{ObjectKind}
-use Rattle.std.specs.Prelude.{Option, Result, Ok, Err, IfErr, IsErrOf}
 
--- a result has one value, or none
-pub ok_same : (r : Result ℕ TextError) (m n : ℕ) → r ≡ Ok m → r ≡ Ok n → n ≡ m
-ok_same r m n a b = let e : Ok m ≡ Ok n = sym a ∙ b in cc
+module _ (kind : Option ObjectKind) where
+  -- ---- a text is one mask at most
 
-pub ok_nowhere : (r : Result ℕ TextError) (error : TextError) (n : ℕ) → r ≡ Err error → r ≡ Ok n → ⊥
-ok_nowhere r error n a b = let e : Err error ≡ Ok n = sym a ∙ b in cc
+  pub one_word : (word : List ℕ) (a b : ℕ) → IsWordMask kind word a → IsWordMask kind word b → a ≡ b
+  one_word word a b (inl x) (inl y) = let same = sym x ∙ y in cc (same)
+  one_word word a b (inl x) (inr y) = absurd (let no = sym x ∙ y.0 in cc (no))
+  one_word word a b (inr x) (inl y) = absurd (let no = sym x.0 ∙ y in cc (no))
+  one_word word a b (inr x) (inr y) = one_value rights_word word a b x.1 y.1
 
--- no word's error is one of memory
-pub no_memory : (kind : Option ObjectKind) (start : ℕ) (words : List (List ℕ)) → IsErrorFrom kind start words Memory → ⊥
-no_memory kind start [] is = is
-no_memory kind start (word ∷ words) is = elim is [ inl here ↦ here | inr later ↦ no_memory kind (start + (length word + 1)) words later.1 ]
+  pub one_joined : (bits : ℕ) (words : List (List ℕ)) (a b : ℕ) → AreJoined kind bits words a → AreJoined kind bits words b → a ≡ b
+  one_joined bits [] a b x y = x ∙ sym y
+  one_joined bits (word ∷ words) a b x y =
+      let same = one_word word x.0 y.0 x.1 y.1 in
+      one_joined (bit_or bits y.0) words a b (subst (λ m. AreJoined kind (bit_or bits m) words a) same x.2) y.2
 
--- the rest begins at this offset, and what it is with these bits the text is
-pub record Left (kind : Option ObjectKind) (text : List ℕ) (bits start : ℕ) (rest : List ℕ) : Type 0 where
-  pub place : start + length rest ≡ length text
-  pub joined : (mask : ℕ) → AreJoined kind bits (between_pluses rest) mask → AreJoined kind 0 (between_pluses text) mask
-  pub only : (mask : ℕ) → AreJoined kind 0 (between_pluses text) mask → AreJoined kind bits (between_pluses rest) mask
-  pub errors : (error : TextError) → IsErrorFrom kind start (between_pluses rest) error → IsErrorFrom kind 0 (between_pluses text) error
+  word_or_error : (start : ℕ) (word : List ℕ) (mask : ℕ) (error : TextError) → IsWordMask kind word mask → IsWordErrorAt kind start word error → ⊥
+  word_or_error start word mask (Fault fault place) (inl x) y = let no = sym x ∙ y.1 in cc (no)
+  word_or_error start word mask (Fault fault place) (inr x) y = no_fault rights_word word mask fault y.0 x.1 y.2
+  word_or_error start word mask Memory x y = y
 
-module _ (kind : Option ObjectKind) (text : List ℕ) where
-  pub left_start : Left kind text 0 0 text
-  left_start = record {
-    place = omega arith;
-    joined = λ mask is. is;
-    only = λ mask is. is;
-    errors = λ error is. is;
-  }
+  joined_or_error : (bits start : ℕ) (words : List (List ℕ)) (mask : ℕ) (error : TextError) → AreJoined kind bits words mask
+      → IsErrorFrom kind start words error → ⊥
+  joined_or_error bits start [] mask error x y = y
+  joined_or_error bits start (word ∷ words) mask error x (inl y) = word_or_error start word x.0 error x.1 y
+  joined_or_error bits start (word ∷ words) mask error x (inr y) =
+      joined_or_error (bit_or bits x.0) (start + (length word + 1)) words mask error x.2 y.1
 
-  module _ (bits start : ℕ) (rest word : List ℕ) (words : List (List ℕ)) (left : Left kind text bits start rest)
-      (cut : between_pluses rest ≡ word ∷ words) where
-    join_word : (m mask : ℕ) → IsWordMask kind word m → AreJoined kind (bit_or bits m) words mask → AreJoined kind bits (between_pluses rest) mask
-    join_word m mask is joined = rw cut (m, is, joined)
+  pub joined_only : (text : List ℕ) (r : Result ℕ TextError) → (length text == 0) ≡ false → IfOk r (AreJoined kind 0 (between_pluses text))
+      → IfErr r (IsErrorFrom kind 0 (between_pluses text)) → (mask : ℕ) → IsMaskIn (Names kind) text mask → r ≡ Ok mask
+  joined_only [] r some value fault mask is = absurd (cc (some))
+  joined_only (c ∷ text) (Ok a) some value fault mask is = ap Ok (one_joined 0 (between_pluses (c ∷ text)) a mask value is)
+  joined_only (c ∷ text) (Err error) some value fault mask is = absurd (joined_or_error 0 0 (between_pluses (c ∷ text)) mask error is fault)
 
-    joined_word : (m mask : ℕ) → ((n : ℕ) → IsWordMask kind word n → n ≡ m) → AreJoined kind bits (between_pluses rest) mask → AreJoined kind (bit_or bits m) words mask
-    joined_word m mask one is =
-        let parts : AreJoined kind bits (word ∷ words) mask = rw cut at is in
-        subst (λ n. AreJoined kind (bit_or bits n) words mask) (one parts.0 parts.1) parts.2
+  -- no word's error is one of memory
+  no_memory : (start : ℕ) (words : List (List ℕ)) → IsErrorFrom kind start words Memory → ⊥
+  no_memory start [] is = is
+  no_memory start (word ∷ words) is = elim is [ inl here ↦ here | inr later ↦ no_memory (start + (length word + 1)) words later.1 ]
 
-    pub left_error : (error : TextError) → IsWordErrorAt kind start word error → IsErrorFrom kind 0 (between_pluses text) error
-    left_error error is = left.errors error (rw cut (inl is))
+  pub never_memory : (r : Result ℕ TextError) (words : List (List ℕ)) → IfErr r (IsErrorFrom kind 0 words) → IsErrOf r Memory → ⊥
+  never_memory (Ok m) words h is = cc
+  never_memory (Err (Fault f p)) words h is = cc
+  never_memory (Err Memory) words h is = no_memory 0 words h
 
-    pub no_mask : (mask : ℕ) → ((n : ℕ) → IsWordMask kind word n → ⊥) → AreJoined kind 0 (between_pluses text) mask → ⊥
-    no_mask mask none is =
-        let parts : AreJoined kind bits (word ∷ words) mask = rw cut at left.only mask is in none parts.0 parts.1
+  -- ---- the words that are left
 
-    pub left_more : (m : ℕ) (behind : List ℕ) → words ≡ between_pluses behind → length word + 1 + length behind ≡ length rest
-        → IsWordMask kind word m → ((n : ℕ) → IsWordMask kind word n → n ≡ m)
-        → Left kind text (bit_or bits m) (start + (length word + 1)) behind
-    left_more m behind parts lengths is one = record {
-      place = omega (arith, lengths, left.place);
-      joined = λ mask joined. left.joined mask (join_word m mask is (rw parts joined));
-      only = λ mask joined. rw parts at joined_word m mask one (left.only mask joined);
-      errors = λ error from. left.errors error (rw cut (inr ((m, is), rw parts from)));
-    }
+  -- what these words are, after these bits, the first at this offset
+  abbrev pub Gives : ℕ → ℕ → List (List ℕ) → Result ℕ TextError → Type 0
+  Gives bits start words r = MatchResult r (AreJoined kind bits words) (IsErrorFrom kind start words)
 
-  module _ (bits start : ℕ) (rest : List ℕ) (left : Left kind text bits start rest) (cut : between_pluses rest ≡ rest ∷ []) where
-    pub left_end : (m : ℕ) → IsWordMask kind rest m → AreJoined kind 0 (between_pluses text) (bit_or bits m)
-    left_end m is = left.joined (bit_or bits m) (join_word bits start rest rest [] left cut m (bit_or bits m) is refl)
+  pub gives_more : (bits start m : ℕ) (word : List ℕ) (words : List (List ℕ)) (r : Result ℕ TextError) → IsWordMask kind word m
+      → Gives (bit_or bits m) (start + (length word + 1)) words r → Gives bits start (word ∷ words) r
+  gives_more bits start m word words (Ok mask) is more = (m, is, more)
+  gives_more bits start m word words (Err error) is more = inr ((m, is), more)
 
-    pub end_only : (m mask : ℕ) → ((n : ℕ) → IsWordMask kind rest n → n ≡ m) → AreJoined kind 0 (between_pluses text) mask → mask ≡ bit_or bits m
-    end_only m mask one is = joined_word bits start rest rest [] left cut m mask one (left.only mask is)
-
--- nor is it that of their mask
-pub never_memory : (kind : Option ObjectKind) (r : Result ℕ TextError) (start : ℕ) (words : List (List ℕ))
-    → IfErr r (IsErrorFrom kind start words) → IsErrOf r Memory → ⊥
-never_memory kind (Ok m) start words h is = cc
-never_memory kind (Err (Fault f p)) start words h is = cc
-never_memory kind (Err Memory) start words h is = no_memory kind start words h
+  -- the rest begins at this offset, and what it is with these bits the text is
+  pub record Left (text : List ℕ) (bits start : ℕ) (rest : List ℕ) : Type 0 where
+    pub place : start + length rest ≡ length text
+    pub gives : (r : Result ℕ TextError) → Gives bits start (between_pluses rest) r → Gives 0 0 (between_pluses text) r

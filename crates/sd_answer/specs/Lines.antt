@@ -1,6 +1,8 @@
 -- Lines of bits: those of which the same is said are in one, and the lines are in the order of their lowest bits.
-use Rattle.std.specs.Prelude.{ℕ, zero, suc, ◌^◌, ◌%◌, Bool, ◌==◌, ◌&&◌, ◌||◌, if◌then◌else◌}
+use Rattle.std.specs.Prelude.{ℕ, zero, suc, Bool, ◌==◌, ◌||◌, if◌then◌else◌}
 use Rattle.std.specs.Prelude.{List, [], ◌∷◌, ◌++◌, map, codes, string_bytes}
+use Rattle.std.specs.Int.{trailing_zeros}
+use Rattle.std.specs.Int.Width.{w32}
 use Rattle.std.specs.List.{flat_map}
 use Rattle.std.specs.Str.{bytes_eq}
 use Rattle.sd_sid.specs.Mask.{holds, mask_of}
@@ -31,7 +33,7 @@ joined (one ∷ lines) mask said =
 
 -- the bit is the lowest of the mask
 abbrev pub is_lowest : ℕ → ℕ → Bool
-is_lowest mask b = holds mask b && (mask % 2 ^ b == 0)
+is_lowest mask b = trailing_zeros w32 mask == b
 
 -- a line, as `gained 0x2 by S-1-1-0`
 abbrev pub bits_line : Spelling → List ℕ → LineValue → List ℕ

@@ -1,6 +1,7 @@
 -- What `lint` prints: what is doubtful in a descriptor's DACL, a line for each finding, entry by entry.
 use Rattle.std.specs.Prelude.{◌≡◌, ℕ, zero, suc, ◌+◌, Bool, not, ◌&&◌, ◌||◌, ◌==◌, if◌then◌else◌, Option, Some, None}
 use Rattle.std.specs.Prelude.{List, [], ◌++◌, length, take, slice_get, position, codes}
+use Rattle.std.specs.Bool.{beq}
 use Rattle.std.specs.Fmt.{decimal}
 use Rattle.sd_sid.specs.Mask.{holds}
 use Rattle.sd_sid.specs.Mapping.{MappingValue}
@@ -10,7 +11,6 @@ use Rattle.sd_acl.specs.Canonical.{is_inherited, is_explicit, allows, denies}
 use Rattle.sd_acl.specs.Dacl.{Dacl}
 use Rattle.sd_acl.specs.Descriptor.{DescriptorValue}
 use Rattle.sd_acl.specs.declared.ace.Ace.{Ace}
-use Rattle.sd_acl.specs.declared.ace.AceKind.{AceKind}
 use Rattle.sd_acl.specs.declared.descriptor.DaclOf.TheVariants.{Absent, Null, List as Entries}
 use Rattle.sd_text.specs.Canon.{entry_canon_in}
 use Rattle.sd_check.specs.Check.{is_limit}
@@ -26,14 +26,11 @@ use Rattle.sd_answer.specs.declared.answer.Spelling.{Spelling}
 abbrev pub is_misplaced : Ace → Ace → Bool
 is_misplaced later earlier = is_explicit later && (is_inherited earlier || (allows earlier && denies later))
 
-abbrev pub same_kind : AceKind → AceKind → Bool
-same_kind later earlier = if is_allow later then is_allow earlier else not (is_allow earlier)
-
 -- both say the same
 abbrev pub is_repeated : Ace → Ace → Bool
 is_repeated later earlier =
-    ((same_kind later.kind earlier.kind && later.flags.0 == earlier.flags.0) && later.mask == earlier.mask)
-    && same_sid earlier.sid later.sid
+    ((beq (is_allow later.kind) (is_allow earlier.kind) && later.flags.0 == earlier.flags.0)
+    && later.mask == earlier.mask) && same_sid earlier.sid later.sid
 
 -- ---- what is wrong with one
 
@@ -60,20 +57,20 @@ abbrev pub where_behind : Option ℕ → List ℕ → List ℕ → List ℕ
 where_behind None head what = []
 where_behind (Some earlier) head what = line (head ++ what ++ decimal (earlier + 1))
 
--- the findings of an entry, by a mark whether it is redundant
-unfoldable pub entry_lines : Spelling → List Ace → ℕ → Ace → Bool → List ℕ
-entry_lines spelling es place e mark =
-    where_behind (position (is_misplaced e) (take place es)) (entry_head spelling place e)
-    (codes "is out of order behind entry ")
-    ++ where_so (e.mask == 0) (entry_head spelling place e) (codes "names no right")
-    ++ where_so (is_stranded e) (entry_head spelling place e) (codes "is inherited by nothing")
-    ++ where_behind (position (is_repeated e) (take place es)) (entry_head spelling place e) (codes "repeats entry ")
-    ++ where_so (is_useless e mark) (entry_head spelling place e) (codes "has no effect")
-    ++ where_so (is_limit e) (entry_head spelling place e) (codes "limits the owner")
+-- the findings of an entry behind these, by a mark whether it is redundant
+unfoldable pub entry_lines : Spelling → List Ace → Ace → Bool → List ℕ
+entry_lines spelling before e mark =
+    let head = entry_head spelling (length before) e in
+    where_behind (position (is_misplaced e) before) head (codes "is out of order behind entry ")
+    ++ where_so (e.mask == 0) head (codes "names no right")
+    ++ where_so (is_stranded e) head (codes "is inherited by nothing")
+    ++ where_behind (position (is_repeated e) before) head (codes "repeats entry ")
+    ++ where_so (is_useless e mark) head (codes "has no effect")
+    ++ where_so (is_limit e) head (codes "limits the owner")
 
 abbrev pub lines_at : Spelling → List Ace → ℕ → Option Ace → Bool → List ℕ
 lines_at spelling es place None mark = []
-lines_at spelling es place (Some e) mark = entry_lines spelling es place e mark
+lines_at spelling es place (Some e) mark = entry_lines spelling (take place es) e mark
 
 -- those of the entries below a place
 unfoldable pub list_lines : Spelling → List Ace → List Bool → ℕ → List ℕ
@@ -81,18 +78,13 @@ list_lines spelling es marks zero = []
 list_lines spelling es marks (suc k) =
     list_lines spelling es marks k ++ lines_at spelling es k (slice_get es k) (is_marked marks k)
 
--- those of a list of this owner's, of whose entries the redundant ones are marked
-abbrev pub AreListLines : MappingValue → Spelling → List (SidValue × GroupState) → Option SidValue → List Ace → List ℕ
-    → Type 0
-AreListLines g spelling base owner es text =
-    (marks : List Bool) × AreRedundant owner es g base marks × (text ≡ list_lines spelling es marks (length es))
-
--- those of a DACL
+-- those of a DACL of this owner's, of whose entries the redundant ones are marked
 abbrev pub AreDaclLines : MappingValue → Spelling → List (SidValue × GroupState) → Option SidValue → Dacl → List ℕ
     → Type 0
 AreDaclLines g spelling base owner Absent text = text ≡ line (codes "no DACL grants everything")
 AreDaclLines g spelling base owner Null text = text ≡ line (codes "a null DACL grants everything")
-AreDaclLines g spelling base owner (Entries es) text = AreListLines g spelling base owner es text
+AreDaclLines g spelling base owner (Entries es) text =
+    (marks : List Bool) × AreRedundant owner es g base marks × (text ≡ list_lines spelling es marks (length es))
 
 abbrev pub IsLintText : MappingValue → Spelling → List (SidValue × GroupState) → DescriptorValue → List ℕ → Type 0
 IsLintText g spelling base d text = AreDaclLines g spelling base d.owner d.dacl text

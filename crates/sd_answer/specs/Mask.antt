@@ -6,7 +6,6 @@ use Rattle.sd_text.specs.Grammar.{Grammar, HasFault, Spells, choose, refused}
 use Rattle.sd_text.specs.Rights.{mask_text}
 use Rattle.sd_text.specs.declared.fault.TextError.{TextError}
 use Rattle.sd_text.specs.declared.fault.TextError.TheVariants.{Fault, Memory}
-use Rattle.sd_text.specs.declared.fault.TextFault.{TextFault}
 use Rattle.sd_text.specs.declared.fault.TextFault.TheVariants.{Syntax}
 use Rattle.sd_answer.specs.Names.{mask_named}
 use Rattle.sd_answer.specs.declared.answer.Spelling.{Spelling}
@@ -26,13 +25,10 @@ abbrev pub IsWordMask : Option ObjectKind → List ℕ → ℕ → Type 0
 IsWordMask kind word mask =
     (mask_named kind word ≡ Some mask) ⊎ ((mask_named kind word ≡ None) × Spells rights_word word mask)
 
-abbrev pub IsWordFault : Option ObjectKind → List ℕ → TextFault → ℕ → Type 0
-IsWordFault kind word fault place = (mask_named kind word ≡ None) × HasFault rights_word word fault place
-
 -- the error of the word that begins at this offset
 abbrev pub IsWordErrorAt : Option ObjectKind → ℕ → List ℕ → TextError → Type 0
 IsWordErrorAt kind start word (Fault fault place) =
-    (within : ℕ) × IsWordFault kind word fault within × (place ≡ start + within)
+    (within : ℕ) × (mask_named kind word ≡ None) × HasFault rights_word word fault within × (place ≡ start + within)
 IsWordErrorAt kind start word Memory = ⊥
 
 -- the words' bits, joined to these, are the mask

@@ -7,7 +7,7 @@ ghost use Rattle.sd_answer.specs.Compare.{user_text, witness_text};
 ghost use Rattle.sd_answer.specs.Lines.{values};
 
 use crate::answer::Spelling;
-use crate::lines::{BitsLine, LineHead, push_sid};
+use crate::lines::{BitsLine, Printer, push_sid};
 use sd_analysis::{Change, Comparison, DescriptorRef, PassSids, Witness};
 use sd_sid::Sid;
 use sd_text::print_full_sid;
@@ -50,20 +50,9 @@ pub fn gains_and_losses(
     let gains = changed.change_lines(&comparison.gained)?;
     let losses = changed.change_lines(&comparison.lost)?;
     let mut text = String::new(alloc);
-    let head = gained.as_str();
-    LineHead {
-        alloc,
-        spelling,
-        head,
-    }
-    .push_lines(&mut text, &gains)?;
-    let head = lost.as_str();
-    LineHead {
-        alloc,
-        spelling,
-        head,
-    }
-    .push_lines(&mut text, &losses)?;
+    let printer = Printer { alloc, spelling };
+    printer.push_lines(&mut text, gained.as_str(), &gains)?;
+    printer.push_lines(&mut text, lost.as_str(), &losses)?;
     Ok(text)
 }
 

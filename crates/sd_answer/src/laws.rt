@@ -7,6 +7,7 @@ pub fn names_are_distinct()
 {}
 
 /// The round trip: what is printed of a mask, as a number or by the names of a kind of object, parses as that mask.
+#[tactic(auto, using(crate::proofs::ComeBack::comes_back))]
 pub fn masks_come_back()
     ensures { MasksComeBack }
 {}

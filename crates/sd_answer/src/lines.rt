@@ -1,9 +1,8 @@
 //! Lines of bits: those of which the same is said are in one, and the lines are in the order of their lowest bits.
-ghost use Rattle.std.specs.Prelude.{◌≡◌, ◌<◌, ◌++◌, OnOk, string_bytes};
+ghost use Rattle.std.specs.Prelude.{◌≡◌, ◌++◌, OnOk, string_bytes};
 ghost use Rattle.std.specs.List.{position};
 ghost use Rattle.std.specs.Str.{bytes_eq};
-ghost use Rattle.sd_answer.specs.declared.lines.BitsLine.{BitsLine as BitsLineValue};
-ghost use Rattle.sd_answer.specs.Lines.{bits_line, is_lowest, joined, lines_at, lines_text, sid_text, value_of, values};
+ghost use Rattle.sd_answer.specs.Lines.{bits_line, joined, lines_at, lines_text, sid_text, value_of, values};
 
 use crate::answer::{Spelling, spell};
 use sd_sid::{Mask, Sid};
@@ -35,27 +34,32 @@ pub(crate) fn join(lines: &mut Vec<BitsLine>, mask: Mask, said: String) -> Resul
 
 /// The line that says this, if there is one.
 fn place_of(lines: &[BitsLine], said: &str) -> Option<usize>
-    ensures { result ≡ position (λ (one : BitsLineValue). bytes_eq (string_bytes one.said) said.now) lines.now }
+    ensures { result ≡ position (λ (one : BitsLine). bytes_eq (string_bytes one.said) said.now) lines.now }
 {
     lines.iter().position(|one| one.said.as_str() == said)
 }
 
-/// What each line begins with: a head, and a mask in this spelling.
+/// How lines are printed.
 #[derive(Clone, Copy)]
-pub(crate) struct LineHead<'a> {
+pub(crate) struct Printer {
     pub(crate) alloc: Global,
     pub(crate) spelling: Spelling,
-    pub(crate) head: &'a str,
 }
 
-impl LineHead<'_> {
-    /// Adds the lines to the text.
-    pub(crate) fn push_lines(&self, text: &mut String, lines: &[BitsLine]) -> Result<(), AllocError>
+impl Printer {
+    /// Adds the lines to the text, each after a head.
+    #[tactic(auto, unfolding(crate::specs::Lines::lines_below), using(std::proofs::Common::append_assoc))]
+    pub(crate) fn push_lines(
+        &self,
+        text: &mut String,
+        head: &str,
+        lines: &[BitsLine],
+    ) -> Result<(), AllocError>
         ensures { OnOk result (string_bytes text.new
-            ≡ string_bytes text.old ++ lines_text self.now.spelling self.now.head.now (values lines.now)) }
+            ≡ string_bytes text.old ++ lines_text self.now.spelling head.now (values lines.now)) }
     {
         for place in 0..PLACES {
-            self.push_lines_at(text, lines, place)?;
+            self.push_lines_at(text, head, lines, place)?;
         }
         Ok(())
     }
@@ -64,30 +68,29 @@ impl LineHead<'_> {
     fn push_lines_at(
         &self,
         text: &mut String,
+        head: &str,
         lines: &[BitsLine],
         place: u32,
     ) -> Result<(), AllocError>
-        requires { place < 32 }
         ensures { OnOk result (string_bytes text.new
-            ≡ string_bytes text.old ++ lines_at self.now.spelling self.now.head.now (values lines.now) place) }
+            ≡ string_bytes text.old ++ lines_at self.now.spelling head.now (values lines.now) place) }
     {
         for line in lines {
-            if is_lowest(line.mask, place) {
-                self.push_line(text, line)?;
+            if line.mask.bits().trailing_zeros() == place {
+                self.push_line(text, head, line)?;
             }
         }
         Ok(())
     }
 
-    fn push_line(&self, text: &mut String, line: &BitsLine) -> Result<(), AllocError>
+    fn push_line(&self, text: &mut String, head: &str, line: &BitsLine) -> Result<(), AllocError>
         ensures { OnOk result (string_bytes text.new
-            ≡ string_bytes text.old ++ bits_line self.now.spelling self.now.head.now (value_of line.now)) }
+            ≡ string_bytes text.old ++ bits_line self.now.spelling head.now (value_of line.now)) }
     {
         let mask = spell(self.alloc, self.spelling, line.mask)?;
-        let (head, mask, said) = (self.head, mask.as_str(), line.said.as_str());
+        let (mask, said) = (mask.as_str(), line.said.as_str());
         let line = format!(in self.alloc; "{head}{mask}{said}\n")?;
-        text.push_str(line.as_str())?;
-        Ok(())
+        text.push_str(line.as_str())
     }
 }
 
@@ -104,12 +107,4 @@ pub(crate) fn push_sid(
     let sid = sid.as_str();
     let more = format!(in alloc; " {sid}{ending}")?;
     text.push_str(more.as_str())
-}
-
-/// Whether the bit at the place is the lowest of the mask.
-fn is_lowest(mask: Mask, place: u32) -> bool
-    requires { place < 32 }
-    ensures { result ≡ is_lowest mask place }
-{
-    mask.holds(place) && mask.bits() % (1 << place) == 0
 }

@@ -1,13 +1,12 @@
 //! The lines of `lint`: what stands in a descriptor that its author may not have meant.
 ghost use Rattle.std.specs.Prelude.{◌≡◌, ◌<◌, ◌^◌, ◌++◌, IfOk, IfSome, OnOk, length, position, string_bytes};
 ghost use Rattle.sd_acl.specs.Descriptor.{descriptor_of};
-ghost use Rattle.sd_check.specs.Check.{is_limit};
 ghost use Rattle.sd_answer.specs.Lint.{IsLintText, entry_head, entry_lines, is_misplaced, is_repeated};
-ghost use Rattle.sd_answer.specs.Lint.{is_stranded, is_useless, list_lines, same_kind, where_behind, where_so};
+ghost use Rattle.sd_answer.specs.Lint.{is_stranded, list_lines, where_behind, where_so};
 
 use crate::answer::Spelling;
 use bitflags::Flags;
-use sd_acl::{Ace, AceFlags, AceKind, Dacl, Descriptor};
+use sd_acl::{Ace, AceFlags, Dacl, Descriptor};
 use sd_analysis::{Base, redundant};
 use sd_sid::GenericMapping;
 use sd_text::print_entry_in;
@@ -37,6 +36,7 @@ pub fn lint_text(
 }
 
 /// The lines of these entries, of which the marks say which are redundant.
+#[tactic(auto, unfolding(crate::specs::Lint::list_lines))]
 fn list_lines(
     alloc: Global,
     spelling: Spelling,
@@ -48,46 +48,39 @@ fn list_lines(
 {
     let mut text = String::new(alloc);
     for place in 0..entries.len() {
-        let lines = entry_lines(
-            alloc,
-            spelling,
-            entries,
-            place,
-            &entries[place],
-            marks[place],
-        )?;
+        let (before, entry) = (&entries[..place], &entries[place]);
+        let lines = entry_lines(alloc, spelling, before, entry, marks[place])?;
         text.push_str(lines.as_str())?;
     }
     Ok(text)
 }
 
-/// The findings of the entry at the place.
-#[tactic(auto, unfolding(crate::specs::Lint::entry_lines))]
+/// The findings of the entry that these are before.
+#[tactic(auto, unfolding(crate::specs::Lint::entry_lines), using(std::proofs::Common::append_assoc))]
 fn entry_lines(
     alloc: Global,
     spelling: Spelling,
-    entries: &[Ace],
-    place: usize,
+    before: &[Ace],
     entry: &Ace,
     mark: bool,
 ) -> Result<String, AllocError>
-    requires { place < length entries.now }
-    ensures { IfOk result (λ text. string_bytes text ≡ entry_lines spelling entries.now place entry.now mark) }
+    ensures { IfOk result (λ text. string_bytes text ≡ entry_lines spelling before.now entry.now mark) }
 {
     let mut text = String::new(alloc);
-    let head = entry_head(alloc, spelling, place, entry)?;
+    let head = entry_head(alloc, spelling, before.len(), entry)?;
     let head = head.as_str();
-    let misplaced = first_misplaced(&entries[..place], entry);
+    let misplaced = first_misplaced(before, entry);
     let out_of_order = "is out of order behind entry ";
     push_behind(alloc, &mut text, misplaced, head, out_of_order)?;
     push_where(&mut text, entry.mask.is_empty(), head, "names no right")?;
     let stranded = is_stranded(entry);
     push_where(&mut text, stranded, head, "is inherited by nothing")?;
-    let repeated = first_repeated(&entries[..place], entry);
+    let repeated = first_repeated(before, entry);
     push_behind(alloc, &mut text, repeated, head, "repeats entry ")?;
-    let useless = is_useless(entry, mark);
-    push_where(&mut text, useless, head, "has no effect")?;
-    push_where(&mut text, is_limit(entry), head, "limits the owner")?;
+    let effective = !entry.is_inherit_only();
+    push_where(&mut text, mark && effective, head, "has no effect")?;
+    let limits = effective && entry.sid.is_owner_rights();
+    push_where(&mut text, limits, head, "limits the owner")?;
     Ok(text)
 }
 
@@ -173,20 +166,10 @@ fn is_misplaced(later: &Ace, earlier: &Ace) -> bool
 fn is_repeated(later: &Ace, earlier: &Ace) -> bool
     ensures { result ≡ is_repeated later.now earlier.now }
 {
-    same_kind(later.kind, earlier.kind)
+    later.kind.is_allow() == earlier.kind.is_allow()
         && later.flags.bits() == earlier.flags.bits()
         && later.mask.bits() == earlier.mask.bits()
         && earlier.sid.is(&later.sid)
-}
-
-fn same_kind(later: AceKind, earlier: AceKind) -> bool
-    ensures { result ≡ same_kind later earlier }
-{
-    if later.is_allow() {
-        earlier.is_allow()
-    } else {
-        !earlier.is_allow()
-    }
 }
 
 /// Whether the entry waits to be inherited, and nothing inherits it ([MS-DTYP] 2.4.4.1).
@@ -196,18 +179,4 @@ fn is_stranded(entry: &Ace) -> bool
     let to_objects = entry.flags.contains(AceFlags::OI);
     let to_containers = entry.flags.contains(AceFlags::CI);
     entry.is_inherit_only() && !to_objects && !to_containers
-}
-
-/// Whether the entry is effective and for OWNER RIGHTS, so that it limits the owner ([MS-DTYP] 2.5.3.2).
-fn is_limit(entry: &Ace) -> bool
-    ensures { result ≡ is_limit entry.now }
-{
-    !entry.is_inherit_only() && entry.sid.is_owner_rights()
-}
-
-/// Whether the entry is effective, and redundant as the mark says.
-fn is_useless(entry: &Ace, mark: bool) -> bool
-    ensures { result ≡ is_useless entry.now mark }
-{
-    mark && !entry.is_inherit_only()
 }

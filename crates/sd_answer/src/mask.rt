@@ -1,10 +1,8 @@
 //! The mask that a question asks for ([MS-DTYP] 2.4.3): a rights field of SDDL, or words joined by `+`.
-ghost use Rattle.std.specs.Prelude.{◌≡◌, ◌+◌, ◌<◌, ◌≤◌, ◌^◌, ◌∷◌, [], ℕ, IfErr, IfNone, IfOk, IfSome, Ok, length};
-ghost use Rattle.std.specs.Prelude.{IsErrOf};
-ghost use Rattle.sd_text.specs.Grammar.{HasFault, Spells};
+ghost use Rattle.std.specs.Prelude.{◌≡◌, ◌+◌, ◌<◌, ◌^◌, ◌∷◌, [], ℕ, IfErr, IfNone, IfOk, IfSome, IsErrOf, Ok, length};
 ghost use Rattle.sd_text.specs.declared.fault.TextError.TheVariants.{Memory};
 ghost use Rattle.sd_answer.specs.Mask.{AreJoined, IsErrorFrom, IsMaskErrorIn, IsMaskIn, IsWordErrorAt, IsWordMask};
-ghost use Rattle.sd_answer.specs.Mask.{between_pluses, rights_word};
+ghost use Rattle.sd_answer.specs.Mask.{between_pluses};
 
 use crate::answer::Spelling;
 use crate::names::{ObjectKind, mask_named};
@@ -14,6 +12,7 @@ use sd_text::{TextError, TextFault, read_mask};
 /// Parses a mask: as a number it is a rights field ([MS-DTYP] 2.5.1.1, ace-rights); by names it is words joined by `+`,
 /// each a name of the kind of object in exactly its letters, as `Full control`, or else a rights field that isn't
 /// empty. Allocates nothing: an error is the text's first fault from the left, with its offset in bytes.
+#[tactic(auto, using(crate::proofs::WordsLeft::joined_only, crate::proofs::WordsLeft::never_memory))]
 pub fn read_mask_in(spelling: Spelling, text: &str) -> Result<Mask, TextError>
     ensures value { IfOk result (λ mask. IsMaskIn spelling text.now mask) }
     ensures fault { IfErr result (IsMaskErrorIn spelling text.now) }
@@ -31,7 +30,6 @@ pub fn read_mask_in(spelling: Spelling, text: &str) -> Result<Mask, TextError>
 fn words_mask(kind: Option<ObjectKind>, text: &str) -> Result<Mask, TextError>
     ensures value { IfOk result (AreJoined kind 0 (between_pluses text.now)) }
     ensures fault { IfErr result (IsErrorFrom kind 0 (between_pluses text.now)) }
-    ensures spelled { (mask : ℕ) → AreJoined kind 0 (between_pluses text.now) mask → result ≡ Ok mask }
 {
     let mut bits = 0;
     let mut start = 0;
@@ -62,33 +60,22 @@ fn word_mask(kind: Option<ObjectKind>, start: u64, word: &str) -> Result<u32, Te
     requires { start + length word.now < 2 ^ 64 }
     ensures value { IfOk result (IsWordMask kind word.now) }
     ensures fault { IfErr result (IsWordErrorAt kind start word.now) }
-    ensures spelled { (mask : ℕ) → IsWordMask kind word.now mask → result ≡ Ok mask }
 {
-    match mask_named(kind, word) {
-        Some(mask) => Ok(mask),
-        None => match rights_word(word) {
-            Ok(mask) => Ok(mask.bits()),
-            Err((fault, place)) => Err(TextError::Fault {
-                fault,
-                place: start + place,
-            }),
-        },
+    if let Some(mask) = mask_named(kind, word) {
+        return Ok(mask);
     }
-}
-
-/// The mask of a rights field that isn't empty, or its fault and the fault's offset.
-fn rights_word(word: &str) -> Result<Mask, (TextFault, u64)>
-    ensures value { IfOk result (Spells rights_word word.now) }
-    ensures fault { IfErr result (λ at. HasFault rights_word word.now at.0 at.1) }
-    ensures within { IfErr result (λ at. at.1 ≤ length word.now) }
-    ensures spelled { (mask : ℕ) → Spells rights_word word.now mask → result ≡ Ok mask }
-{
     if word.is_empty() {
-        return Err((TextFault::Syntax, 0));
+        return Err(TextError::Fault {
+            fault: TextFault::Syntax,
+            place: start,
+        });
     }
     match read_mask(word) {
-        Ok(mask) => Ok(mask),
-        Err(TextError::Fault { fault, place }) => Err((fault, place)),
+        Ok(mask) => Ok(mask.bits()),
+        Err(TextError::Fault { fault, place }) => Err(TextError::Fault {
+            fault,
+            place: start + place,
+        }),
         Err(TextError::Memory) => unreachable!(),
     }
 }

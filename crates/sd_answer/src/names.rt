@@ -3,7 +3,7 @@ ghost use Rattle.std.specs.Prelude.{◌≡◌, ◌++◌, ◌&&◌, [], IfOk, OnO
 ghost use Rattle.sd_text.specs.MaskNames.{is_due, named_from, with_rest, with_word};
 ghost use Rattle.sd_answer.specs.Names.{bits_among, is_of, is_own, is_same_kind, long_names, mask_named, mask_names};
 ghost use Rattle.sd_answer.specs.Names.{NamedBits, named_bits, names_of, rights, short_names};
-ghost use Rattle.sd_answer.specs.Rights.{permission_among, permission_named, right_names};
+ghost use Rattle.sd_answer.specs.Rights.{permission_among, permission_named};
 
 use sd_sid::Mask;
 use std::alloc::{AllocError, Global};
@@ -155,19 +155,9 @@ pub(crate) fn mask_names(
     names_before_rights(alloc, short_names(), kind, mask)
 }
 
-/// The rights, as `FILE_READ_DATA+DELETE`, and bits without a name as a number after them.
-pub(crate) fn right_names(
-    alloc: Global,
-    kind: Option<ObjectKind>,
-    mask: Mask,
-) -> Result<String, AllocError>
-    ensures { IfOk result (λ text. string_bytes text ≡ right_names kind mask) }
-{
-    names_before_rights(alloc, &[], kind, mask)
-}
-
-/// A mask by the names of these rows and then by its rights.
-fn names_before_rights(
+/// A mask by the names of these rows and then by its rights, as `FILE_READ_DATA+DELETE`. Bits without a name follow as
+/// a number.
+pub(crate) fn names_before_rights(
     alloc: Global,
     rows: &[NamedBits],
     kind: Option<ObjectKind>,
@@ -298,8 +288,7 @@ fn push_word(text: &mut String, word: &str) -> Result<(), AllocError>
     if !text.is_empty() {
         text.push_str("+")?;
     }
-    text.push_str(word)?;
-    Ok(())
+    text.push_str(word)
 }
 
 /// Appends the bits that no name has, or the number 0 if the text is empty.

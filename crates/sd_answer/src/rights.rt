@@ -1,13 +1,14 @@
 //! The line of `rights`: the names of a mask's rights, by kind of object ([MS-DTYP] 2.4.3).
 ghost use Rattle.std.specs.Prelude.{◌≡◌, IfOk, string_bytes};
-ghost use Rattle.sd_answer.specs.Rights.{permission_named, permission_text, rights_line};
+ghost use Rattle.sd_answer.specs.Rights.{rights_line};
 
-use crate::names::{ObjectKind, permission_named, right_names};
+use crate::names::{ObjectKind, names_before_rights, permission_named};
 use sd_sid::Mask;
 use std::alloc::{AllocError, Global};
 
 /// The mask, the permission that it is, and its rights, as `0x10001: FILE_READ_DATA+DELETE`. The only error is out of
 /// memory.
+#[tactic(auto, using(std::proofs::Common::append_assoc))]
 pub fn rights_line(
     alloc: Global,
     kind: Option<ObjectKind>,
@@ -15,27 +16,16 @@ pub fn rights_line(
 ) -> Result<String, AllocError>
     ensures { IfOk result (λ text. string_bytes text ≡ rights_line kind mask) }
 {
-    let permission = permission_text(alloc, kind, mask)?;
-    let names = right_names(alloc, kind, mask)?;
-    let (permission, names) = (permission.as_str(), names.as_str());
-    let bits = mask.bits();
-    let text = format!(in alloc; "0x{bits:x}{permission}: {names}\n")?;
-    Ok(text)
-}
-
-/// The permission that is just this mask, after a space, or nothing.
-fn permission_text(
-    alloc: Global,
-    kind: Option<ObjectKind>,
-    mask: Mask,
-) -> Result<String, AllocError>
-    ensures { IfOk result (λ text. string_bytes text ≡ permission_text (permission_named kind mask)) }
-{
+    let names = names_before_rights(alloc, &[], kind, mask)?;
+    let (bits, names) = (mask.bits(), names.as_str());
     match permission_named(kind, mask) {
         Some(name) => {
-            let text = format!(in alloc; " {name}")?;
+            let text = format!(in alloc; "0x{bits:x} {name}: {names}\n")?;
             Ok(text)
         }
-        None => Ok(String::new(alloc)),
+        None => {
+            let text = format!(in alloc; "0x{bits:x}: {names}\n")?;
+            Ok(text)
+        }
     }
 }

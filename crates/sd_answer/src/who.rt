@@ -4,7 +4,7 @@ ghost use Rattle.sd_answer.specs.Lines.{values};
 ghost use Rattle.sd_answer.specs.Who.{alternative_text, holder_text, rights_asked, unless_text, who_text, with_access};
 
 use crate::answer::Spelling;
-use crate::lines::{BitsLine, LineHead, join, push_sid};
+use crate::lines::{BitsLine, Printer, join, push_sid};
 use sd_analysis::{Access, Alternative, Holder};
 use sd_check::MAXIMUM_PLACE;
 use sd_sid::{GenericMapping, Mask, OBJECT_RIGHTS, Sid};
@@ -37,13 +37,7 @@ pub fn who_text(
         join_access(alloc, &mut lines, access)?;
     }
     let mut text = String::new(alloc);
-    let head = "";
-    LineHead {
-        alloc,
-        spelling,
-        head,
-    }
-    .push_lines(&mut text, &lines)?;
+    Printer { alloc, spelling }.push_lines(&mut text, "", &lines)?;
     Ok(text)
 }
 
@@ -73,8 +67,7 @@ fn alternative_text(
     let holder = holder_text(alloc, &alternative.holder)?;
     let unless = unless_text(alloc, first(denied, alternative.unless))?;
     let (holder, unless) = (holder.as_str(), unless.as_str());
-    let text = format!(in alloc; " to {holder}{unless}")?;
-    Ok(text)
+    format!(in alloc; " to {holder}{unless}")
 }
 
 /// The first n SIDs, or all of them.

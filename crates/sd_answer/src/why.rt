@@ -44,8 +44,7 @@ fn entries_in(dacl: &Dacl) -> &[Ace]
     ensures { result.now ≡ listed (dacl_entries dacl.now) }
 {
     match dacl {
-        Dacl::Absent => &[],
-        Dacl::Null => &[],
+        Dacl::Absent | Dacl::Null => &[],
         Dacl::List(list) => list.entries(),
     }
 }
@@ -61,6 +60,7 @@ struct Listed<'a> {
 
 impl Listed<'_> {
     /// Adds the line of each part, in the order of their least bits.
+    #[tactic(auto, unfolding(crate::specs::Why::part_lines), using(std::proofs::Common::append_assoc))]
     fn push_parts(&self, text: &mut String, explanation: &Explanation) -> Result<(), AllocError>
         ensures { OnOk result (string_bytes text.new ≡ string_bytes text.old
             ++ part_lines self.now.spelling self.now.owner.now self.now.entries.now
@@ -121,8 +121,7 @@ impl Listed<'_> {
             ≡ finding_text self.now.spelling self.now.owner.now self.now.entries.now finding) }
     {
         match finding {
-            Finding::Allowed(place) => self.entry_text(place),
-            Finding::Denied(place) => self.entry_text(place),
+            Finding::Allowed(place) | Finding::Denied(place) => self.entry_text(place),
             Finding::NoEntry => String::from_str(self.alloc, "by no entry"),
         }
     }

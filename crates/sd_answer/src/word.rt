@@ -1,15 +1,10 @@
 //! The words that make a token: a user's groups, restricting SIDs and privileges.
-ghost use Rattle.std.specs.Prelude.{◌≡◌, ◌<◌, ◌++◌, ℕ, Err, IfSome, IfNone, IfOk, List, length};
-ghost use Rattle.sd_text.specs.Grammar.{Spells};
-ghost use Rattle.sd_text.specs.Sid.{sid_text_in};
+ghost use Rattle.std.specs.Prelude.{◌≡◌, ◌<◌, ℕ, Err, IfSome, IfNone, IfOk, OnOk, length};
 ghost use Rattle.sd_sid.specs.Sid.{SidValue};
-ghost use Rattle.sd_answer.specs.declared.word.Word.{Word as WordValue};
 ghost use Rattle.sd_answer.specs.declared.word.TokenError.TheVariants.{Memory};
-ghost use Rattle.sd_answer.specs.Word.{AreGroups, AreWords, IsFirstNoGroup, IsFirstNoWord, IsGroup, IsToken, IsWord};
-ghost use Rattle.sd_check.specs.declared.token.GroupState.{GroupState as GroupStateValue};
-ghost use Rattle.sd_answer.specs.Word.{groups_of, is_security, is_take_ownership, restricting_of, token_of};
+ghost use Rattle.sd_answer.specs.Word.{AreGroups, IsFirstNoGroup, IsFirstNoWord, IsGroup, IsSidBefore, IsToken, IsWord};
+ghost use Rattle.sd_answer.specs.Word.{parts_token, with_word};
 ghost use Rattle.sd_answer.specs.Word.{texts as texts_of};
-ghost use Rattle.std.specs.List.{list_any};
 
 use sd_check::{GroupState, Privileges, Token};
 use sd_sid::Sid;
@@ -59,26 +54,22 @@ impl<T: Drop> From<AllocFailed<T>> for TokenError {
 
 /// The SID that the text has before the ending.
 fn sid_before(known: Aliases, text: &str, ending: &str) -> Option<Sid>
-    ensures found { IfSome result (λ sid. (front : List ℕ) × (text.now ≡ front ++ ending.now)
-        × Spells (sid_text_in known) front sid) }
-    ensures none { IfNone result ((front : List ℕ) (sid : SidValue) → text.now ≡ front ++ ending.now
-        → Spells (sid_text_in known) front sid → ⊥) }
+    ensures found { IfSome result (IsSidBefore known text.now ending.now) }
+    ensures none { IfNone result ((sid : SidValue) → IsSidBefore known text.now ending.now sid → ⊥) }
 {
-    match text.strip_suffix(ending) {
-        None => None,
-        Some(front) => match read_sid_text_in(known, front) {
-            Ok(sid) => Some(sid),
-            Err(_) => None,
-        },
+    let front = text.strip_suffix(ending)?;
+    match read_sid_text_in(known, front) {
+        Ok(sid) => Some(sid),
+        Err(_) => None,
     }
 }
 
 /// The group that the text is.
 fn read_group(known: Aliases, text: &str) -> Option<(Sid, GroupState)>
-    ensures group { IfSome result (λ group. IsGroup known text.now group.0 group.1) }
-    ensures none { IfNone result ((sid : SidValue) (state : GroupStateValue) → IsGroup known text.now sid state → ⊥) }
+    ensures group { IfSome result (IsGroup known text.now) }
+    ensures none { IfNone result ((group : SidValue × GroupState) → IsGroup known text.now group → ⊥) }
 {
-    if let Ok(sid) = read_sid_text_in(known, text) {
+    if let Some(sid) = sid_before(known, text, "") {
         return Some((sid, GroupState::Enabled));
     }
     if let Some(sid) = sid_before(known, text, "=deny") {
@@ -91,7 +82,7 @@ fn read_group(known: Aliases, text: &str) -> Option<(Sid, GroupState)>
 /// The word that the text is.
 fn read_word(known: Aliases, text: &str) -> Option<Word>
     ensures word { IfSome result (IsWord known text.now) }
-    ensures none { IfNone result ((word : WordValue) → IsWord known text.now word → ⊥) }
+    ensures none { IfNone result ((word : Word) → IsWord known text.now word → ⊥) }
 {
     if text == "+security" {
         return Some(Word::Security);
@@ -121,76 +112,48 @@ pub fn read_token(
         → IsFirstNoWord known (texts_of texts.now) place }
     ensures within { (place : ℕ) → result ≡ Err (TokenError.NoWord place) → place < length texts.now }
 {
-    let words = read_words(alloc, known, texts)?;
-    Ok(token_of(alloc, user, &words)?)
-}
-
-/// The words that the texts are, in order.
-fn read_words(alloc: Global, known: Aliases, texts: &[&str]) -> Result<Vec<Word>, TokenError>
-    ensures words { IfOk result (λ words. AreWords known (texts_of texts.now) words.items) }
-    ensures first { (place : ℕ) → result ≡ Err (TokenError.NoWord place)
-        → IsFirstNoWord known (texts_of texts.now) place }
-    ensures within { (place : ℕ) → result ≡ Err (TokenError.NoWord place) → place < length texts.now }
-{
-    let mut words = Vec::new(alloc);
+    let mut parts = Parts {
+        user,
+        groups: Vec::new(alloc),
+        restricting: Vec::new(alloc),
+        privileges: Privileges::default(),
+    };
     for place in 0..texts.len() {
         match read_word(known, texts[place]) {
-            Some(word) => words.push(word)?,
+            Some(word) => parts.add(word)?,
             None => return Err(TokenError::NoWord { place }),
         }
     }
-    Ok(words)
+    Ok(Token::restricted(
+        parts.user,
+        parts.groups,
+        parts.restricting,
+        parts.privileges,
+    ))
 }
 
-/// The token of a user and words.
-fn token_of(alloc: Global, user: Sid, words: &[Word]) -> Result<Token, AllocError>
-    ensures { IfOk result (λ token. token ≡ token_of user words.now) }
-{
-    let groups = groups_in(alloc, words)?;
-    let restricting = restricting_in(alloc, words)?;
-    let privileges = Privileges {
-        security: has_security(words),
-        take_ownership: has_take_ownership(words),
-    };
-    Ok(Token::restricted(user, groups, restricting, privileges))
+/// A token in the making: of a user, and of the words so far.
+#[derive(Drop)]
+struct Parts {
+    user: Sid,
+    groups: Vec<(Sid, GroupState)>,
+    restricting: Vec<Sid>,
+    privileges: Privileges,
 }
 
-fn has_security(words: &[Word]) -> bool
-    ensures { result ≡ list_any is_security words.now }
-{
-    words.iter().any(|word| matches!(word, Word::Security))
-}
-
-fn has_take_ownership(words: &[Word]) -> bool
-    ensures { result ≡ list_any is_take_ownership words.now }
-{
-    words.iter().any(|word| matches!(word, Word::TakeOwnership))
-}
-
-/// The groups among the words.
-fn groups_in(alloc: Global, words: &[Word]) -> Result<Vec<(Sid, GroupState)>, AllocError>
-    ensures { IfOk result (λ groups. groups.items ≡ groups_of words.now) }
-{
-    let mut groups = Vec::new(alloc);
-    for word in words {
-        if let Word::Group { sid, state } = word {
-            groups.push((*sid, *state))?;
+impl Parts {
+    /// Adds what a word adds.
+    fn add(&mut self, word: Word) -> Result<(), AllocError>
+        ensures { OnOk result (parts_token self.new ≡ with_word (parts_token self.old) word) }
+    {
+        match word {
+            Word::Group { sid, state } => self.groups.push((sid, state))?,
+            Word::Restricting { sid } => self.restricting.push(sid)?,
+            Word::Security => self.privileges.security = true,
+            Word::TakeOwnership => self.privileges.take_ownership = true,
         }
+        Ok(())
     }
-    Ok(groups)
-}
-
-/// The restricting SIDs among the words.
-fn restricting_in(alloc: Global, words: &[Word]) -> Result<Vec<Sid>, AllocError>
-    ensures { IfOk result (λ sids. sids.items ≡ restricting_of words.now) }
-{
-    let mut sids = Vec::new(alloc);
-    for word in words {
-        if let Word::Restricting { sid } = word {
-            sids.push(*sid)?;
-        }
-    }
-    Ok(sids)
 }
 
 /// The base of an analysis that these texts are ([MS-DTYP] 2.5.2), whose SIDs may have these aliases: each is a group,

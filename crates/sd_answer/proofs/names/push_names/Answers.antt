@@ -1,12 +1,12 @@
-use Rattle.std.proofs.Common.{◌∙◌, sym}
-use Rattle.sd_answer.proofs.RightNames.{named_due, not_due}
+use Rattle.std.proofs.Common.{◌∙◌, false, sym, true}
+use Rattle.sd_answer.proofs.RightNames.{row_done}
 use Rattle.sd_answer.proofs.names.push_names.Goals as goal
 use Rattle.sd_answer.proofs.names.push_names.Goals.{then-is_due+in_ok-push_word, else-is_due}
 
 pub loop-name-preserved : goal.loop-name-preserved
 loop-name-preserved c = λ more. elim c.if-is_due.branch [
   | then-is_due+in_ok-push_word w ↦ rw (w.text-is, w.named-is, w.in_ok-push_word.ensures)
-      (named_due _ more _ _ _ _ _ _ _ c.loop-name-test.true (sym c.is_due.ensures ∙ w.if-is_due.true) (c.loop-name.invariant more))
+      (row_done _ more _ _ _ _ _ _ _ true c.loop-name-test.true (sym c.is_due.ensures ∙ w.if-is_due.true) (c.loop-name.invariant more))
   | else-is_due w ↦ rw (w.text-is, w.named-is)
-      (not_due _ more _ _ _ _ _ _ _ c.loop-name-test.true (sym c.is_due.ensures ∙ w.if-is_due.false) (c.loop-name.invariant more))
+      (row_done _ more _ _ _ _ _ _ _ false c.loop-name-test.true (sym c.is_due.ensures ∙ w.if-is_due.false) (c.loop-name.invariant more))
 ]

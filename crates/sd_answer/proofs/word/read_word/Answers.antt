@@ -1,15 +1,19 @@
-use Rattle.std.proofs.Common.{◌∙◌, sym}
+use Rattle.std.proofs.Common.{inr, refl, ◌∙◌, sym}
 use Rattle.std.specs.Prelude.{codes}
-use Rattle.sd_check.specs.declared.token.GroupState.TheVariants.{Enabled}
-use Rattle.sd_answer.proofs.Words.{no_word, apart}
+use Rattle.sd_answer.proofs.Words.{apart, neither, not_ended}
 use Rattle.sd_answer.proofs.word.read_word.Goals as goal
 
 pub returns-clause-word : goal.returns-clause-word
-returns-clause-word c = (λ sid spelled. c.in_default.ensures.none sid Enabled spelled, c.in_ok-sid.ensures.found)
+returns-clause-word c = inr (
+  λ one is. apart c.args.text.now (codes "+security") (sym c.eq.ensures ∙ c.if-eq.false) is.0,
+  inr (
+    λ one is. apart c.args.text.now (codes "+take") (sym c.eq-2.ensures ∙ c.if-eq-2.false) is.0,
+    inr (λ one is. c.in_default.ensures.none is.0 is.1, (c.in_ok-sid.sid, c.in_ok-sid.ensures.found, refl)),
+  ),
+)
 
 pub returns-in_err-sid-clause-none : goal.returns-in_err-sid-clause-none
-returns-in_err-sid-clause-none c =
-    rw c.from_residual.ensures (no_word c.args.known c.args.text.now
-    (apart c.args.text.now (codes "+security") (sym c.eq.ensures ∙ c.if-eq.false))
-    (apart c.args.text.now (codes "+take") (sym c.eq-2.ensures ∙ c.if-eq-2.false))
-    c.in_default.ensures.none c.in_err-sid.ensures.none)
+returns-in_err-sid-clause-none c = rw c.from_residual.ensures (neither _ _
+    (λ one is. apart c.args.text.now (codes "+security") (sym c.eq.ensures ∙ c.if-eq.false) is.0) (neither _ _
+    (λ one is. apart c.args.text.now (codes "+take") (sym c.eq-2.ensures ∙ c.if-eq-2.false) is.0) (neither _ _
+    (λ one is. c.in_default.ensures.none is.0 is.1) (not_ended _ _ _ _ c.in_err-sid.ensures.none))))

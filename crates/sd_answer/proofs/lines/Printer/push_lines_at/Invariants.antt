@@ -1,8 +1,8 @@
 -- Those of the lines so far stand behind the text.
 use Rattle.std.proofs.Common.{◌≡◌, ◌++◌, string_bytes, take}
 use Rattle.sd_answer.specs.Lines.{lines_at, values}
-use Rattle.sd_answer.proofs.lines.LineHead.push_lines_at.Given as goal
+use Rattle.sd_answer.proofs.lines.Printer.push_lines_at.Given as goal
 
 abbrev pub invariant-loop-line : goal.invariant-loop-line
 invariant-loop-line l =
-    string_bytes l.text ≡ string_bytes l.initial.text ++ lines_at l.self.spelling l.self.head.now (values (take l.line-index l.lines)) l.place
+    string_bytes l.text ≡ string_bytes l.initial.text ++ lines_at l.self.spelling l.head (values (take l.line-index l.lines)) l.place

@@ -1,8 +1,8 @@
 -- The lines of the places so far stand behind the text.
 use Rattle.std.proofs.Common.{◌≡◌, ◌++◌, string_bytes}
 use Rattle.sd_answer.specs.Lines.{lines_below, values}
-use Rattle.sd_answer.proofs.lines.LineHead.push_lines.Given as goal
+use Rattle.sd_answer.proofs.lines.Printer.push_lines.Given as goal
 
 abbrev pub invariant-loop-place : goal.invariant-loop-place
 invariant-loop-place l =
-    string_bytes l.text ≡ string_bytes l.initial.text ++ lines_below l.self.spelling l.self.head.now (values l.lines) l.place
+    string_bytes l.text ≡ string_bytes l.initial.text ++ lines_below l.self.spelling l.head (values l.lines) l.place

@@ -1,7 +1,0 @@
--- The groups so far are those of the words so far.
-use Rattle.std.proofs.Common.{◌≡◌, take}
-use Rattle.sd_answer.specs.Word.{groups_of}
-use Rattle.sd_answer.proofs.word.groups_in.Given as goal
-
-abbrev pub invariant-loop-word : goal.invariant-loop-word
-invariant-loop-word l = l.groups.items ≡ groups_of (take l.word-index l.words)

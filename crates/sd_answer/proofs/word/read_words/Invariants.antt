@@ -1,7 +1,0 @@
--- The words so far are those of the texts so far.
-use Rattle.std.proofs.Common.{take}
-use Rattle.sd_answer.specs.Word.{AreWords, texts}
-use Rattle.sd_answer.proofs.word.read_words.Given as goal
-
-abbrev pub invariant-loop-place : goal.invariant-loop-place
-invariant-loop-place l = AreWords l.known (texts (take l.place l.texts)) l.words.items
