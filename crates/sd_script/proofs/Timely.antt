@@ -1,6 +1,6 @@
 -- What a line can ask for: an opening where no store is open, and something of a store where one is.
-use Rattle.std.proofs.Common.{◌≡◌, ⊎_elim, ℕ, List, [], ◌∷◌, Bool, true, false, not, Option, Some, None, Ok, Err, inl, inr, refl, sym, subst}
-use Rattle.std.specs.Prelude.{⊤, MatchBool, if◌then◌else◌, option_map}
+use Rattle.std.proofs.Common.{◌≡◌, ℕ, List, [], ◌∷◌, Bool, true, false, not, Option, Some, None, Ok, inl, inr, refl, sym, subst}
+use Rattle.std.specs.Prelude.{⊤, option_map}
 use Rattle.sd_sid.specs.Sid.{SidValue}
 use Rattle.sd_check.specs.Token.{TokenValue}
 use Rattle.sd_check.specs.declared.token.GroupState.{GroupState}
@@ -10,14 +10,13 @@ use Rattle.sd_tree.specs.declared.node.NodeKind.{NodeKind}
 use Rattle.sd_tree.specs.declared.opening.RootSpec.{RootSpec}
 use Rattle.sd_script.specs.Argument.{number, path, sid, mask, token, base, node, dacl, imported}
 use Rattle.sd_script.specs.Command.{Arguments, Asks, Number, Path, Sid, Mask, Token, Groups, Node, Dacl, Imported}
-use Rattle.sd_script.specs.Command.{asks, asks_where, command_of, imports, is_untimely, kind_named, line_asks, reads, reads_where}
+use Rattle.sd_script.specs.Command.{asks, asks_where, command_of, imports, kind_named, line_asks, reads, reads_where}
 use Rattle.sd_script.specs.Fault.{Reading, Then}
 use Rattle.sd_script.specs.Lines.{words_of}
 use Rattle.sd_script.specs.Output.{opens}
 use Rattle.sd_script.specs.declared.asked.Asked.{Asked}
 use Rattle.sd_script.specs.declared.command.ScriptCommand.{ScriptCommand}
 use Rattle.sd_script.specs.declared.command.ScriptCommand.TheVariants.{Open, AddContainer, AddObject, SetOwner, SetGroup, SetDacl, Remove, Protect, Move, Publish, Tell, Learn, Check, Why, Find, Show, ListNodes, Dump, Who, Review, ImportNode, Delete}
-use Rattle.sd_script.specs.declared.fault.LineFault.TheVariants as faults
 use Rattle.sd_script.specs.declared.importing.Import.{Import}
 use Rattle.sd_script.specs.declared.manner.Notation.{Notation}
 
@@ -101,28 +100,19 @@ words_open ImportNode (kind ∷ at ∷ sddl ∷ []) = imports_open at sddl (kind
 words_open Delete (reader ∷ at ∷ user ∷ words) = λ i p s t. refl
 words_open name arguments = tt
 
-untimely_is : (is_open : Bool) (name : ScriptCommand) → is_untimely is_open name ≡ (if is_opening name then is_open else not is_open)
-untimely_is is_open Open = refl
-untimely_is is_open name = refl
-
-by_test : (notation : Notation) (is_open is : Bool) (arguments : Arguments) (b : Asked) → All (Opens is) arguments
-    → MatchBool (if is then is_open else not is_open) (Ok b ≡ Err faults.Open) (reads notation arguments (Ok b)) → Opens (not is_open) b
-by_test notation true true arguments b all h = absurd (cc (h))
-by_test notation true false arguments b all h = all_given (Opens false) notation arguments all b h
-by_test notation false true arguments b all h = all_given (Opens true) notation arguments all b h
-by_test notation false false arguments b all h = absurd (cc (h))
-
 reads_open : (notation : Notation) (is_open : Bool) (name : ScriptCommand) (arguments : Option Arguments) → AllOf (Opens (is_opening name)) arguments
     → Gives (Opens (not is_open)) (reads_where notation is_open name arguments)
 reads_open notation is_open name None all b h = absurd (cc (h))
-reads_open notation is_open name (Some arguments) all b h =
-    by_test notation is_open (is_opening name) arguments b all (subst (λ t. MatchBool t (Ok b ≡ Err faults.Open) (reads notation arguments (Ok b))) (untimely_is is_open name) h)
+reads_open notation true Open (Some arguments) all b h = absurd (cc (h))
+reads_open notation false Open (Some arguments) all b h = all_given (Opens true) notation arguments all b h
+reads_open notation true name (Some arguments) all b h = all_given (Opens false) notation arguments all b h
+reads_open notation false name (Some arguments) all b h = absurd (cc (h))
 
 where_open : (notation : Notation) (is_open : Bool) (command : Option (ScriptCommand × List (List ℕ))) → Gives (Opens (not is_open)) (asks_where notation is_open command)
 where_open notation is_open None b h = absurd (cc (h))
-where_open notation is_open (Some command) b h =
-    reads_open notation is_open command.0 (asks command.0 command.1) (words_open command.0 command.1) b h
+where_open notation is_open (Some (name, arguments)) b h = reads_open notation is_open name (asks name arguments) (words_open name arguments) b h
 
 -- a line opens a store just where none is open
 pub line_opens : (notation : Notation) (is_open : Bool) (line : List ℕ) → Gives (Opens (not is_open)) (line_asks notation is_open line)
-line_opens notation is_open line b h = ⊎_elim (λ x. where_open notation is_open (command_of (words_of line)) b x.1) (λ x. absurd (cc (x.1))) h
+line_opens notation is_open line b (inl (utf8, h)) = where_open notation is_open (command_of (words_of line)) b h
+line_opens notation is_open line b (inr (other, is)) = absurd (cc (is))
