@@ -2,7 +2,6 @@
 use Rattle.std.proofs.Common.{◌≡◌, ℕ, Bool, true, false, List, [], ◌∷◌, Option, Some, None, Result, Ok, Err, inl, inr, sym, ◌∙◌, ap}
 use Rattle.std.specs.Prelude.{bit_or}
 use Rattle.std.proofs.lemmas.Bool.{cases_Bool}
-use Rattle.sd_sid.specs.Sid.{SidValue}
 use Rattle.sd_acl.specs.Descriptor.{DescriptorValue}
 use Rattle.sd_text.specs.Grammar.{Spells}
 use Rattle.sd_text.specs.Rights.{mask_text}
@@ -17,8 +16,8 @@ use Rattle.sd_answer.specs.declared.answer.Spelling.{Spelling}
 use Rattle.sd_answer.specs.declared.answer.Spelling.TheVariants as spellings
 use Rattle.sd_answer.specs.declared.names.ObjectKind.{ObjectKind}
 use Rattle.sd_tree.specs.Names.{Names}
-use Rattle.sd_script.specs.Argument.{IsNumber, number, path, sid, mask, token, base, descriptor, node, node_of, dacl, dacl_of, imported, import_of}
-use Rattle.sd_script.specs.Command.{Arguments, Asks, Number, Path, Sid, Mask, Token, Groups, Node, Dacl, Imported}
+use Rattle.sd_script.specs.Argument.{IsNumber, descriptor, node_of, dacl_of, import_of}
+use Rattle.sd_script.specs.Command.{Argument, Number, Path, Sid, Mask, Token, Groups, Node, Dacl, Imported, reading, Arguments, Asks, ◌▸◌}
 use Rattle.sd_script.specs.Command.{asks, asks_where, command_of, is_untimely, line_asks, reads, reads_where}
 use Rattle.sd_script.specs.Fault.{Reading, SomeOr, Then}
 use Rattle.sd_script.specs.Lines.{words_of}
@@ -92,37 +91,25 @@ described-one : {A : Type 0} (notation : Notation) (word : List ℕ) (f : Descri
 described-one notation word f =
     Then-one (descriptor notation word) (λ d read. read ≡ f d) (one_descriptor notation notation.without_sacl word) (λ d r s x y. x ∙ sym y)
 
-number-one : (word : List ℕ) → IsOne (number word)
-number-one word = SomeOr-one (IsNumber word) faults.Number (λ a b x y. sym x.1 ∙ y.1)
-
-path-one : (paths : PathSpelling) (word : List ℕ) → IsOne (path paths word)
-path-one paths word = SomeOr-one (IsPath paths word) faults.Path (one_path paths word)
-
-sid-one : (notation : Notation) (word : List ℕ) → IsOne (sid notation word)
-sid-one notation word = SomeOr-one (Spells (sid_text_in notation.aliases) word) faults.Sid (one_value (sid_text_in notation.aliases) word)
-
-mask-one : (notation : Notation) (word : List ℕ) → IsOne (mask notation word)
-mask-one notation word = SomeOr-one (IsMaskIn notation.spelling word) faults.Mask (one_mask notation.spelling word)
-
-token-one : (notation : Notation) (user : SidValue) (words : List (List ℕ)) → IsOne (token notation user words)
-token-one notation user words = SomeOr-one (IsToken notation.aliases user words) faults.Token (token_one notation.aliases user words)
-
-base-one : (notation : Notation) (words : List (List ℕ)) → IsOne (base notation words)
-base-one notation words = SomeOr-one (AreGroups notation.aliases words) faults.Token (groups_one notation.aliases words)
+argument-one : (notation : Notation) (argument : Argument) → IsOne (reading notation argument)
+argument-one notation (Number word) = SomeOr-one (IsNumber word) faults.Number (λ a b x y. sym x.1 ∙ y.1)
+argument-one notation (Path word) = SomeOr-one (IsPath notation.paths word) faults.Path (one_path notation.paths word)
+argument-one notation (Sid word) =
+    SomeOr-one (Spells (sid_text_in notation.aliases) word) faults.Sid (one_value (sid_text_in notation.aliases) word)
+argument-one notation (Mask word) = SomeOr-one (IsMaskIn notation.spelling word) faults.Mask (one_mask notation.spelling word)
+argument-one notation (Node word) = described-one notation word node_of
+argument-one notation (Dacl word) = described-one notation word dacl_of
+argument-one notation (Imported word) = described-one notation word import_of
+argument-one notation (Token user words) =
+    SomeOr-one (IsToken notation.aliases user words) faults.Token (token_one notation.aliases user words)
+argument-one notation (Groups words) = SomeOr-one (AreGroups notation.aliases words) faults.Token (groups_one notation.aliases words)
 
 -- ---- lines
 
 reads-one : (notation : Notation) (arguments : Arguments) → IsOne (reads notation arguments)
 reads-one notation (Asks asked) = λ r s x y. x ∙ sym y
-reads-one notation (Number word next) = Then-one (number word) (λ n. reads notation (next n)) (number-one word) (λ n. reads-one notation (next n))
-reads-one notation (Path word next) = Then-one (path notation.paths word) (λ p. reads notation (next p)) (path-one notation.paths word) (λ p. reads-one notation (next p))
-reads-one notation (Sid word next) = Then-one (sid notation word) (λ s. reads notation (next s)) (sid-one notation word) (λ s. reads-one notation (next s))
-reads-one notation (Mask word next) = Then-one (mask notation word) (λ m. reads notation (next m)) (mask-one notation word) (λ m. reads-one notation (next m))
-reads-one notation (Token user words next) = Then-one (token notation user words) (λ t. reads notation (next t)) (token-one notation user words) (λ t. reads-one notation (next t))
-reads-one notation (Groups words next) = Then-one (base notation words) (λ groups. reads notation (next groups)) (base-one notation words) (λ groups. reads-one notation (next groups))
-reads-one notation (Node word next) = Then-one (node notation word) (λ n. reads notation (next n)) (described-one notation word node_of) (λ n. reads-one notation (next n))
-reads-one notation (Dacl word next) = Then-one (dacl notation word) (λ d. reads notation (next d)) (described-one notation word dacl_of) (λ d. reads-one notation (next d))
-reads-one notation (Imported word next) = Then-one (imported notation word) (λ i. reads notation (next i)) (described-one notation word import_of) (λ i. reads-one notation (next i))
+reads-one notation (argument ▸ next) =
+    Then-one (reading notation argument) (λ value. reads notation (next value)) (argument-one notation argument) (λ value. reads-one notation (next value))
 
 where-one : (notation : Notation) (is_open : Bool) (name : ScriptCommand) (arguments : Option Arguments) → IsOne (reads_where notation is_open name arguments)
 where-one notation is_open name None r s x y = x ∙ sym y
