@@ -1,6 +1,6 @@
 -- What `why` and `delete` print beside what `check` prints.
 use Rattle.std.proofs.Common.{◌≡◌, ℕ, List, [], ◌++◌, length, Option, Some, None, refl, sym, ◌∙◌, ap, append_assoc, append-nil, Bool, true, false, subst, arith}
-use Rattle.std.specs.Prelude.{codes, option_map, get_or, if◌then◌else◌}
+use Rattle.std.specs.Prelude.{codes, option_map, get_or}
 use Rattle.sd_sid.specs.Mapping.{MappingValue}
 use Rattle.sd_acl.specs.declared.ace.Ace.{Ace}
 use Rattle.sd_check.specs.Token.{TokenValue}
@@ -26,9 +26,9 @@ use Rattle.sd_script.specs.declared.session.Session.TheVariants.{Opened}
 use Rattle.sd_script.proofs.OneOutput.{by_reader, one_step, outcome}
 use Rattle.std.specs.Fmt.{decimal}
 use Rattle.std.proofs.lemmas.List.{append_cancel_left}
-use Rattle.sd_check.specs.declared.verdict.Verdict.TheVariants.{Granted, Denied, Reserved, EmptyRequest}
+use Rattle.sd_check.specs.declared.verdict.Verdict.TheVariants.{Granted}
 use Rattle.sd_tree.specs.declared.tree.CheckReply.{CheckReply}
-use Rattle.sd_tree.specs.declared.tree.CheckReply.TheVariants.{Verdict, NoNode}
+use Rattle.sd_tree.specs.declared.tree.CheckReply.TheVariants.{Verdict}
 use Rattle.sd_script.specs.Deletion.{delete_right, deletion_line, parent_grants}
 
 -- ---- the answer to `why` begins with that to `check`
@@ -83,34 +83,22 @@ abbrev AreAlike : Spelling → ℕ → List ℕ → List ℕ → Type 0
 AreAlike spelling len checked deleted =
     (IsGranted spelling len checked → deleted ≡ by_node_line len) × (deleted ≡ by_node_line len → IsGranted spelling len checked)
 
--- neither is a grant: the one begins otherwise
-neither : (spelling : Spelling) (len : ℕ) (xs ys : List ℕ) → (letter 0 xs ≡ 103 → ⊥) → (ys ≡ line (codes "granted by node") → ⊥)
+-- neither is a grant: each has another letter
+neither : (spelling : Spelling) (len : ℕ) (xs ys : List ℕ) → (letter 0 xs ≡ 103 → ⊥) → (letter 11 ys ≡ 110 → ⊥)
     → AreAlike spelling len (seen_line len xs) (seen_line len ys)
 neither spelling len xs ys other others = (
   λ is. absurd (other (ap (letter 0) (after_seen len xs (line (codes "granted " ++ spelled spelling is.0)) is.1))),
-  λ is. absurd (others (after_seen len ys (line (codes "granted by node")) is)),
+  λ is. absurd (others (ap (letter 11) (after_seen len ys (line (codes "granted by node")) is))),
 )
-
-abbrev otherwise : Bool → List ℕ
-otherwise by_parent = if by_parent then line (codes "granted by parent") else line (codes "denied")
-
-not_by_node : (by_parent : Bool) → otherwise by_parent ≡ line (codes "granted by node") → ⊥
-not_by_node true is = let there : 112 ≡ 110 = ap (letter 11) is in omega (arith, there)
-not_by_node false is = let there : 100 ≡ 103 = ap (letter 0) is in omega (arith, there)
 
 -- by the reply to the check
 replies_alike : (spelling : Spelling) (len : ℕ) (reply : CheckReply) (by_parent : Bool)
     → AreAlike spelling len (seen_line len (check_line spelling reply)) (seen_line len (deletion_line reply by_parent))
 replies_alike spelling len (Verdict (Granted mask)) by_parent = (λ is. refl, λ is. (mask, refl))
-replies_alike spelling len (Verdict (Denied mask)) by_parent =
-    neither spelling len (line (codes "denied " ++ spelled spelling mask)) (otherwise by_parent) (λ h. omega (arith, h)) (not_by_node by_parent)
-replies_alike spelling len (Verdict (Reserved mask)) by_parent =
-    neither spelling len (line (codes "reserved " ++ spelled spelling mask)) (otherwise by_parent) (λ h. omega (arith, h)) (not_by_node by_parent)
-replies_alike spelling len (Verdict EmptyRequest) by_parent =
-    neither spelling len (line (codes "empty")) (otherwise by_parent) (λ h. omega (arith, h)) (not_by_node by_parent)
-replies_alike spelling len NoNode by_parent =
-    neither spelling len (line (codes "nonode")) (line (codes "nonode")) (λ h. omega (arith, h))
-    (λ is. let there : 110 ≡ 103 = ap (letter 0) is in omega (arith, there))
+replies_alike spelling len reply true =
+    neither spelling len (check_line spelling reply) (deletion_line reply true) (λ h. omega (arith, h)) (λ h. omega (arith, h))
+replies_alike spelling len reply false =
+    neither spelling len (check_line spelling reply) (deletion_line reply false) (λ h. omega (arith, h)) (λ h. omega (arith, h))
 
 abbrev Alike : Spelling → ℕ → List ℕ × Machine → List ℕ × Machine → Type 0
 Alike spelling len check deletion = AreAlike spelling len check.0 deletion.0 × (deletion.1 ≡ check.1)
@@ -123,10 +111,7 @@ deletes_as_checked notation m reader path t checked told one other first second 
     let both : Alike notation.spelling len (outcome notation.spelling m (requests.Check reader path t delete_right)) (outcome_of notation m reader path (Delete t)) =
     by_reader (Alike notation.spelling len) m reader _ _
     (replies_alike notation.spelling len (answer m.opening m.published path t delete_right) by_parent, refl) (
-      (
-        λ is. absurd (let there : 110 ≡ 115 = ap (letter 0) is.1 in omega (arith, there)),
-        λ is. absurd (let there : 110 ≡ 115 = ap (letter 0) is in omega (arith, there)),
-      ),
+      (λ is. absurd (omega (arith, ap (letter 0) is.1)), λ is. absurd (omega (arith, ap (letter 0) is))),
       refl,
     ) in
     let text = ap (λ (z : List ℕ × Machine). z.0) check in (

@@ -1,10 +1,10 @@
 -- A text has one output: a line is read as one thing, and a request has one reply that has a line.
-use Rattle.std.proofs.Common.{◌≡◌, ℕ, ◌<◌, ◌≤◌, Bool, true, false, List, [], ◌∷◌, ◌++◌, length, Option, Some, None, Ok, Err, inl, inr, refl, sym, ◌∙◌, ap, subst, arith, take}
-use Rattle.std.specs.Prelude.{MatchBool, codes, if◌then◌else◌, nat_lt, nat_le}
+use Rattle.std.proofs.Common.{◌≡◌, ℕ, Bool, true, false, List, [], ◌∷◌, ◌++◌, length, Option, Some, None, Ok, Err, inl, inr, refl, sym, ◌∙◌, ap, subst, take}
+use Rattle.std.specs.Prelude.{MatchBool, codes, if◌then◌else◌, nat_lt, nat_le, option_map}
 use Rattle.std.specs.Bool.{one_answer}
 use Rattle.std.specs.List.{All}
 use Rattle.std.specs.Str.Lines.{lines}
-use Rattle.std.proofs.lemmas.Bool.{lt-ltb, le-ltb, le-leb, lt-leb}
+use Rattle.std.proofs.lemmas.Bool.{cases_Bool, lt-ltb, le-ltb, le-leb, lt-leb}
 use Rattle.std.proofs.lemmas.List.Elements.{All-head, All-tail}
 use Rattle.sd_acl.specs.declared.ace.Ace.{Ace}
 use Rattle.sd_tree.specs.Answers.{answer, descriptor_at}
@@ -71,14 +71,8 @@ outcome spelling m (requests.Check reader names t asked) = for_reader m reader
 outcome spelling m (requests.Show reader names) = for_reader m reader
     (seen_line (length m.published) (shown_line spelling (descriptor_at m.opening.mapping (replay m.opening m.published) names)), with_look m reader)
 
-printed_is : (xs ys : List ℕ) (m n : Machine) → Some xs ≡ Some ys → n ≡ m → pair ys n ≡ pair xs m
-printed_is xs ys m n text machine = let same : xs ≡ ys = cc (text) in rw (machine, same) refl
-
-there : (m : Machine) (reader : ℕ) (x : List ℕ × Machine) → reader < length m.floors → for_reader m reader x ≡ x
-there m reader x low = rw (lt-ltb reader (length m.floors) low) refl
-
-absent : (m : Machine) (reader : ℕ) (x : List ℕ × Machine) → length m.floors ≤ reader → for_reader m reader x ≡ pair (line (codes "noreader")) m
-absent m reader x high = rw (le-ltb reader (length m.floors) high) refl
+printed_is : {xs ys : List ℕ} {m n : Machine} → Some xs ≡ Some ys → n ≡ m → pair ys n ≡ pair xs m
+printed_is {xs} {ys} text machine = let same : xs ≡ ys = cc (text) in rw (machine, same) refl
 
 -- what holds of two outcomes where the reader is there, and where it isn't
 pub by_reader : (P : List ℕ × Machine → List ℕ × Machine → Type 0) (m : Machine) (reader : ℕ) (x y : List ℕ × Machine) → P x y
@@ -90,63 +84,57 @@ by_reader P m reader x y is none = by_test (nat_lt reader (length m.floors)) whe
 
 pub one_step : (spelling : Spelling) (old : Machine) (r : Request) (reply : Reply) (new : Machine) (printed : List ℕ)
     → Steps old r reply new → reply_line spelling reply ≡ Some printed → pair printed new ≡ outcome spelling old r
-one_step spelling old (requests.Edit e) replies.Edited new printed is text = rw (is.0) (printed_is _ printed _ new text is.1)
-one_step spelling old (requests.Edit e) (replies.Refused refusal) new printed is text = rw (is.0) (printed_is _ printed _ new text is.1)
-one_step spelling old requests.Publish (replies.Published len) new printed is text = rw (← is.0) (printed_is _ printed _ new text is.1)
-one_step spelling old requests.Tell (replies.Told len) new printed is text = rw (← is.0) (printed_is _ printed _ new text is.1)
+one_step spelling old r replies.Memory new printed is text = absurd (cc (text))
+one_step spelling old (requests.Edit e) replies.Edited new printed is text = rw (is.0) (printed_is text is.1)
+one_step spelling old (requests.Edit e) (replies.Refused refusal) new printed is text = rw (is.0) (printed_is text is.1)
+one_step spelling old requests.Publish (replies.Published len) new printed is text = rw (← is.0) (printed_is text is.1)
+one_step spelling old requests.Tell (replies.Told len) new printed is text = rw (← is.0) (printed_is text is.1)
 one_step spelling old (requests.Learn reader len) replies.NoReader new printed is text =
-    printed_is _ printed _ new text is.1 ∙ sym (absent old reader _ is.0)
+    rw (le-ltb reader (length old.floors) is.0) (printed_is text is.1)
 one_step spelling old (requests.Learn reader len) replies.NoNotice new printed is text =
-    printed_is _ printed _ new text is.2 ∙ sym (there old reader _ is.0 ∙ rw (lt-leb len (length old.published) is.1) refl)
+    rw (lt-ltb reader (length old.floors) is.0, lt-leb len (length old.published) is.1) (printed_is text is.2)
 one_step spelling old (requests.Learn reader len) (replies.Learned floor) new printed is text =
-    printed_is _ printed _ new (ap (λ n. Some (counted_line (codes "learned") n)) (sym is.2) ∙ text) is.3
-    ∙ sym (there old reader _ is.0 ∙ rw (le-leb len (length old.published) is.1) refl)
+    rw (lt-ltb reader (length old.floors) is.0, le-leb len (length old.published) is.1) (printed_is (rw is.2 at text) is.3)
 one_step spelling old (requests.Check reader names t asked) replies.NoReader new printed is text =
-    printed_is _ printed _ new text is.1 ∙ sym (absent old reader _ is.0)
+    rw (le-ltb reader (length old.floors) is.0) (printed_is text is.1)
 one_step spelling old (requests.Check reader names t asked) (replies.Answered given) new printed is text =
-    printed_is _ printed _ new (ap (λ g. reply_line spelling (replies.Answered g)) (sym is.1) ∙ text) is.2 ∙ sym (there old reader _ is.0)
+    rw (lt-ltb reader (length old.floors) is.0) (printed_is (rw is.1 at text) is.2)
 one_step spelling old (requests.Show reader names) replies.NoReader new printed is text =
-    printed_is _ printed _ new text is.1 ∙ sym (absent old reader _ is.0)
+    rw (le-ltb reader (length old.floors) is.0) (printed_is text is.1)
 one_step spelling old (requests.Show reader names) (replies.Shown seen d) new printed is text =
-    printed_is _ printed _ new (ap (λ n. Some (seen_line n (shown_line spelling (descriptor_at old.opening.mapping (replay old.opening old.published) names)))) (sym is.1)
-    ∙ ap (λ x. Some (seen_line seen (shown_line spelling x))) (sym is.2) ∙ text) is.3 ∙ sym (there old reader _ is.0)
-one_step spelling old (requests.Edit e) replies.Memory new printed is text = absurd (cc (text))
-one_step spelling old requests.Publish replies.Memory new printed is text = absurd (cc (text))
-one_step spelling old (requests.Show reader names) replies.Memory new printed is text = absurd (cc (text))
+    rw (lt-ltb reader (length old.floors) is.0) (printed_is (rw (is.1, is.2) at text) is.3)
 one_step spelling old r reply new printed is text = absurd is
 
 -- ---- openings
 
-errors-one : (e f : StartError) (readers : ℕ) (due : Option EditRefusal) (p q : List ℕ) → IsStartError e readers due → IsStartError f readers due
-    → start_error_line e ≡ Some p → start_error_line f ≡ Some q → p ≡ q
-errors-one starts.Memory f readers due p q is other one two = absurd (cc (one))
-errors-one starts.Place f readers due p q is other one two = absurd is
-errors-one starts.Readers starts.Readers readers due p q is other one two = let same = sym one ∙ two in cc (same)
-errors-one starts.Readers (starts.Root r) readers due p q (inl is) other one two = absurd (omega (arith, is, other.0.0))
-errors-one starts.Readers (starts.Root r) readers due p q (inr is) other one two = absurd (omega (arith, is, other.0.1))
-errors-one starts.Readers starts.Memory readers due p q is other one two = absurd (cc (two))
-errors-one starts.Readers starts.Place readers due p q is other one two = absurd other
-errors-one (starts.Root r) starts.Readers readers due p q is (inl other) one two = absurd (omega (arith, other, is.0.0))
-errors-one (starts.Root r) starts.Readers readers due p q is (inr other) one two = absurd (omega (arith, other, is.0.1))
-errors-one (starts.Root r) (starts.Root s) readers due p q is other one two =
-    let same = sym is.1 ∙ other.1 in let refusal : r ≡ s = cc (same) in let texts = sym one ∙ ap (λ x. Some (refused_line x)) refusal ∙ two in cc (texts)
-errors-one (starts.Root r) starts.Memory readers due p q is other one two = absurd (cc (two))
-errors-one (starts.Root r) starts.Place readers due p q is other one two = absurd other
+-- the line of the error that is due, if one is
+abbrev error_line : ℕ → Option EditRefusal → Option (List ℕ)
+error_line readers refusal =
+    let wrong = Some (line (codes "refused readers")) in
+    if nat_le readers 64 then (if nat_lt 0 readers then option_map refused_line refusal else wrong) else wrong
+
+one_error : (e : StartError) (readers : ℕ) (refusal : Option EditRefusal) (p : List ℕ) → IsStartError e readers refusal
+    → start_error_line e ≡ Some p → error_line readers refusal ≡ Some p
+one_error starts.Readers readers refusal p (inl is) text = rw is text
+one_error starts.Readers readers refusal p (inr is) text = rw (lt-leb readers 64 is) text
+one_error (starts.Root r) readers refusal p (count, is) text =
+    rw (le-leb readers 64 count.1, lt-ltb 0 readers count.0, is) text
+one_error starts.Memory readers refusal p is text = absurd (cc (text))
+one_error starts.Place readers refusal p is text = absurd is
 
 -- where a store is opened there is no error with a line
-pub no_error : (e : StartError) (readers : ℕ) (due : Option EditRefusal) (p : List ℕ) → IsReaderCount readers → due ≡ None
-    → IsStartError e readers due → start_error_line e ≡ Some p → ⊥
-no_error starts.Readers readers due p count none (inl is) text = omega (arith, is, count.0)
-no_error starts.Readers readers due p count none (inr is) text = omega (arith, is, count.1)
-no_error (starts.Root r) readers due p count none is text = let no = sym none ∙ is.1 in cc (no)
-no_error starts.Memory readers due p count none is text = cc (text)
-no_error starts.Place readers due p count none is text = is
+pub no_error : (e : StartError) (readers : ℕ) (refusal : Option EditRefusal) (p : List ℕ) → IsReaderCount readers → refusal ≡ None
+    → IsStartError e readers refusal → start_error_line e ≡ Some p → ⊥
+no_error e readers refusal p count none is text =
+    let due_line = one_error e readers refusal p is text in
+    cc (rw (le-leb readers 64 count.1, lt-ltb 0 readers count.0, none) at due_line)
 
 opened-one : (manner : Manner) (readers : ℕ) (root : RootSpec) (p q : List ℕ) (x y : Session) → IsOpened manner readers root p x → IsOpened manner readers root q y → (p ≡ q) × (x ≡ y)
 opened-one manner readers root p q x y (inl one) (inl other) = (one.2 ∙ sym other.2, one.3 ∙ sym other.3)
 opened-one manner readers root p q x y (inl one) (inr other) = absurd (no_error other.0 readers _ q one.0 one.1 other.1 other.2)
 opened-one manner readers root p q x y (inr one) (inl other) = absurd (no_error one.0 readers _ p other.0 other.1 one.1 one.2)
-opened-one manner readers root p q x y (inr one) (inr other) = (errors-one one.0 other.0 readers _ p q one.1 other.1 one.2 other.2, one.3 ∙ sym other.3)
+opened-one manner readers root p q x y (inr one) (inr other) =
+    (cc (one_error one.0 readers _ p one.1 one.2, one_error other.0 readers _ q other.1 other.2), one.3 ∙ sym other.3)
 
 -- ---- a tree as a script
 
@@ -167,19 +155,15 @@ imported-one spelling m path given p q one other =
 
 step-one : (spelling : Spelling) (m : Machine) (e : Edit) (r s : Reply) (x y : Machine) (p q : List ℕ) (path : Names) (given : List Ace)
     → Steps m (requests.Edit e) r x → Steps m (requests.Edit e) s y → IsImported spelling x path given r p → IsImported spelling y path given s q → (p ≡ q) × (x ≡ y)
+step-one spelling m e replies.Memory s x y p q path given one other first second = absurd (cc (first))
+step-one spelling m e r replies.Memory x y p q path given one other first second = absurd (cc (second))
 step-one spelling m e replies.Edited replies.Edited x y p q path given one other first second =
     let same = one.1 ∙ sym other.1 in
     (imported-one spelling y path given p q (subst (λ n. IsImported spelling n path given replies.Edited p) same first) second, same)
-step-one spelling m e replies.Edited (replies.Refused refusal) x y p q path given one other first second = absurd (let no = sym one.0 ∙ other.0 in cc (no))
-step-one spelling m e (replies.Refused refusal) replies.Edited x y p q path given one other first second = absurd (let no = sym one.0 ∙ other.0 in cc (no))
+step-one spelling m e replies.Edited (replies.Refused refusal) x y p q path given one other first second = absurd (cc (one.0, other.0))
+step-one spelling m e (replies.Refused refusal) replies.Edited x y p q path given one other first second = absurd (cc (one.0, other.0))
 step-one spelling m e (replies.Refused refusal) (replies.Refused later) x y p q path given one other first second =
-    let same = sym one.0 ∙ other.0 in
-    let told : refusal ≡ later = cc (same) in
-    let texts = sym first ∙ ap (λ r. Some (refused_line r)) told ∙ second in
-    (cc (texts), one.1 ∙ sym other.1)
-step-one spelling m e replies.Edited replies.Memory x y p q path given one other first second = absurd (cc (second))
-step-one spelling m e (replies.Refused refusal) replies.Memory x y p q path given one other first second = absurd (cc (second))
-step-one spelling m e replies.Memory s x y p q path given one other first second = absurd (cc (first))
+    (cc (one.0, other.0, first, second), one.1 ∙ sym other.1)
 step-one spelling m e replies.Edited s x y p q path given one other first second = absurd other
 step-one spelling m e (replies.Refused refusal) s x y p q path given one other first second = absurd other
 step-one spelling m e r s x y p q path given one other first second = absurd one
@@ -215,28 +199,28 @@ done-one old asked p q x y one other = absurd one
 told-one : (old : Session) (text p q : List ℕ) (x y : Session) → IsTold old text p x → IsTold old text q y
     → (AsksNoAnalysis text → p ≡ q) × (x ≡ y)
 told-one old text p q x y (inl one) (inl other) =
-    let same = line-one (manner_of old).notation (is_open old) text (Ok one.0) (Ok other.0) one.1 other.1 in
-    let asked : one.0 ≡ other.0 = cc (same) in
-    let done = done-one old other.0 p q x y (subst (λ a. IsDone old a p x) asked one.2) other.2 in
+    let asked : one.0 ≡ other.0 = cc (line-one (manner_of old).notation (is_open old) text (Ok one.0) (Ok other.0) one.1 other.1) in
+    let done = done-one old other.0 p q x y (rw asked at one.2) other.2 in
     (λ plain. done.0 (plain (manner_of old).notation (is_open old) other.0 other.1), done.1)
-told-one old text p q x y (inl one) (inr other) = absurd (let no = line-one (manner_of old).notation (is_open old) text (Ok one.0) (Err other.0) one.1 other.1 in cc (no))
-told-one old text p q x y (inr one) (inl other) = absurd (let no = line-one (manner_of old).notation (is_open old) text (Err one.0) (Ok other.0) one.1 other.1 in cc (no))
+told-one old text p q x y (inl one) (inr other) =
+    absurd (cc (line-one (manner_of old).notation (is_open old) text (Ok one.0) (Err other.0) one.1 other.1))
+told-one old text p q x y (inr one) (inl other) =
+    absurd (cc (line-one (manner_of old).notation (is_open old) text (Err one.0) (Ok other.0) one.1 other.1))
 told-one old text p q x y (inr one) (inr other) =
-    let same = line-one (manner_of old).notation (is_open old) text (Err one.0) (Err other.0) one.1 other.1 in
-    let fault : one.0 ≡ other.0 = cc (same) in
+    let fault : one.0 ≡ other.0 = cc (line-one (manner_of old).notation (is_open old) text (Err one.0) (Err other.0) one.1 other.1) in
     (λ plain. one.2 ∙ ap line_of_fault fault ∙ sym other.2, one.3 ∙ sym other.3)
 
-by_silence : (silent : Bool) (old : Session) (text p q : List ℕ) (x y : Session)
-    → MatchBool silent ((p ≡ []) × (x ≡ old)) ((told : List ℕ) × IsTold old text told x × (p ≡ told ++ closing_of text))
-    → MatchBool silent ((q ≡ []) × (y ≡ old)) ((told : List ℕ) × IsTold old text told y × (q ≡ told ++ closing_of text))
-    → (AsksNoAnalysis text → p ≡ q) × (x ≡ y)
-by_silence true old text p q x y one other = (λ plain. one.0 ∙ sym other.0, one.1 ∙ sym other.1)
-by_silence false old text p q x y one other =
-    let same = told-one old text one.0 other.0 x y one.1 other.1 in
-    (λ plain. one.2 ∙ ap (λ told. told ++ closing_of text) (same.0 plain) ∙ sym other.2, same.1)
-
 pub has_one_answer : HasOneAnswer
-has_one_answer old line one other new next x y = by_silence (is_silent line) old line one other new next x y
+has_one_answer old line one other new next x y = elim (cases_Bool (is_silent line)) [
+  | inl silent ↦
+      let first = rw silent at x in
+      let second = rw silent at y in (λ plain. first.0 ∙ sym second.0, first.1 ∙ sym second.1)
+  | inr loud ↦
+      let first = rw loud at x in
+      let second = rw loud at y in
+      let same = told-one old line first.0 second.0 new next first.1 second.1 in
+      (λ plain. first.2 ∙ ap (λ told. told ++ closing_of line) (same.0 plain) ∙ sym second.2, same.1)
+]
 
 -- a line that may expect an answer
 after-one : (test : Bool) (old : Carried) (text p q : List ℕ) (x y : Carried) → AsksNoAnalysis text
@@ -251,22 +235,17 @@ after-one false old text p q x y plain one other =
     (same.0 plain, same.1, one.1 ∙ ap (λ answer. last_after text answer old.last) (same.0 plain) ∙ sym other.1)
 
 -- and counted
-all_same : (x y : Carried) → x.session ≡ y.session → x.last ≡ y.last → x.tally ≡ y.tally → x ≡ y
-all_same x y session last tally =
-    subst (λ u. x ≡ record { session = y.session; last = y.last; tally = u }) tally
-    (subst (λ (u : Option (List ℕ)). x ≡ record { session = y.session; last = u; tally = x.tally }) last
-    (subst (λ u. x ≡ record { session = u; last = x.last; tally = x.tally }) session refl))
-
 next-one : (old : Carried) (text p q : List ℕ) (x y : Carried) → AsksNoAnalysis text → IsNext old text p x → IsNext old text q y → (p ≡ q) × (x ≡ y)
 next-one old text p q x y plain one other =
     let same = after-one (expects text) old text p q x y plain one.answered other.answered in
-    (same.0, all_same x y same.1 same.2 (one.counted ∙ ap (λ answer. tallied text answer old.tally) same.0 ∙ sym other.counted))
+    let tally = one.counted ∙ ap (λ answer. tallied text answer old.tally) same.0 ∙ sym other.counted in
+    (same.0, λ i. record { session = same.1 i; last = same.2 i; tally = tally i })
 
 all-one : (old : Carried) (texts : List (List ℕ)) (p q : List ℕ) (x y : Carried) → All AsksNoAnalysis texts → AreAnswered IsNext old texts p x → AreAnswered IsNext old texts q y → p ≡ q
 all-one old [] p q x y plain one other = one.0 ∙ sym other.0
 all-one old (text ∷ texts) p q x y plain one other =
     let first = next-one old text one.0 other.0 one.1 other.1 (All-head AsksNoAnalysis text texts plain) one.3 other.3 in
-    let rest = all-one other.1 texts one.2 other.2 x y (All-tail AsksNoAnalysis text texts plain) (subst (λ between. AreAnswered IsNext between texts one.2 x) first.1 one.4) other.4 in
+    let rest = all-one other.1 texts one.2 other.2 x y (All-tail AsksNoAnalysis text texts plain) (rw first.1 at one.4) other.4 in
     one.5 ∙ ap (λ xs. xs ++ one.2) first.0 ∙ ap (λ xs. other.0 ++ xs) rest ∙ sym other.5
 
 pub has_one_output : HasOneOutput

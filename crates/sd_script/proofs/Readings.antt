@@ -12,12 +12,7 @@ Then-value first next a (Ok b) read more = inl (a, read, more)
 Then-value first next a (Err (Fault fault)) read more = inl (a, read, more)
 Then-value first next a (Err Memory) read more = tt
 
--- a fault comes first
-pub Then-fault : {A B : Type 0} (first : Reading A) (next : A → Reading B) (fault : LineFault)
-    → first (Err fault) → UnlessMemory (Then first next) (Err (Fault fault))
-Then-fault first next fault read = inr (fault, read, refl)
-
--- and so does what stopped the first
+-- what stopped the first comes first
 pub Then-stop : {A B : Type 0} (first : Reading A) (next : A → Reading B) (stop : LineStop)
     → UnlessMemory first (Err stop) → UnlessMemory (Then first next) (Err stop)
 Then-stop first next (Fault fault) read = inr (fault, read, refl)

@@ -60,7 +60,4 @@ pub review_of : (notation : Notation) (m : Machine) (ts : Trees) (xs ys : List E
     → xs ≡ m.published → ys ≡ accepted m
     → IsReviewOf notation ts top (reviewed_line (length xs) (length ys)) (stands_in ts top) (has_no_words notation.paths ts) text
     → IsReview notation m top text
-review_of notation m ts xs ys top text same is_xs is_ys is =
-    subst (λ zs. IsReviewOf notation (trees_in m) top (reviewed_line (length m.published) (length zs)) (stands_in (trees_in m) top) (has_no_words notation.paths (trees_in m)) text) is_ys
-    (subst (λ zs. IsReviewOf notation (trees_in m) top (reviewed_line (length zs) (length ys)) (stands_in (trees_in m) top) (has_no_words notation.paths (trees_in m)) text) is_xs
-    (subst (λ us. IsReviewOf notation us top (reviewed_line (length xs) (length ys)) (stands_in us top) (has_no_words notation.paths us) text) same is))
+review_of notation m ts xs ys top text same is_xs is_ys is = rw (same, is_xs, is_ys) at is

@@ -1,24 +1,14 @@
 -- What a line can ask for: an opening where no store is open, and something of a store where one is.
-use Rattle.std.proofs.Common.{◌≡◌, ⊎_elim, ℕ, List, [], ◌∷◌, Bool, true, false, not, Option, Some, None, Ok, Err, inl, inr, refl, sym, subst}
-use Rattle.std.specs.Prelude.{⊤, MatchBool, if◌then◌else◌, option_map}
-use Rattle.sd_sid.specs.Sid.{SidValue}
-use Rattle.sd_check.specs.Token.{TokenValue}
-use Rattle.sd_check.specs.declared.token.GroupState.{GroupState}
-use Rattle.sd_tree.specs.Names.{Names}
-use Rattle.sd_tree.specs.declared.node.NodeDacl.{NodeDacl}
+use Rattle.std.proofs.Common.{◌≡◌, ℕ, List, [], ◌∷◌, Bool, true, false, not, Option, Some, None, Ok, inl, inr, refl}
+use Rattle.std.specs.Prelude.{⊤, option_map}
 use Rattle.sd_tree.specs.declared.node.NodeKind.{NodeKind}
-use Rattle.sd_tree.specs.declared.opening.RootSpec.{RootSpec}
-use Rattle.sd_script.specs.Argument.{number, path, sid, mask, token, base, node, dacl, imported}
-use Rattle.sd_script.specs.Command.{Arguments, Asks, Number, Path, Sid, Mask, Token, Groups, Node, Dacl, Imported}
-use Rattle.sd_script.specs.Command.{asks, asks_where, command_of, imports, is_untimely, kind_named, line_asks, reads, reads_where}
-use Rattle.sd_script.specs.Fault.{Reading, Then}
+use Rattle.sd_script.specs.Command.{Arguments, Asks, Value, ◌▸◌, asks, asks_groups, asks_where, command_of, deletes, imports, kind_named, line_asks, posed, reads, reads_where}
+use Rattle.sd_script.specs.Fault.{Reading}
 use Rattle.sd_script.specs.Lines.{words_of}
 use Rattle.sd_script.specs.Output.{opens}
 use Rattle.sd_script.specs.declared.asked.Asked.{Asked}
 use Rattle.sd_script.specs.declared.command.ScriptCommand.{ScriptCommand}
 use Rattle.sd_script.specs.declared.command.ScriptCommand.TheVariants.{Open, AddContainer, AddObject, SetOwner, SetGroup, SetDacl, Remove, Protect, Move, Publish, Tell, Learn, Check, Why, Find, Show, ListNodes, Dump, Who, Review, ImportNode, Delete}
-use Rattle.sd_script.specs.declared.fault.LineFault.TheVariants as faults
-use Rattle.sd_script.specs.declared.importing.Import.{Import}
 use Rattle.sd_script.specs.declared.manner.Notation.{Notation}
 
 -- ---- what holds of all that a reading gives
@@ -38,32 +28,12 @@ Opens b a = opens a ≡ b
 -- all that the arguments can come to
 abbrev All : (Asked → Type 0) → Arguments → Type 0
 All P (Asks asked) = P asked
-All P (Number word next) = (n : ℕ) → All P (next n)
-All P (Path word next) = (p : Names) → All P (next p)
-All P (Sid word next) = (s : SidValue) → All P (next s)
-All P (Mask word next) = (m : ℕ) → All P (next m)
-All P (Token user words next) = (t : TokenValue) → All P (next t)
-All P (Groups words next) = (groups : List (SidValue × GroupState)) → All P (next groups)
-All P (Node word next) = (n : RootSpec) → All P (next n)
-All P (Dacl word next) = (d : NodeDacl) → All P (next d)
-All P (Imported word next) = (i : Import) → All P (next i)
-
-then_gives : {A : Type 0} (P : Asked → Type 0) (first : Reading A) (next : A → Reading Asked)
-    → ((v : A) → Gives P (next v)) → Gives P (Then first next)
-then_gives P first next all a (inl (v, read, more)) = all v a more
-then_gives P first next all a (inr (fault, read, is)) = absurd (cc is)
+All P (argument ▸ next) = (value : Value argument) → All P (next value)
 
 all_given : (P : Asked → Type 0) (notation : Notation) (arguments : Arguments) → All P arguments → Gives P (reads notation arguments)
-all_given P notation (Asks asked) holds a is = let same : a ≡ asked = cc is in subst P (sym same) holds
-all_given P notation (Number word next) all a is = then_gives P (number word) (λ n. reads notation (next n)) (λ n. all_given P notation (next n) (all n)) a is
-all_given P notation (Path word next) all a is = then_gives P (path notation.paths word) (λ p. reads notation (next p)) (λ p. all_given P notation (next p) (all p)) a is
-all_given P notation (Sid word next) all a is = then_gives P (sid notation word) (λ s. reads notation (next s)) (λ s. all_given P notation (next s) (all s)) a is
-all_given P notation (Mask word next) all a is = then_gives P (mask notation word) (λ m. reads notation (next m)) (λ m. all_given P notation (next m) (all m)) a is
-all_given P notation (Token user words next) all a is = then_gives P (token notation user words) (λ t. reads notation (next t)) (λ t. all_given P notation (next t) (all t)) a is
-all_given P notation (Groups words next) all a is = then_gives P (base notation words) (λ g. reads notation (next g)) (λ g. all_given P notation (next g) (all g)) a is
-all_given P notation (Node word next) all a is = then_gives P (node notation word) (λ n. reads notation (next n)) (λ n. all_given P notation (next n) (all n)) a is
-all_given P notation (Dacl word next) all a is = then_gives P (dacl notation word) (λ d. reads notation (next d)) (λ d. all_given P notation (next d) (all d)) a is
-all_given P notation (Imported word next) all a is = then_gives P (imported notation word) (λ i. reads notation (next i)) (λ i. all_given P notation (next i) (all i)) a is
+all_given P notation (Asks asked) holds a is = let same : a ≡ asked = cc (is) in rw same holds
+all_given P notation (argument ▸ next) all a (inl (value, read, more)) = all_given P notation (next value) (all value) a more
+all_given P notation (argument ▸ next) all a (inr (fault, read, is)) = absurd (cc (is))
 
 abbrev AllOf : (Asked → Type 0) → Option Arguments → Type 0
 AllOf P None = ⊤
@@ -75,6 +45,7 @@ imports_open at sddl (Some kind) = λ p i. refl
 
 -- only an opening opens
 words_open : (name : ScriptCommand) (arguments : List (List ℕ)) → AllOf (Opens (is_opening name)) (asks name arguments)
+unfolding posed asks_groups deletes
 words_open Open (readers ∷ sddl ∷ []) = λ n root. refl
 words_open AddContainer (at ∷ sddl ∷ []) = λ p n. refl
 words_open AddObject (at ∷ sddl ∷ []) = λ p n. refl
@@ -101,28 +72,19 @@ words_open ImportNode (kind ∷ at ∷ sddl ∷ []) = imports_open at sddl (kind
 words_open Delete (reader ∷ at ∷ user ∷ words) = λ i p s t. refl
 words_open name arguments = tt
 
-untimely_is : (is_open : Bool) (name : ScriptCommand) → is_untimely is_open name ≡ (if is_opening name then is_open else not is_open)
-untimely_is is_open Open = refl
-untimely_is is_open name = refl
-
-by_test : (notation : Notation) (is_open is : Bool) (arguments : Arguments) (b : Asked) → All (Opens is) arguments
-    → MatchBool (if is then is_open else not is_open) (Ok b ≡ Err faults.Open) (reads notation arguments (Ok b)) → Opens (not is_open) b
-by_test notation true true arguments b all h = absurd (cc (h))
-by_test notation true false arguments b all h = all_given (Opens false) notation arguments all b h
-by_test notation false true arguments b all h = all_given (Opens true) notation arguments all b h
-by_test notation false false arguments b all h = absurd (cc (h))
-
 reads_open : (notation : Notation) (is_open : Bool) (name : ScriptCommand) (arguments : Option Arguments) → AllOf (Opens (is_opening name)) arguments
     → Gives (Opens (not is_open)) (reads_where notation is_open name arguments)
 reads_open notation is_open name None all b h = absurd (cc (h))
-reads_open notation is_open name (Some arguments) all b h =
-    by_test notation is_open (is_opening name) arguments b all (subst (λ t. MatchBool t (Ok b ≡ Err faults.Open) (reads notation arguments (Ok b))) (untimely_is is_open name) h)
+reads_open notation true Open (Some arguments) all b h = absurd (cc (h))
+reads_open notation false Open (Some arguments) all b h = all_given (Opens true) notation arguments all b h
+reads_open notation true name (Some arguments) all b h = all_given (Opens false) notation arguments all b h
+reads_open notation false name (Some arguments) all b h = absurd (cc (h))
 
 where_open : (notation : Notation) (is_open : Bool) (command : Option (ScriptCommand × List (List ℕ))) → Gives (Opens (not is_open)) (asks_where notation is_open command)
 where_open notation is_open None b h = absurd (cc (h))
-where_open notation is_open (Some command) b h =
-    reads_open notation is_open command.0 (asks command.0 command.1) (words_open command.0 command.1) b h
+where_open notation is_open (Some (name, arguments)) b h = reads_open notation is_open name (asks name arguments) (words_open name arguments) b h
 
 -- a line opens a store just where none is open
 pub line_opens : (notation : Notation) (is_open : Bool) (line : List ℕ) → Gives (Opens (not is_open)) (line_asks notation is_open line)
-line_opens notation is_open line b h = ⊎_elim (λ x. where_open notation is_open (command_of (words_of line)) b x.1) (λ x. absurd (cc (x.1))) h
+line_opens notation is_open line b (inl (utf8, h)) = where_open notation is_open (command_of (words_of line)) b h
+line_opens notation is_open line b (inr (other, is)) = absurd (cc (is))

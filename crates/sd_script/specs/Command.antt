@@ -23,8 +23,6 @@ use Rattle.sd_answer.specs.Word.{texts}
 use Rattle.sd_script.specs.declared.asked.Asked.{Asked}
 use Rattle.sd_script.specs.declared.asked.Asked.TheVariants.{Opening, Asking, Explaining, Finding, Deleting, Viewing}
 use Rattle.sd_script.specs.declared.asked.Asked.TheVariants.{Importing}
-use Rattle.sd_script.specs.declared.asked.OnGroups.{OnGroups}
-use Rattle.sd_script.specs.declared.asked.OnUser.{OnUser}
 use Rattle.sd_script.specs.declared.asked.TokenQuestion.{TokenQuestion}
 use Rattle.sd_script.specs.declared.asked.TokenQuestion.TheVariants as questions
 use Rattle.sd_script.specs.declared.command.Command.{Command}
@@ -42,31 +40,45 @@ use Rattle.sd_script.specs.declared.view.View.TheVariants as views
 
 -- ---- arguments by kind
 
--- what is left to be parsed of a command's arguments, each by its kind, and what they ask for
+-- an argument, by its kind
+pub data Argument : Type 0 where
+  Number Path Sid Mask Node Dacl Imported : List ℕ → Argument
+  Token : SidValue → List (List ℕ) → Argument
+  Groups : List (List ℕ) → Argument
+
+-- what it is parsed to
+abbrev pub Value : Argument → Type 0
+Value (Number word) = ℕ
+Value (Path word) = Names
+Value (Sid word) = SidValue
+Value (Mask word) = ℕ
+Value (Node word) = RootSpec
+Value (Dacl word) = NodeDacl
+Value (Imported word) = Import
+Value (Token user words) = TokenValue
+Value (Groups words) = List (SidValue × GroupState)
+
+abbrev pub reading : Notation → (argument : Argument) → Reading (Value argument)
+reading notation (Number word) = number word
+reading notation (Path word) = path notation.paths word
+reading notation (Sid word) = sid notation word
+reading notation (Mask word) = mask notation word
+reading notation (Node word) = node notation word
+reading notation (Dacl word) = dacl notation word
+reading notation (Imported word) = imported notation word
+reading notation (Token user words) = token notation user words
+reading notation (Groups words) = base notation words
+
+infixr 20 ◌▸◌
+-- what is left to be parsed of a command's arguments, and what they ask for
 pub data Arguments : Type 0 where
   Asks : Asked → Arguments
-  Number : List ℕ → (ℕ → Arguments) → Arguments
-  Path : List ℕ → (Names → Arguments) → Arguments
-  Sid : List ℕ → (SidValue → Arguments) → Arguments
-  Mask : List ℕ → (ℕ → Arguments) → Arguments
-  Token : SidValue → List (List ℕ) → (TokenValue → Arguments) → Arguments
-  Groups : List (List ℕ) → (List (SidValue × GroupState) → Arguments) → Arguments
-  Node : List ℕ → (RootSpec → Arguments) → Arguments
-  Dacl : List ℕ → (NodeDacl → Arguments) → Arguments
-  Imported : List ℕ → (Import → Arguments) → Arguments
+  ◌▸◌ : (argument : Argument) → (Value argument → Arguments) → Arguments
 
 -- they are parsed from the left, and the first fault is the answer
 abbrev pub reads : Notation → Arguments → Reading Asked
 reads notation (Asks asked) = Just asked
-reads notation (Number word next) = Then (number word) (λ n. reads notation (next n))
-reads notation (Path word next) = Then (path notation.paths word) (λ p. reads notation (next p))
-reads notation (Sid word next) = Then (sid notation word) (λ s. reads notation (next s))
-reads notation (Mask word next) = Then (mask notation word) (λ m. reads notation (next m))
-reads notation (Token user words next) = Then (token notation user words) (λ t. reads notation (next t))
-reads notation (Groups words next) = Then (base notation words) (λ groups. reads notation (next groups))
-reads notation (Node word next) = Then (node notation word) (λ n. reads notation (next n))
-reads notation (Dacl word next) = Then (dacl notation word) (λ d. reads notation (next d))
-reads notation (Imported word next) = Then (imported notation word) (λ i. reads notation (next i))
+reads notation (argument ▸ next) = Then (reading notation argument) (λ value. reads notation (next value))
 
 -- ---- the table: each command's name, its arguments by kind, and what it asks for
 
@@ -101,67 +113,60 @@ poses questions.Check reader p t asked = Asking (requests.Check reader p t asked
 poses questions.Why reader p t asked = Explaining reader p t asked
 poses questions.Find reader p t asked = Finding reader p t asked
 
-abbrev pub posed : TokenQuestion → List ℕ → List ℕ → List ℕ → List ℕ → List (List ℕ) → Arguments
+unfoldable pub posed : TokenQuestion → List ℕ → List ℕ → List ℕ → List ℕ → List (List ℕ) → Arguments
 posed question reader at user asked words =
-    Number reader (λ i. Path at (λ p. Sid user (λ s. Mask asked (λ m. Token s words
-    (λ t. Asks (poses question i p t m))))))
-
--- a reader, a path, a user and words: whether the user may delete the node
-abbrev pub user_given : List (List ℕ) → Option (List ℕ × List ℕ × List ℕ × List (List ℕ))
-user_given (reader ∷ at ∷ user ∷ words) = Some (reader, at, user, words)
-user_given arguments = None
-
-abbrev pub deletes : List ℕ × List ℕ × List ℕ × List (List ℕ) → Arguments
-deletes given =
-    Number given.0 (λ i. Path given.1 (λ p. Sid given.2 (λ s. Token s given.3 (λ t. Asks (Deleting i p t)))))
-
-abbrev pub asks_delete : List (List ℕ) → Option Arguments
-asks_delete arguments = option_map deletes (user_given arguments)
+    Number reader ▸ λ i. Path at ▸ λ p. Sid user ▸ λ s. Mask asked ▸ λ m. Token s words ▸ λ t.
+    Asks (poses question i p t m)
 
 -- a node of this kind, with the descriptor of a text
 abbrev pub adds : NodeKind → List ℕ → List ℕ → Arguments
-adds kind at sddl = Path at (λ p. Node sddl (λ n. edit (addition kind p (row_of kind n))))
+adds kind at sddl = Path at ▸ λ p. Node sddl ▸ λ n. edit (addition kind p (row_of kind n))
 
 -- what a node that comes from elsewhere asks for
 abbrev pub imports : List ℕ → List ℕ → NodeKind → Arguments
 imports at sddl kind =
-    Path at (λ p. Imported sddl (λ i. Asks (Importing (addition kind p (row_of kind i.node)) p i.given)))
+    Path at ▸ λ p. Imported sddl ▸ λ i. Asks (Importing (addition kind p (row_of kind i.node)) p i.given)
 
 -- a path, a mask and groups
-abbrev pub groups_given : List (List ℕ) → Option (List ℕ × List ℕ × List (List ℕ))
-groups_given (at ∷ asked ∷ words) = Some (at, asked, words)
-groups_given arguments = None
-
-abbrev pub asks_groups : List ℕ × List ℕ × List (List ℕ) → Arguments
-asks_groups given =
-    Path given.0 (λ p. Mask given.1 (λ m. Groups given.2 (λ groups. view (views.Who p groups m))))
+unfoldable pub asks_groups : List ℕ → List ℕ → List (List ℕ) → Arguments
+asks_groups at asked words = Path at ▸ λ p. Mask asked ▸ λ m. Groups words ▸ λ groups. view (views.Who p groups m)
 
 abbrev pub asks_who : List (List ℕ) → Option Arguments
-asks_who arguments = option_map asks_groups (groups_given arguments)
+asks_who (at ∷ asked ∷ words) = Some (asks_groups at asked words)
+asks_who arguments = None
+
+-- a reader, a path, a user and words: whether the user may delete the node
+unfoldable pub deletes : List ℕ → List ℕ → List ℕ → List (List ℕ) → Arguments
+deletes reader at user words =
+    Number reader ▸ λ i. Path at ▸ λ p. Sid user ▸ λ s. Token s words ▸ λ t. Asks (Deleting i p t)
+
+abbrev pub asks_delete : List (List ℕ) → Option Arguments
+asks_delete (reader ∷ at ∷ user ∷ words) = Some (deletes reader at user words)
+asks_delete arguments = None
 
 -- each other command on these arguments, where they are as many as it takes
 abbrev pub asks_taking : ScriptCommand → List (List ℕ) → Option Arguments
-asks_taking Open (readers ∷ sddl ∷ []) = Some (Number readers (λ n. Node sddl (λ root. Asks (Opening n root))))
+asks_taking Open (readers ∷ sddl ∷ []) = Some (Number readers ▸ λ n. Node sddl ▸ λ root. Asks (Opening n root))
 asks_taking AddContainer (at ∷ sddl ∷ []) = Some (adds Container at sddl)
 asks_taking AddObject (at ∷ sddl ∷ []) = Some (adds Object at sddl)
-asks_taking SetOwner (at ∷ owner ∷ []) = Some (Path at (λ p. Sid owner (λ s. edit (edits.SetOwner p s))))
-asks_taking SetGroup (at ∷ group ∷ []) = Some (Path at (λ p. Sid group (λ s. edit (edits.SetGroup p s))))
-asks_taking SetDacl (at ∷ sddl ∷ []) = Some (Path at (λ p. Dacl sddl (λ d. edit (edits.SetDacl p d))))
-asks_taking Remove (at ∷ []) = Some (Path at (λ p. edit (edits.Remove p)))
-asks_taking Protect (at ∷ []) = Some (Path at (λ p. edit (edits.ProtectKeeping p)))
-asks_taking Move (source ∷ target ∷ []) = Some (Path source (λ from. Path target (λ to. edit (edits.Move from to))))
+asks_taking SetOwner (at ∷ owner ∷ []) = Some (Path at ▸ λ p. Sid owner ▸ λ s. edit (edits.SetOwner p s))
+asks_taking SetGroup (at ∷ group ∷ []) = Some (Path at ▸ λ p. Sid group ▸ λ s. edit (edits.SetGroup p s))
+asks_taking SetDacl (at ∷ sddl ∷ []) = Some (Path at ▸ λ p. Dacl sddl ▸ λ d. edit (edits.SetDacl p d))
+asks_taking Remove (at ∷ []) = Some (Path at ▸ λ p. edit (edits.Remove p))
+asks_taking Protect (at ∷ []) = Some (Path at ▸ λ p. edit (edits.ProtectKeeping p))
+asks_taking Move (source ∷ target ∷ []) = Some (Path source ▸ λ from. Path target ▸ λ to. edit (edits.Move from to))
 asks_taking Publish [] = Some (request requests.Publish)
 asks_taking Tell [] = Some (request requests.Tell)
-asks_taking Learn (reader ∷ len ∷ []) = Some (Number reader (λ i. Number len (λ n. request (requests.Learn i n))))
+asks_taking Learn (reader ∷ len ∷ []) = Some (Number reader ▸ λ i. Number len ▸ λ n. request (requests.Learn i n))
 asks_taking Check (reader ∷ at ∷ user ∷ asked ∷ words) = Some (posed questions.Check reader at user asked words)
 asks_taking Why (reader ∷ at ∷ user ∷ asked ∷ words) = Some (posed questions.Why reader at user asked words)
 asks_taking Find (reader ∷ at ∷ user ∷ asked ∷ words) = Some (posed questions.Find reader at user asked words)
-asks_taking Show (reader ∷ at ∷ []) = Some (Number reader (λ i. Path at (λ p. request (requests.Show i p))))
-asks_taking ListNodes [] = Some (Path (codes "/") (λ p. view (views.List p)))
-asks_taking ListNodes (at ∷ []) = Some (Path at (λ p. view (views.List p)))
+asks_taking Show (reader ∷ at ∷ []) = Some (Number reader ▸ λ i. Path at ▸ λ p. request (requests.Show i p))
+asks_taking ListNodes [] = Some (Path (codes "/") ▸ λ p. view (views.List p))
+asks_taking ListNodes (at ∷ []) = Some (Path at ▸ λ p. view (views.List p))
 asks_taking Dump [] = Some (view views.Dump)
-asks_taking Review [] = Some (Path (codes "/") (λ p. view (views.Review p)))
-asks_taking Review (at ∷ []) = Some (Path at (λ p. view (views.Review p)))
+asks_taking Review [] = Some (Path (codes "/") ▸ λ p. view (views.Review p))
+asks_taking Review (at ∷ []) = Some (Path at ▸ λ p. view (views.Review p))
 asks_taking ImportNode (kind ∷ at ∷ sddl ∷ []) = option_map (imports at sddl) (kind_named kind)
 asks_taking name arguments = None
 
@@ -187,12 +192,6 @@ is_empty word = length word == 0
 
 abbrev pub command_named : List ℕ → Option ScriptCommand
 command_named word = beside word names
-
-abbrev pub on_user_value : OnUser → List ℕ × List ℕ × List ℕ × List (List ℕ)
-on_user_value given = (given.reader.now, given.path.now, given.user.now, texts given.words.now)
-
-abbrev pub on_groups_value : OnGroups → List ℕ × List ℕ × List (List ℕ)
-on_groups_value given = (given.path.now, given.mask.now, texts given.words.now)
 
 abbrev pub command_value : Command → ScriptCommand × List (List ℕ)
 command_value command = (command.name, texts command.arguments.now)

@@ -1,7 +1,7 @@
 //! The arguments of a line, each parsed.
 ghost use Rattle.std.specs.Prelude.{◌≡◌, Err, IfErr, IfOk, Ok};
 ghost use Rattle.sd_acl.specs.Descriptor.{descriptor_of};
-ghost use Rattle.sd_script.specs.Argument.{base, dacl, dacl_of, descriptor, mask, node, node_of, number, own_dacl};
+ghost use Rattle.sd_script.specs.Argument.{base, dacl, descriptor, mask, node, number, own_dacl};
 ghost use Rattle.sd_script.specs.Argument.{path, sid, token};
 ghost use Rattle.sd_script.specs.Fault.{UnlessMemory};
 ghost use Rattle.sd_answer.specs.Word.{texts};
@@ -112,7 +112,13 @@ impl Parser {
         ensures { UnlessMemory (node self.notation word.now) result }
     {
         let descriptor = self.descriptor(word)?;
-        node_of(self.alloc, &descriptor)
+        match (descriptor.owner, descriptor.group) {
+            (Some(owner), Some(group)) => {
+                let dacl = own_dacl(self.alloc, &descriptor)?;
+                Ok(RootSpec { owner, group, dacl })
+            }
+            _ => Err(LineStop::Fault(LineFault::Parts)),
+        }
     }
 
     /// The text of a descriptor with neither.
@@ -120,28 +126,10 @@ impl Parser {
         ensures { UnlessMemory (dacl self.notation word.now) result }
     {
         let descriptor = self.descriptor(word)?;
-        dacl_of(self.alloc, &descriptor)
-    }
-}
-
-fn node_of(alloc: Global, descriptor: &Descriptor) -> Result<RootSpec, LineStop>
-    ensures { UnlessMemory (λ read. read ≡ node_of (descriptor_of descriptor.now)) result }
-{
-    match (descriptor.owner, descriptor.group) {
-        (Some(owner), Some(group)) => {
-            let dacl = own_dacl(alloc, descriptor)?;
-            Ok(RootSpec { owner, group, dacl })
+        match (descriptor.owner, descriptor.group) {
+            (None, None) => Ok(own_dacl(self.alloc, &descriptor)?),
+            _ => Err(LineStop::Fault(LineFault::Parts)),
         }
-        _ => Err(LineStop::Fault(LineFault::Parts)),
-    }
-}
-
-fn dacl_of(alloc: Global, descriptor: &Descriptor) -> Result<NodeDacl, LineStop>
-    ensures { UnlessMemory (λ read. read ≡ dacl_of (descriptor_of descriptor.now)) result }
-{
-    match (descriptor.owner, descriptor.group) {
-        (None, None) => Ok(own_dacl(alloc, descriptor)?),
-        _ => Err(LineStop::Fault(LineFault::Parts)),
     }
 }
 

@@ -1,8 +1,7 @@
 //! What a line asks for, and how a command's arguments are parsed.
-ghost use Rattle.std.specs.Prelude.{◌≡◌, ◌∷◌, [], Some, Ok, option_map};
+ghost use Rattle.std.specs.Prelude.{◌≡◌, ◌∷◌, [], Some, Ok};
 ghost use Rattle.sd_script.specs.Command.{Parses, asks, asks_delete, asks_groups, asks_taking, asks_who, deletes};
-ghost use Rattle.sd_script.specs.Command.{groups_given, kind_named, on_groups_value, on_user_value, posed, poses};
-ghost use Rattle.sd_script.specs.Command.{user_given};
+ghost use Rattle.sd_script.specs.Command.{kind_named, posed, poses};
 ghost use Rattle.sd_script.specs.declared.asked.Asked.TheVariants.{Asking, Viewing};
 ghost use Rattle.sd_desk.specs.declared.request.Request.TheVariants as requests;
 ghost use Rattle.sd_answer.specs.Word.{texts};
@@ -57,23 +56,6 @@ pub enum Asked {
     },
 }
 
-/// A path, a mask and groups.
-#[derive(Clone, Copy)]
-struct OnGroups<'a> {
-    path: &'a str,
-    mask: &'a str,
-    words: &'a [&'a str],
-}
-
-/// A reader, a path, a user and words.
-#[derive(Clone, Copy)]
-struct OnUser<'a> {
-    reader: &'a str,
-    path: &'a str,
-    user: &'a str,
-    words: &'a [&'a str],
-}
-
 /// What is asked of a reader and a path for a token.
 #[derive(Clone, Copy)]
 enum TokenQuestion {
@@ -102,14 +84,15 @@ impl Parser {
     fn who(self, arguments: &[&str]) -> Parsed
         ensures { Parses self.notation (asks_who (texts arguments.now)) result }
     {
-        match on_groups(arguments) {
-            Some(OnGroups { path, mask, words }) => self.granted(path, mask, words),
-            None => Ok(None),
+        match arguments {
+            [path, mask, words @ ..] => self.granted(path, mask, words),
+            _ => Ok(None),
         }
     }
 
+    #[tactic(auto, unfolding(crate::specs::Command::asks_groups))]
     fn granted(self, path: &str, mask: &str, words: &[&str]) -> Parsed
-        ensures { Parses self.notation (Some (asks_groups (path.now, mask.now, texts words.now))) result }
+        ensures { Parses self.notation (Some (asks_groups path.now mask.now (texts words.now))) result }
     {
         let path = self.path(path)?;
         let asked = self.mask(mask)?;
@@ -125,21 +108,15 @@ impl Parser {
     fn deletion(self, arguments: &[&str]) -> Parsed
         ensures { Parses self.notation (asks_delete (texts arguments.now)) result }
     {
-        match on_user(arguments) {
-            Some(
-                OnUser {
-                    reader,
-                    path,
-                    user,
-                    words,
-                },
-            ) => self.deleting(reader, path, user, words),
-            None => Ok(None),
+        match arguments {
+            [reader, path, user, words @ ..] => self.deleting(reader, path, user, words),
+            _ => Ok(None),
         }
     }
 
+    #[tactic(auto, unfolding(crate::specs::Command::deletes))]
     fn deleting(self, reader: &str, path: &str, user: &str, words: &[&str]) -> Parsed
-        ensures { Parses self.notation (Some (deletes (reader.now, path.now, user.now, texts words.now))) result }
+        ensures { Parses self.notation (Some (deletes reader.now path.now user.now (texts words.now))) result }
     {
         let reader = number_in(reader)?;
         let path = self.path(path)?;
@@ -267,15 +244,22 @@ impl Parser {
         ensures { Parses self.notation
             (asks_taking name (reader.now ∷ path.now ∷ user.now ∷ mask.now ∷ texts words.now)) result }
     {
-        let question = match name {
-            ScriptCommand::Check => TokenQuestion::Check,
-            ScriptCommand::Why => TokenQuestion::Why,
-            ScriptCommand::Find => TokenQuestion::Find,
-            _ => return Ok(None),
-        };
-        self.posed(question, reader, path, user, mask, words)
+        match name {
+            ScriptCommand::Check => self.posed(
+                TokenQuestion::Check,
+                reader,
+                path,
+                user,
+                mask,
+                words,
+            ),
+            ScriptCommand::Why => self.posed(TokenQuestion::Why, reader, path, user, mask, words),
+            ScriptCommand::Find => self.posed(TokenQuestion::Find, reader, path, user, mask, words),
+            _ => Ok(None),
+        }
     }
 
+    #[tactic(auto, unfolding(crate::specs::Command::posed))]
     fn posed(
         self,
         question: TokenQuestion,
@@ -294,32 +278,6 @@ impl Parser {
         let asked = self.mask(mask)?;
         let token = self.token(user, words)?;
         Ok(Some(question.about(reader, path, token, asked)))
-    }
-}
-
-fn on_groups<'a>(arguments: &'a [&'a str]) -> Option<OnGroups<'a>>
-    ensures { option_map on_groups_value result ≡ groups_given (texts arguments.entry.now) }
-{
-    match arguments {
-        [path, mask, words @ ..] => Some(OnGroups { path, mask, words }),
-        [_] => None,
-        [] => None,
-    }
-}
-
-fn on_user<'a>(arguments: &'a [&'a str]) -> Option<OnUser<'a>>
-    ensures { option_map on_user_value result ≡ user_given (texts arguments.entry.now) }
-{
-    match arguments {
-        [reader, path, user, words @ ..] => Some(OnUser {
-            reader,
-            path,
-            user,
-            words,
-        }),
-        [_, _] => None,
-        [_] => None,
-        [] => None,
     }
 }
 

@@ -5,7 +5,7 @@ ghost use Rattle.sd_script.specs.declared.fault.LineStop.TheVariants as stops;
 
 use sd_answer::{fault_line, sddl_fault_line};
 use sd_text::TextFault;
-use std::alloc::{AllocError, AllocFailed, Global};
+use std::alloc::{AllocError, Global};
 
 /// The first thing that is wrong with a line: of the line as a whole, and then of its arguments from the left.
 #[derive(Clone, Copy, Debug, PartialEq, Eq)]
@@ -53,14 +53,6 @@ impl From<AllocError> for LineStop {
     ghost from_gives = { λ _ stop. stop ≡ stops.Memory };
 
     fn from(_error: AllocError) -> LineStop {
-        LineStop::Memory
-    }
-}
-
-impl<T: Drop> From<AllocFailed<T>> for LineStop {
-    ghost from_gives = { λ _ stop. stop ≡ stops.Memory };
-
-    fn from(_error: AllocFailed<T>) -> LineStop {
         LineStop::Memory
     }
 }

@@ -81,6 +81,7 @@ fn is_node(path: &Path, owner: &Sid, group: &Sid, dacl: &NodeDacl, node: &NodeRe
         && same_dacl(dacl, node.dacl)
 }
 
+#[tactic(auto, using(crate::proofs::Dumping::path_decides))]
 fn same_path(one: &Path, other: &Path) -> bool
     ensures { Decides result (one.now ≡ other.now) }
 {
