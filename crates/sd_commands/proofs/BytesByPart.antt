@@ -1,48 +1,45 @@
 -- Hexadecimal with signs between bytes, part by part.
-use Rattle.std.proofs.Common.{◌≡◌, ℕ, ◌+◌, ◌-◌, ◌<◌, ◌≤◌, Bool, false, All, List, [], ◌∷◌, length, take, drop, Ok, refl, ◌∙◌, ap, append-nil, arith, Some, None, cond, ltb, true}
+use Rattle.std.proofs.Common.{◌≡◌, ℕ, ◌+◌, ◌-◌, ◌<◌, ◌≤◌, List, [], ◌∷◌, length, take, drop, Ok, ◌∙◌, ap, append-nil, arith, Some, None, cond, ltb}
 use Rattle.std.specs.List.{slice_split, position_or_len, before_first, after_first}
 use Rattle.std.specs.Option.{unwrap_or}
-use Rattle.std.proofs.lemmas.Bool.{ltb-false}
-use Rattle.std.proofs.lemmas.List.{take_rest, drop_all, length-take-le, length-drop}
+use Rattle.std.proofs.lemmas.Bool.Decides.{nat_tests}
+use Rattle.std.proofs.lemmas.List.{take_rest, length-take-le, length-drop}
 use Rattle.hex.specs.Hex.{decode_pairs}
 use Rattle.std.proofs.lemmas.List.Splits.{slice_split_first, slice_split_none}
 use Rattle.std.proofs.lemmas.List.Sums.{fails_before_first}
 use Rattle.sd_commands.specs.Bytes.{BytesRead, is_between, joined, part_read, parts_read}
 
--- no element passes where the first that does is behind the last
-none_pass : (p : ℕ → Bool) (xs : List ℕ) → length xs ≤ position_or_len p xs → All (λ x. p x ≡ false) xs
-none_pass p xs far = λ k d low. fails_before_first p xs k d (omega (arith, low, far))
-
--- the place that a search tells, or the end
+-- the place that a search tells, or the end; the place that it finds, or that it finds none
 pub place_or_end : (n m : ℕ) → n ≤ m → unwrap_or (cond (ltb n m) (Some n) None) m ≡ n
-place_or_end n m within = elim (ltb n m) as (λ b. ltb n m ≡ b → unwrap_or (cond b (Some n) None) m ≡ n) [
-  | true ↦ λ is. refl
-  | false ↦ λ is. omega (arith, ltb-false n m is)
-] refl
+place_or_end n m within = grind (arith, nat_tests)
+
+pub found : (n m i : ℕ) → Some i ≡ cond (ltb n m) (Some n) None → (i ≡ n) × (n < m)
+found n m i is = grind (arith, nat_tests)
+
+pub not_found : (n m : ℕ) → None ≡ cond (ltb n m) (Some n) None → m ≤ n
+not_found n m is = grind (arith, nat_tests)
 
 -- ---- the first part
 
-pub parts_before : (xs : List ℕ) (end place : ℕ) → end ≡ position_or_len is_between xs → end < length xs
+pub parts_before : (xs : List ℕ) (end place : ℕ) → (end ≡ position_or_len is_between xs) × (position_or_len is_between xs < length xs)
     → parts_read place (slice_split is_between xs) ≡ joined (part_read place (take end xs))
     (parts_read ((place + length xs) - length (take (length xs - (end + 1)) (drop (end + 1) xs)))
     (slice_split is_between (take (length xs - (end + 1)) (drop (end + 1) xs))))
 unfolding parts_read
-parts_before xs end place at low =
+parts_before xs end place (at, low) =
     let front = before_first is_between xs in
     let behind = after_first is_between xs in
     let number : place + length front + 1 ≡ (place + length xs) - length behind =
-    omega (arith, at, low, length-take-le (position_or_len is_between xs) xs (omega (arith, at, low)), length-drop (position_or_len is_between xs + 1) xs) in
+    omega (arith, length-take-le (position_or_len is_between xs) xs (omega arith), length-drop (position_or_len is_between xs + 1) xs) in
     rw (take_rest xs (end + 1), at)
-    (ap (parts_read place) (slice_split_first is_between xs 0 (omega (arith, at, low)))
+    (ap (parts_read place) (slice_split_first is_between xs 0 low)
     ∙ ap (λ n. joined (part_read place front) (parts_read n (slice_split is_between behind))) number)
 
-pub parts_last : (xs : List ℕ) (end place : ℕ) → end ≡ position_or_len is_between xs → length xs ≤ end
-    → parts_read place (slice_split is_between xs) ≡ joined (part_read place xs)
-    (parts_read ((place + length xs) - length (take (length xs - end) (drop end xs))) (slice_split is_between (take (length xs - end) (drop end xs))))
+pub parts_last : (xs : List ℕ) (place : ℕ) → length xs ≤ position_or_len is_between xs
+    → parts_read place (slice_split is_between xs) ≡ joined (part_read place xs) (parts_read ((place + length xs) - 0) (slice_split is_between []))
 unfolding parts_read decode_pairs
-parts_last xs end place at high =
-    rw (take_rest xs end, drop_all end xs high)
-    (ap (parts_read place) (slice_split_none is_between xs (none_pass is_between xs (omega (arith, at, high)))))
+parts_last xs place far =
+    ap (parts_read place) (slice_split_none is_between xs (λ k d low. fails_before_first is_between xs k d (omega arith)))
 
 -- nothing is left
 pub all_joined : (total : BytesRead) (text rest bytes : List ℕ)

@@ -1,5 +1,6 @@
--- Where the character begins that a byte is of.
-use Rattle.std.proofs.Common.{◌≡◌, ℕ, List, arith, length, ⊎_elim}
+-- Where the character begins that a byte is of, and how many characters before it are shown.
+use Rattle.std.proofs.Common.{◌≡◌, ◌-◌, ℕ, List, arith, drop, length, take, ⊎_elim}
+use Rattle.std.proofs.lemmas.List.{length-drop, take_all}
 use Rattle.std.proofs.lemmas.Bool.{cases_lt, le-leb, lt-leb}
 use Rattle.std.proofs.lemmas.Str.{IsCharBoundary-end}
 use Rattle.core.proofs.fmt.Cut.{IsLastBoundary, floor_char_boundary_is}
@@ -14,3 +15,7 @@ start_is text place kept last = ⊎_elim
     (λ high. omega (arith, high, last.1.0))
     (cases_lt kept (length text))))
     (cases_lt place (length text))
+
+-- no more than 30 are left
+pub last_shown : (cs : List ℕ) → take 30 (drop (length cs - 30) cs) ≡ drop (length cs - 30) cs
+last_shown cs = take_all 30 _ (omega (arith, length-drop (length cs - 30) cs))

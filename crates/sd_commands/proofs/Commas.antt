@@ -1,9 +1,8 @@
 -- Texts that commas part, and four masks.
-use Rattle.std.proofs.Common.{◌≡◌, ◌<◌, ◌==◌, ◌^◌, ℕ, List, [], ◌∷◌, length, Option, Some, None, Ok, arith, refl}
-use Rattle.std.proofs.lemmas.Bool.{lt-ltb}
+use Rattle.std.proofs.Common.{◌≡◌, ◌<◌, ◌==◌, ℕ, List, [], ◌∷◌, length, Option, Some, None, arith}
 use Rattle.std.specs.Prelude.{IfNone}
 use Rattle.std.proofs.lemmas.List.Splits.{length-slice_split}
-use Rattle.sd_sid.specs.Mapping.{IsMapping, MappingValue, mapping_of}
+use Rattle.sd_sid.specs.Mapping.{MappingValue}
 use Rattle.sd_commands.specs.Mapping.{AreMasks, between_commas}
 
 -- five texts or more are no four masks
@@ -15,11 +14,7 @@ no_more read write execute all (text ∷ more) g low is = is
 pub some_between : (text : List ℕ) → 0 < length (between_commas text)
 some_between text = omega (arith, length-slice_split (λ b. b == 44) text)
 
--- ---- four masks
-
-pub fits : (g : MappingValue) → IsMapping g → mapping_of g.read g.write g.execute g.all ≡ Ok g
-fits g low = rw (lt-ltb g.read (2 ^ 21) low.read, lt-ltb g.write (2 ^ 21) low.write, lt-ltb g.execute (2 ^ 21) low.execute, lt-ltb g.all (2 ^ 21) low.all) refl
-
+-- no mapping is one, where the only one would be found
 pub none_of : (found : Option MappingValue) (First Second : MappingValue → Type 0) → ((g : MappingValue) → First g → Second g → found ≡ Some g)
     → IfNone found ((g : MappingValue) → First g → Second g → ⊥)
 none_of None First Second all = λ g first second. let no = all g first second in cc (no)

@@ -2,5 +2,4 @@ pub mod CharStart
 pub mod Commas
 pub mod BytesByPart
 pub mod SortedOrder
-pub mod Sorting
 pub mod Arguments

@@ -1,125 +1,80 @@
--- A sorted list is in canonical order, and one that is stays as it is.
-use Rattle.std.proofs.Common.{◌≡◌, ◌∙◌, Bool, true, false, cond, not, ◌&&◌, List, [], ◌∷◌, ◌++◌, filter, ap, refl, sym}
+-- A sorted list is in canonical order and takes as many bytes as before, and one that is in that order stays as it is.
+use Rattle.std.proofs.Common.{◌≡◌, ◌∙◌, Bool, false, not, ◌&&◌, List, [], ◌∷◌, ◌++◌, ◌+◌, filter, sum_by, refl, arith}
 use Rattle.std.specs.Prelude.{◌||◌}
-use Rattle.std.proofs.Math.Bool.{and-false}
-use Rattle.std.proofs.lemmas.Bool.{not-true}
-use Rattle.std.proofs.lemmas.Map.Views.{any-filter_same}
 use Rattle.std.specs.List.{list_any}
+use Rattle.std.proofs.lemmas.Bool.{not-true}
+use Rattle.std.proofs.lemmas.Bool.Decides.{nat_tests}
+use Rattle.std.proofs.lemmas.Map.Views.{any-filter_same}
 use Rattle.std.proofs.lemmas.List.{append-nil}
 use Rattle.std.proofs.lemmas.List.Elements.{filter-append}
 use Rattle.std.proofs.lemmas.List.Folds.{list_any-append}
 use Rattle.sd_acl.specs.Canonical.{allows, canonical_order, denies, deny_behind_allow, explicit_behind_inherited, is_explicit, is_inherited}
 use Rattle.sd_acl.specs.declared.ace.Ace.{Ace}
+use Rattle.std.proofs.lemmas.List.Sums.{sum_by-append, sum_by-cons}
+use Rattle.sd_acl.specs.Ace.{ace_size, acl_size_of}
 use Rattle.sd_commands.specs.Sort.{CanonicalStays, SortedIsCanonical, sorted}
-
-or_false : (a b : Bool) → (a || b) ≡ false → (a ≡ false) × (b ≡ false)
-or_false true b is = absurd (cc (is))
-or_false false b is = (refl, is)
-
-both_not : (a b : Bool) → (not a && not b) ≡ true → (a ≡ false) × (b ≡ false)
-both_not true b is = absurd (cc (is))
-both_not false true is = absurd (cc (is))
-both_not false false is = (refl, refl)
 
 -- what none passes, none of a part does
 any_filter : (test p : Ace → Bool) (es : List Ace) → list_any test es ≡ false → list_any test (filter p es) ≡ false
 any_filter test p [] none = refl
-any_filter test p (e ∷ es) none =
-    let both = or_false (test e) (list_any test es) none in
-    elim (p e) as (λ b. list_any test (cond b (e ∷ filter p es) (filter p es)) ≡ false) [
-      | true ↦ rw both.0 (any_filter test p es both.1)
-      | false ↦ any_filter test p es both.1
-    ]
+any_filter test p (e ∷ es) none = let more = any_filter test p es in grind (arith, nat_tests, more)
 
--- ---- a test for what belongs behind what fails it
+-- in a part by the test none fails it; where none does, all is such a part
+passes : (q : Ace → Bool) (es : List Ace) → list_any (λ e. not (q e)) (filter q es) ≡ false
+passes q = any-filter_same (λ e. not (q e)) q false (λ e is. not-true (q e) is)
 
-module _ (p : Ace → Bool) where
-  abbrev early : Ace → Bool
-  early e = not (p e)
+all_pass : (q : Ace → Bool) (es : List Ace) → list_any (λ e. not (q e)) es ≡ false
+    → (filter q es ≡ es) × (filter (λ e. not (q e)) es ≡ [])
+all_pass q [] none = (refl, refl)
+all_pass q (e ∷ es) none = let more = all_pass q es in grind (arith, nat_tests, more)
 
-  abbrev behind : List Ace → Bool
-  behind [] = false
-  behind (e ∷ es) = (p e && list_any early es) || behind es
+-- ---- a test F for what fails p behind what passes it
 
-  -- none is left that fails the test, or that passes it
-  none_early : (es : List Ace) → list_any early (filter p es) ≡ false
-  none_early = any-filter_same early p false (λ e is. not-true (p e) is)
+module _ (p : Ace → Bool) (F : List Ace → Bool) (none : F [] ≡ false)
+    (step : (e : Ace) (es : List Ace) → F (e ∷ es) ≡ ((p e && list_any (λ x. not (p x)) es) || F es)) where
+  behind_both : (front back : List Ace) → list_any (λ e. not (not (p e))) front ≡ false → list_any (λ e. not (p e)) back ≡ false
+      → F (front ++ back) ≡ false
+  behind_both [] [] first last = none
+  behind_both [] (e ∷ back) first last = let more = behind_both [] back refl in grind (arith, nat_tests, more, step)
+  behind_both (e ∷ front) back first last = let more = behind_both front back in grind (arith, nat_tests, more, step)
 
-  none_late : (es : List Ace) → list_any p (filter early es) ≡ false
-  none_late = any-filter_same p early false (λ e is. ap not is)
+  parts_stay : (es : List Ace) → F es ≡ false → filter (λ e. not (p e)) es ++ filter p es ≡ es
+  parts_stay [] is = refl
+  parts_stay (e ∷ es) is =
+      let more = parts_stay es in let all = all_pass p es in grind (arith, nat_tests, more, all, step)
 
-  -- a part by the test is all or nothing
-  all_early : (es : List Ace) → list_any p es ≡ false → filter early es ≡ es
-  all_early [] none = refl
-  all_early (e ∷ es) none =
-      let both = or_false (p e) (list_any p es) none in rw both.0 (ap (λ rest. e ∷ rest) (all_early es both.1))
-
-  no_early : (es : List Ace) → list_any early es ≡ false → filter early es ≡ []
-  no_early [] none = refl
-  no_early (e ∷ es) none =
-      let both = or_false (early e) (list_any early es) none in rw both.0 (no_early es both.1)
-
-  all_late : (es : List Ace) → list_any early es ≡ false → filter p es ≡ es
-  all_late [] none = refl
-  all_late (e ∷ es) none =
-      let both = or_false (early e) (list_any early es) none in
-      elim (p e) as (λ b. not b ≡ false → cond b (e ∷ filter p es) (filter p es) ≡ e ∷ es) [
-        | true ↦ λ is. ap (λ rest. e ∷ rest) (all_late es both.1)
-        | false ↦ λ is. absurd (cc (is))
-      ] both.0
-
-  -- in order
-  behind_late : (es : List Ace) → list_any early es ≡ false → behind es ≡ false
-  behind_late [] none = refl
-  behind_late (e ∷ es) none =
-      let both = or_false (early e) (list_any early es) none in
-      rw (both.1, behind_late es both.1, and-false (p e)) refl
-
-  behind_both : (front back : List Ace) → list_any p front ≡ false → list_any early back ≡ false → behind (front ++ back) ≡ false
-  behind_both [] back none last = behind_late back last
-  behind_both (e ∷ front) back none last =
-      let both = or_false (p e) (list_any p front) none in rw both.0 (behind_both front back both.1 last)
-
-  parts_stay : (es : List Ace) → behind es ≡ false → filter early es ++ filter p es ≡ es
-  parts_stay [] none = refl
-  parts_stay (e ∷ es) none =
-      let both = or_false (p e && list_any early es) (behind es) none in
-      elim (p e) as (λ b. (b && list_any early es) ≡ false
-      → cond (not b) (e ∷ filter early es) (filter early es) ++ cond b (e ∷ filter p es) (filter p es) ≡ e ∷ es) [
-        | true ↦ λ is. rw (no_early es is) (ap (λ rest. e ∷ rest) (all_late es is))
-        | false ↦ λ is. ap (λ rest. e ∷ rest) (parts_stay es both.1)
-      ] both.0
-
--- ---- the two tests
-
-by_origin : (es : List Ace) → explicit_behind_inherited es ≡ behind is_inherited es
-by_origin [] = refl
-by_origin (e ∷ es) = ap (λ rest. (is_inherited e && list_any is_explicit es) || rest) (by_origin es)
-
-by_kind : (es : List Ace) → deny_behind_allow es ≡ behind allows es
-by_kind [] = refl
-by_kind (e ∷ es) = ap (λ rest. (allows e && list_any denies es) || rest) (by_kind es)
+-- ---- the order
 
 pub sorted_canonical : SortedIsCanonical
 sorted_canonical es =
     let explicit = filter is_explicit es in
     let front = canonical_order explicit in
     let back = filter is_inherited es in
-    let none = none_late is_inherited es in
-    let first : list_any is_inherited front ≡ false =
-    list_any-append is_inherited (filter denies explicit) (filter allows explicit)
-    ∙ rw (any_filter is_inherited denies explicit none, any_filter is_inherited allows explicit none) refl in
-    let last = none_early is_inherited es in
-    let origin = by_origin (sorted es) ∙ behind_both is_inherited front back first last in
-    let own : filter is_explicit (sorted es) ≡ front =
-    filter-append is_explicit front back ∙ rw (all_early is_inherited front first, no_early is_inherited back last) (append-nil front) in
-    let kind : deny_behind_allow front ≡ false =
-    by_kind front ∙ behind_both allows (filter denies explicit) (filter allows explicit) (none_late allows explicit) (none_early allows explicit) in
-    rw (origin, own, kind) refl
+    let alone : list_any (λ e. not (is_explicit e)) front ≡ false =
+    let here = any_filter (λ (e : Ace). not (is_explicit e)) in
+    list_any-append _ (filter denies explicit) (filter allows explicit)
+    ∙ rw (here denies explicit (passes is_explicit es), here allows explicit (passes is_explicit es)) refl in
+    let origin = behind_both is_inherited explicit_behind_inherited refl (λ _ _. refl) front back alone (passes is_inherited es) in
+    let kind = behind_both allows deny_behind_allow refl (λ _ _. refl) (filter denies explicit) (filter allows explicit) (passes denies explicit) (passes allows explicit) in
+    let own = filter-append is_explicit front back in
+    let early = all_pass is_explicit front alone in
+    let late = all_pass is_inherited back (passes is_inherited es) in
+    grind (arith, nat_tests, append-nil {A = Ace}, origin, kind, own, early, late)
 
 pub canonical_stays : CanonicalStays
 canonical_stays es is =
-    let both = both_not (explicit_behind_inherited es) (deny_behind_allow (filter is_explicit es)) is in
-    let kind = parts_stay allows (filter is_explicit es) (sym (by_kind (filter is_explicit es)) ∙ both.1) in
-    let origin = parts_stay is_inherited es (sym (by_origin es) ∙ both.0) in
-    ap (λ front. front ++ filter is_inherited es) kind ∙ origin
+    let kind = parts_stay allows deny_behind_allow refl (λ _ _. refl) (filter is_explicit es) in
+    let origin = parts_stay is_inherited explicit_behind_inherited refl (λ _ _. refl) es in
+    grind (arith, nat_tests, kind, origin)
+
+-- ---- the size
+
+both_sides : (p : Ace → Bool) (es : List Ace)
+    → sum_by ace_size (filter (λ e. not (p e)) es) + sum_by ace_size (filter p es) ≡ sum_by ace_size es
+both_sides p [] = refl
+both_sides p (e ∷ es) = let more = both_sides p es in grind (arith, nat_tests, sum_by-cons ace_size, more)
+
+pub sorted_size : (es : List Ace) → acl_size_of (sorted es) ≡ acl_size_of es
+sorted_size es =
+    let explicit = filter is_explicit es in
+    omega (arith, sum_by-append ace_size (canonical_order explicit) (filter is_inherited es), sum_by-append ace_size (filter denies explicit) (filter allows explicit), both_sides allows explicit, both_sides is_inherited es)

@@ -172,14 +172,21 @@ impl Command {
         }
     }
 
+    /// The answer to the argument of this name: what it should have been, and why it isn't.
+    pub(crate) fn fault(self, what: &str, name: &str, reason: &str) -> Answered
+        ensures { IfOk result
+            (λ answer. IsFault (fault_line what.now) (told_line name.now reason.now) (answer_of answer)) }
+    {
+        fault(self.alloc, what, told_line(self.alloc, name, reason)?)
+    }
+
     /// The answer to words of which the one at the place is the first that is none, for this reason.
     pub(crate) fn token_fault(self, place: usize, word: &str, reason: &str) -> Answered
         requires { place < 2 ^ 63 }
         ensures { IfOk result (λ answer. IsTokenFault place word.now reason.now (answer_of answer)) }
     {
         let argument = word_argument(self.alloc, place, word)?;
-        let told = told_line(self.alloc, argument.as_str(), reason)?;
-        fault(self.alloc, "token", told)
+        self.fault("token", argument.as_str(), reason)
     }
 
     /// The answer to an argument whose text has this error first.
@@ -188,16 +195,9 @@ impl Command {
             (λ answer. IsFaultOf self.settings what.now name.now text.now error (answer_of answer)) }
     {
         match error {
-            TextError::Fault {
-                fault: found,
-                place,
-            } => {
-                let reason = fault_text(self.alloc, self.settings.points, text, found, place)?;
-                fault(
-                    self.alloc,
-                    what,
-                    told_line(self.alloc, name, reason.as_str())?,
-                )
+            TextError::Fault { fault, place } => {
+                let reason = fault_text(self.alloc, self.settings.points, text, fault, place)?;
+                self.fault(what, name, reason.as_str())
             }
             TextError::Memory => Err(AllocError),
         }

@@ -9,12 +9,12 @@ ghost use Rattle.sd_commands.specs.Answer.{AnswersBytes, AnswersFit, AnswersFrom
 ghost use Rattle.sd_commands.specs.Answer.{AnswersHeld, IsDone, IsFault, answer_of, printed_line, wire_fault_line};
 ghost use Rattle.sd_commands.specs.MissingDacl.{missing_dacl};
 
-use crate::answer::{Answer, Answered, Outcome, fault};
+use crate::answer::{Answer, Answered, Outcome};
 use crate::bytes::{BytesError, leave_out_sacl, read_bytes};
 use crate::descriptor::noting;
 use crate::diagnostic::{text_at_byte, told_line};
 use crate::kinds::wire_kind_note;
-use crate::missing_dacl::{missing_dacl, missing_dacl_fault};
+use crate::missing_dacl::missing_dacl;
 use crate::settings::Command;
 use sd_acl::Descriptor;
 use sd_text::print_sddl_in;
@@ -48,8 +48,7 @@ impl Command {
             Ok(bytes) => self.answer_bytes(bytes),
             Err(BytesError::NoBytes { what, place }) => {
                 let reason = text_at_byte(self.alloc, self.settings.points, text, what, place)?;
-                let told = told_line(self.alloc, "BYTES", reason.as_str())?;
-                fault(self.alloc, self.settings.bytes.name(), told)
+                self.fault(self.settings.bytes.name(), "BYTES", reason.as_str())
             }
             Err(BytesError::Memory) => Err(AllocError),
         }
@@ -86,7 +85,7 @@ impl Command {
     {
         match missing_dacl(self.settings, &descriptor.dacl) {
             None => self.print(descriptor),
-            Some(missing) => missing_dacl_fault(self.alloc, "BYTES", missing),
+            Some(missing) => self.fault("nodacl", "BYTES", missing),
         }
     }
 }

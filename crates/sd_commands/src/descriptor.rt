@@ -3,8 +3,8 @@ ghost use Rattle.std.specs.Prelude.{IfOk};
 ghost use Rattle.sd_commands.specs.Answer.{IsGiven, IsNoted, answer_of};
 
 use crate::answer::{Answer, Answered};
-use crate::diagnostic::sacl_note;
-use crate::missing_dacl::{missing_dacl, missing_dacl_fault};
+use crate::diagnostic::told_line;
+use crate::missing_dacl::missing_dacl;
 use crate::settings::Command;
 use sd_answer::read_sddl_argument;
 use sd_text::{TextError, WithoutSacl};
@@ -34,7 +34,7 @@ impl Command {
         match missing_dacl(self.settings, &read.descriptor.dacl) {
             None => Ok(Given::Descriptor(read)),
             Some(missing) => {
-                let answer = missing_dacl_fault(self.alloc, name, missing)?;
+                let answer = self.fault("nodacl", name, missing)?;
                 let answer = noting(self.alloc, name, read.left_out, answer)?;
                 Ok(Given::Refused(answer))
             }
@@ -47,8 +47,10 @@ impl Command {
 pub(crate) fn noting(alloc: Global, name: &str, left_out: bool, mut answer: Answer) -> Answered
     ensures { IfOk result (λ noted. IsNoted name.now left_out (answer_of answer) (answer_of noted)) }
 {
-    let mut told = sacl_note(alloc, name, left_out)?;
-    told.push_str(answer.told.as_str())?;
-    answer.told = told;
+    if left_out {
+        let mut told = told_line(alloc, name, "the SACL is left out")?;
+        told.push_str(answer.told.as_str())?;
+        answer.told = told;
+    }
     Ok(answer)
 }

@@ -1,8 +1,8 @@
-//! What standard error is told beside an answer: which argument isn't read, and why; or that a SACL is left out.
+//! What standard error is told beside an answer: which argument isn't read, and why.
 ghost use Rattle.std.specs.Prelude.{◌≡◌, ◌<◌, ◌^◌, ◌++◌, IfOk, string_bytes};
 ghost use Rattle.sd_commands.specs.Pointer.{pointed};
 ghost use Rattle.sd_commands.specs.Diagnostic.{IsSidReason, IsStateReason, IsWordReason, at_byte, begins_by_plus};
-ghost use Rattle.sd_commands.specs.Diagnostic.{fault_name, fault_text, sacl_note, sddl_fault_text, told_line};
+ghost use Rattle.sd_commands.specs.Diagnostic.{fault_name, fault_text, sddl_fault_text, told_line};
 ghost use Rattle.sd_commands.specs.Diagnostic.{word_argument};
 
 use crate::escaped::escaped_word;
@@ -82,17 +82,6 @@ fn at_byte(alloc: Global, what: &str, place: usize) -> Result<String, AllocError
 {
     let said = format!(in alloc; "{what} at {place}")?;
     Ok(said)
-}
-
-/// That a SACL was left out, where one was.
-pub(crate) fn sacl_note(alloc: Global, argument: &str, left_out: bool) -> Result<String, AllocError>
-    ensures { IfOk result (λ text. string_bytes text ≡ sacl_note argument.now left_out) }
-{
-    if left_out {
-        told_line(alloc, argument, "the SACL is left out")
-    } else {
-        Ok(String::new(alloc))
-    }
 }
 
 /// Why a text isn't what it should be: the first fault of its SID ([MS-DTYP] 2.4.2.1), or where it is one, that it

@@ -10,17 +10,10 @@ use std::alloc::{AllocError, Global};
 pub fn escaped_word(alloc: Global, word: &str) -> Result<String, AllocError>
     ensures { IfOk result (λ text. string_bytes text ≡ escaped word.now) }
 {
-    escaped_from(alloc, word, 0)
+    escaped_part(alloc, word, 0, word.len())
 }
 
-/// The same of a text's characters from the `start`th on, counted from 0.
-pub(crate) fn escaped_from(alloc: Global, text: &str, start: usize) -> Result<String, AllocError>
-    ensures { IfOk result (λ shown. string_bytes shown ≡ escaped_chars (drop start (chars text.now))) }
-{
-    escaped_part(alloc, text, start, text.len())
-}
-
-/// The same of at most `count` characters.
+/// The same of at most `count` characters from the `start`th on, counted from 0.
 pub(crate) fn escaped_part(
     alloc: Global,
     text: &str,
@@ -31,15 +24,9 @@ pub(crate) fn escaped_part(
         (λ shown. string_bytes shown ≡ escaped_chars (take count (drop start (chars text.now)))) }
 {
     let mut shown = String::new(alloc);
-    let (mut before, mut left) = (start, count);
-    for c in text.chars() {
-        if 0 < before {
-            before -= 1;
-        } else if 0 < left {
-            left -= 1;
-            let c = escaped_char(alloc, c)?;
-            shown.push_str(c.as_str())?;
-        }
+    for c in text.chars().skip(start).take(count) {
+        let c = escaped_char(alloc, c)?;
+        shown.push_str(c.as_str())?;
     }
     Ok(shown)
 }

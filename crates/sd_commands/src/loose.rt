@@ -1,7 +1,7 @@
 //! Bytes as other tools write them: a value of one of their files, or hexadecimal with `0x`, spaces, commas,
 //! backslashes and line ends between bytes.
 ghost use Rattle.std.specs.Prelude.{◌≡◌, ◌<◌, ◌≤◌, ◌+◌, ◌-◌, ℕ, Ok, Err, Some, IfErr, IfOk, filter, length, not};
-ghost use Rattle.std.specs.List.{position_or_len, slice_split};
+ghost use Rattle.std.specs.List.{slice_split};
 ghost use Rattle.sd_commands.specs.Bytes.{IsBytesError, digits_of, is_between, is_blank_byte, joined};
 ghost use Rattle.sd_commands.specs.Bytes.{no_bytes, part_read, parts_read, value_read};
 ghost use Rattle.sd_commands.specs.Value.{value_in};
@@ -94,21 +94,10 @@ fn first_part(text: &[u8]) -> (&[u8], &[u8])
         (parts_read ((place + length text.now) - length result.1.now) (slice_split is_between result.1.now)) }
     ensures less { length result.1.now < length text.now }
 {
-    let end = part_len(text);
-    if end < text.len() {
-        (&text[..end], &text[end + 1..])
-    } else {
-        (text, &text[end..])
+    match text.iter().position(|b| is_between(*b)) {
+        Some(end) => (&text[..end], &text[end + 1..]),
+        None => (text, &[]),
     }
-}
-
-/// How many bytes stand before the first sign between bytes, or all where there is none.
-fn part_len(text: &[u8]) -> usize
-    ensures place { result ≡ position_or_len is_between text.now }
-    ensures within { result ≤ length text.now }
-{
-    let end = text.iter().position(|b| is_between(*b));
-    end.unwrap_or(text.len())
 }
 
 fn is_between(b: u8) -> bool

@@ -5,7 +5,7 @@ ghost use Rattle.sd_sid.specs.Mapping.{IsMapping, MappingValue, mapping_of};
 ghost use Rattle.sd_text.specs.Grammar.{Spells};
 ghost use Rattle.sd_text.specs.Rights.{mask_text};
 ghost use Rattle.sd_commands.specs.Mapping.{AreMasks, GivesMapping, GivesNoMapping, IsMappingText, kind_given};
-ghost use Rattle.sd_commands.specs.Mapping.{kind_mapping, kind_named, mapping_named, between_commas};
+ghost use Rattle.sd_commands.specs.Mapping.{kind_mapping, kind_named, between_commas};
 
 use sd_answer::ObjectKind;
 use sd_sid::{GenericMapping, Mask};
@@ -62,17 +62,10 @@ fn mapping_in(text: &str) -> Option<GenericMapping>
     ensures told { IfSome result (IsMappingText text.now) }
     ensures none { IfNone result ((g : MappingValue) → IsMappingText text.now g → ⊥) }
 {
-    match named(text) {
-        Some(mapping) => Some(mapping),
+    match kind_named(text) {
+        Some(kind) => kind_mapping(kind),
         None => of_texts(text),
     }
-}
-
-/// The mapping of the kind of object that the text names.
-fn named(text: &str) -> Option<GenericMapping>
-    ensures { result ≡ mapping_named text.now }
-{
-    kind_mapping(kind_named(text)?)
 }
 
 /// The mapping of these masks, each within the object's own rights and the standard ones.

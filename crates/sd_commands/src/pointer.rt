@@ -3,7 +3,7 @@ ghost use Rattle.std.specs.Prelude.{◌≡◌, ◌++◌, IfOk, length, string_by
 ghost use Rattle.std.specs.Str.{chars};
 ghost use Rattle.sd_commands.specs.Pointer.{dots, end_shown, lines_of, pointed, pointer, start_shown};
 
-use crate::escaped::{escaped_from, escaped_part};
+use crate::escaped::escaped_part;
 use std::alloc::{AllocError, Global};
 
 /// How many characters before the byte are shown, and how many from it on: with dots they fit into 80 columns.
@@ -48,12 +48,13 @@ fn lines_of(alloc: Global, before: &str, from: &str) -> Result<String, AllocErro
 }
 
 /// The last characters of a text, with dots in place of those before them.
+#[tactic(auto, using(crate::proofs::CharStart::last_shown))]
 fn end_shown(alloc: Global, text: &str) -> Result<String, AllocError>
     ensures { IfOk result (λ shown. string_bytes shown ≡ end_shown (chars text.now)) }
 {
     let left_out = char_count(text).saturating_sub(BEFORE);
     let mut shown = String::from_str(alloc, dots(left_out))?;
-    let end = escaped_from(alloc, text, left_out)?;
+    let end = escaped_part(alloc, text, left_out, BEFORE)?;
     shown.push_str(end.as_str())?;
     Ok(shown)
 }

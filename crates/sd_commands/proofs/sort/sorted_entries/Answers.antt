@@ -7,7 +7,7 @@ use Rattle.std.proofs.lemmas.Iterator.Consumers.{YieldsList-from_filter, YieldsL
 use Rattle.sd_acl.specs.Ace.{acl_size_of}
 use Rattle.sd_acl.specs.Canonical.{canonical_order, is_explicit, is_inherited}
 use Rattle.sd_commands.specs.Sort.{sorted}
-use Rattle.sd_commands.proofs.Sorting.{sorted_size}
+use Rattle.sd_commands.proofs.SortedOrder.{sorted_size}
 use Rattle.sd_commands.proofs.sort.sorted_entries.Goals as goal
 
 pub returns : goal.returns
