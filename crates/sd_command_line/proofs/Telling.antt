@@ -5,9 +5,10 @@ use Rattle.sd_stream.specs.declared.error.RunError.TheVariants.{Read, TooLong, W
 use Rattle.sd_lines.specs.Output.{LeavesOutput}
 use Rattle.sd_script.specs.declared.manner.Manner.{Manner}
 use Rattle.sd_script.specs.declared.tally.Tally.{Tally}
+use Rattle.sd_usage.specs.declared.row.OptionName.TheVariants.{Strict}
 use Rattle.sd_command_line.specs.Answer.{PrintsRun}
-use Rattle.sd_command_line.specs.CommandLine.{Script, asking}
-use Rattle.sd_command_line.specs.Options.{IsManner, OptionsValue, is_strict}
+use Rattle.sd_command_line.specs.CommandLine.{Runs, Script}
+use Rattle.sd_command_line.specs.Options.{IsManner, OptionsValue, has}
 use Rattle.sd_command_line.specs.Output.{LeavesAfter}
 use Rattle.sd_command_line.specs.Scripts.{script_outcome}
 use Rattle.sd_command_line.specs.declared.command_line.ScriptRun.{ScriptRun}
@@ -16,12 +17,12 @@ use Rattle.sd_command_line.specs.declared.command_line.ScriptRun.{ScriptRun}
 pub output_leaves : (run : ScriptRun) (options : OptionsValue) (manner : Manner) → IsManner options manner
     → (input left old new : Option (List ℕ)) (error : RunError)
     → LeavesOutput (λ text printed. (tally : Tally) × PrintsRun run manner text printed tally) input old new error
-    → LeavesAfter (asking options (Script run)) input left old new error
+    → LeavesAfter (Runs options (Script run)) input left old new error
 output_leaves run options manner said input left old new Read leaves = inl leaves
 output_leaves run options manner said input left old new TooLong leaves = inl leaves
 output_leaves run options manner said input left old new Write part =
     let tally = part.output.2.0 in inr (inl (record {
-      answer = record { printed = part.printed; told = []; outcome = script_outcome (is_strict options) tally };
+      answer = record { printed = part.printed; told = []; outcome = script_outcome (has options Strict) tally };
       answers = (Ok manner, said, (tally, (part.output.0, part.output.1, part.output.2.1), inr refl, refl));
       beginning = part.beginning;
     }))

@@ -1,6 +1,6 @@
 -- What the program prints for a command line, and whether it did what was asked for.
 use Rattle.std.specs.Prelude.{◌≡◌, ◌⊎◌, ℕ, Bool, true, false, MatchBool, List, [], ◌++◌, Option, Some, None}
-use Rattle.std.specs.Prelude.{IfSome, if◌then◌else◌, Result, Ok, Err, codes}
+use Rattle.std.specs.Prelude.{IfSome, if◌then◌else◌, MatchResult, Result, codes}
 use Rattle.std.specs.Str.{IsUtf8}
 use Rattle.sd_answer.specs.Answer.{line, fault_line}
 use Rattle.sd_script.specs.Output.{PrintsAndCounts}
@@ -12,28 +12,27 @@ use Rattle.sd_script.specs.Ids.{tagged}
 use Rattle.sd_script.specs.Printed.{PrintsAndCountsServed, PrintsAs}
 use Rattle.sd_lines.specs.Answers.{PrintsAndLeaves}
 use Rattle.sd_stream.specs.Decoder.{decoded}
-use Rattle.sd_lines.specs.declared.ending.Ending.{Ending}
+use Rattle.sd_lines.specs.declared.ending.Ending.TheVariants as endings
 use Rattle.sd_lines.specs.declared.form.Form.{Form}
 use Rattle.sd_command_line.specs.Scripts.{IsToldOfScript, script_outcome}
 use Rattle.sd_json.specs.Text.{printed_as}
 use Rattle.sd_json.specs.declared.tagging.Tagging.{Tagging}
 use Rattle.sd_json.specs.declared.tagging.Tagging.TheVariants.{Key, Nothing}
+use Rattle.sd_usage.specs.declared.row.OptionName.TheVariants.{Json, Strict}
 use Rattle.sd_usage.specs.declared.row.TextCommand.{TextCommand}
 use Rattle.sd_usage.specs.declared.row.TextCommand.TheVariants as questions
-use Rattle.sd_command_line.specs.CommandLine.{CommandLineValue, InvocationValue, RequestValue, Ask, AskInput, Script}
-use Rattle.sd_command_line.specs.CommandLine.{Each, Help, Version}
+use Rattle.sd_command_line.specs.CommandLine.{CommandLineValue, RequestValue, Ask, Each, Help, Runs, Script, Version}
 use Rattle.sd_command_line.specs.declared.command_line.ScriptRun.{ScriptRun}
 use Rattle.sd_command_line.specs.declared.command_line.ScriptRun.TheVariants.{AtOnce, LineByLine, Audit}
 use Rattle.sd_command_line.specs.Each.{after_key, has_key, key_of, outcome_of_lines, told_of_lines, with_line}
 use Rattle.sd_command_line.specs.Input.{is_blank, is_utf16, without_end}
-use Rattle.sd_command_line.specs.declared.flags.Lines.{Lines}
-use Rattle.sd_command_line.specs.declared.each.Progress.{Progress}
-use Rattle.sd_command_line.specs.declared.each.Progress.TheVariants.{NoLine}
-use Rattle.sd_command_line.specs.Options.{OptionsValue, GivesManner, GivesSettings, is_json, is_strict}
+use Rattle.sd_command_line.specs.declared.flags.GivenFlags.{GivenFlags}
+use Rattle.sd_command_line.specs.Options.{OptionsValue, GivesManner, GivesSettings, has}
 use Rattle.sd_text.specs.Alias.{in_domain}
-use Rattle.sd_commands.specs.Answer.{AnswerValue, AnswersQuestion, IsDone, IsFault, is_refusal}
+use Rattle.sd_commands.specs.Answer.{AnswerValue, AnswersQuestion, IsDone, IsFault}
 use Rattle.sd_commands.specs.Diagnostic.{told_line, IsSidReason}
-use Rattle.sd_commands.specs.declared.answer.Outcome.TheVariants.{Done}
+use Rattle.sd_commands.specs.declared.answer.Outcome.{Outcome}
+use Rattle.sd_commands.specs.declared.answer.Outcome.TheVariants.{Done, Refused}
 use Rattle.sd_command_line.specs.declared.options.BadValue.{BadValue}
 use Rattle.sd_command_line.specs.declared.options.BadValue.TheVariants.{NoDomain, NoEdits, NoMapping, NoNodes}
 use Rattle.sd_commands.specs.declared.settings.Settings.{Settings}
@@ -57,11 +56,6 @@ IsBadValue NoMapping answer = IsBadOption (codes "mapping") (codes "no such mapp
 IsBadValue NoNodes answer = IsBadOption (codes "nodes") (codes "no number of nodes, 1 to 16777216") answer
 IsBadValue NoEdits answer = IsBadOption (codes "edits") (codes "no number of edits, 0 to 4294967296") answer
 
--- an answer under these settings, or to a value of an option that isn't read
-abbrev pub AnswersBy : (Settings → AnswerValue → Type 0) → Result Settings BadValue → AnswerValue → Type 0
-AnswersBy Answers (Ok settings) answer = Answers settings answer
-AnswersBy Answers (Err bad) answer = IsBadValue bad answer
-
 -- ---- the text that an input is
 
 -- the input is no text that a command answers
@@ -74,42 +68,36 @@ AnswersFilled settings request text answer = MatchBool (is_blank text)
     (IsInputFault (codes "blank") (codes "blank") answer)
     (AnswersQuestion settings request.question text request.arguments answer)
 
--- an input that isn't in its encoding
-abbrev pub IsNoText : List ℕ → AnswerValue → Type 0
-IsNoText input answer = MatchBool (is_utf16 input)
-    (IsInputFault (codes "utf16") (codes "not UTF-16") answer)
-    (IsInputFault (codes "utf8") (codes "not UTF-8") answer)
-
 -- the answer to the text of an input. What is no character in it isn't UTF-8
 abbrev pub AnswersInput : Settings → RequestValue → List ℕ → AnswerValue → Type 0
 AnswersInput settings request input answer =
     (IsUtf8 (without_end (decoded input)) × AnswersFilled settings request (without_end (decoded input)) answer)
-    ⊎ ((IsUtf8 (without_end (decoded input)) → ⊥) × IsNoText input answer)
+    ⊎ ((IsUtf8 (without_end (decoded input)) → ⊥) × MatchBool (is_utf16 input)
+    (IsInputFault (codes "utf16") (codes "not UTF-16") answer)
+    (IsInputFault (codes "utf8") (codes "not UTF-8") answer))
 
 -- ---- one answer
 
--- what answers an invocation under these settings, with this input where it is known; the help's text is `clap`'s
-abbrev pub AnswersUnder : Option (List ℕ) → InvocationValue → Settings → AnswerValue → Type 0
-AnswersUnder input (Ask text request) settings answer =
+-- what answers a text, or without one the input where it is known, under these settings
+abbrev pub AnswersUnder : Option (List ℕ) → Option (List ℕ) → RequestValue → Settings → AnswerValue → Type 0
+AnswersUnder input (Some text) request settings answer =
     AnswersQuestion settings request.question text request.arguments answer
-AnswersUnder input (AskInput request) settings answer =
+AnswersUnder input None request settings answer =
     (text : List ℕ) × IfSome input (λ bytes. text ≡ bytes) × AnswersInput settings request text answer
-AnswersUnder input (Help command) settings answer = (answer.told ≡ []) × (answer.outcome ≡ Done)
-AnswersUnder input Version settings answer = IsDone version_lines answer
-AnswersUnder input invocation settings answer = ⊥
 
 -- the same under what the options say
-abbrev pub AnswersOnce : Option (List ℕ) → OptionsValue → InvocationValue → AnswerValue → Type 0
-AnswersOnce input options invocation answer =
-    (settings : Result Settings BadValue) × GivesSettings options settings
-    × AnswersBy (AnswersUnder input invocation) settings answer
+abbrev pub AnswersOnce : Option (List ℕ) → OptionsValue → Option (List ℕ) → RequestValue → AnswerValue → Type 0
+AnswersOnce input options text request answer =
+    (said : Result Settings BadValue) × GivesSettings options said × MatchResult said
+    (λ settings. AnswersUnder input text request settings answer) (λ bad. IsBadValue bad answer)
 
 -- an answer, as it is printed
-abbrev pub printed_under : OptionsValue → AnswerValue → AnswerValue
-printed_under options answer = record answer { printed = printed_as (is_json options) Nothing answer.printed }
+abbrev pub printed_when : Bool → AnswerValue → AnswerValue
+printed_when is_json answer = record answer { printed = printed_as is_json Nothing answer.printed }
 
 abbrev pub IsPrinted : OptionsValue → (AnswerValue → Type 0) → AnswerValue → Type 0
-IsPrinted options Answers answer = (plain : AnswerValue) × Answers plain × (answer ≡ printed_under options plain)
+IsPrinted options Answers answer =
+    (plain : AnswerValue) × Answers plain × (answer ≡ printed_when (has options Json) plain)
 
 -- ---- scripts
 
@@ -120,15 +108,13 @@ PrintsRun (LineByLine has_ids) manner = PrintsAndCountsServed has_ids manner.not
 PrintsRun (Audit workers) manner = PrintsAs manner.notation.is_json (PrintsAuditAndCounts manner workers)
 
 -- the output of the script on the input; or a value of an option isn't read
-abbrev pub AnswersScriptBy : ScriptRun → Option (List ℕ) → OptionsValue → Result Manner BadValue → AnswerValue → Type 0
-AnswersScriptBy run input options (Ok manner) answer =
-    (tally : Tally) × IsOutput (λ text printed. PrintsRun run manner text printed tally) input answer.printed
-    × IsToldOfScript (is_strict options) tally answer.told × (answer.outcome ≡ script_outcome (is_strict options) tally)
-AnswersScriptBy run input options (Err bad) answer = IsPrinted options (IsBadValue bad) answer
-
 abbrev pub AnswersScript : ScriptRun → Option (List ℕ) → OptionsValue → AnswerValue → Type 0
 AnswersScript run input options answer =
-    (manner : Result Manner BadValue) × GivesManner options manner × AnswersScriptBy run input options manner answer
+    (said : Result Manner BadValue) × GivesManner options said × MatchResult said
+    (λ manner. (tally : Tally) × IsOutput (λ text printed. PrintsRun run manner text printed tally) input answer.printed
+    × IsToldOfScript (has options Strict) tally answer.told
+    × (answer.outcome ≡ script_outcome (has options Strict) tally))
+    (λ bad. IsPrinted options (IsBadValue bad) answer)
 
 -- ---- of each line
 
@@ -137,7 +123,8 @@ AnswersScript run input options answer =
 abbrev pub AnswersText : Result Settings BadValue → RequestValue → List ℕ → AnswerValue → Type 0
 AnswersText settings request text answer = MatchBool (is_blank text)
     (IsFault (fault_line (codes "blank")) [] answer)
-    (AnswersBy (λ said. AnswersQuestion said request.question text request.arguments) settings answer)
+    (MatchResult settings (λ said. AnswersQuestion said request.question text request.arguments answer)
+    (λ bad. IsBadValue bad answer))
 
 abbrev pub AnswersTold : Result Settings BadValue → RequestValue → Option (List ℕ) → AnswerValue → Type 0
 AnswersTold settings request None answer = IsFault (fault_line (codes "long")) [] answer
@@ -153,62 +140,55 @@ after_answer questions.Compare = codes "\n"
 after_answer questions.Lint = codes "\n"
 after_answer question = []
 
--- a line's answer, and whether it is a refusal
-abbrev pub AnswersLine : Result Settings BadValue → RequestValue → Option (List ℕ) → List ℕ → Bool → Type 0
-AnswersLine settings request told printed is_refused =
+-- a line's answer, and what came of it
+abbrev pub AnswersLine : Result Settings BadValue → RequestValue → Option (List ℕ) → List ℕ → Outcome → Type 0
+AnswersLine settings request told printed outcome =
     (answer : AnswerValue) × AnswersTold settings request told answer
-    × (printed ≡ answer.printed ++ after_answer request.question) × (is_refused ≡ is_refusal answer.outcome)
+    × (printed ≡ answer.printed ++ after_answer request.question) × (outcome ≡ answer.outcome)
 
--- a line without a key is a fault
-abbrev pub IsKeyFault : RequestValue → List ℕ → Bool → Type 0
-IsKeyFault request printed is_refused =
-    (printed ≡ fault_line (codes "key") ++ after_answer request.question) × (is_refused ≡ true)
-
--- the same of a line that is a key, a tab and a text: each line of the text's answer begins with the key and the tab
-abbrev pub AnswersKeyAndText : Result Settings BadValue → RequestValue → List ℕ → List ℕ → Bool → Type 0
-AnswersKeyAndText settings request line printed is_refused =
-    (answer : List ℕ) × AnswersLine settings request (Some (after_key line)) answer is_refused
-    × (printed ≡ tagged (key_of line) true answer)
-
-abbrev pub AnswersKeyed : Result Settings BadValue → RequestValue → Option (List ℕ) → List ℕ → Bool → Type 0
-AnswersKeyed settings request None printed is_refused = AnswersLine settings request None printed is_refused
-AnswersKeyed settings request (Some line) printed is_refused = MatchBool (has_key line)
-    (AnswersKeyAndText settings request line printed is_refused)
-    (IsKeyFault request printed is_refused)
-
-abbrev pub AnswersLineIn : Bool → Result Settings BadValue → RequestValue → Option (List ℕ) → List ℕ → Bool → Type 0
-AnswersLineIn has_keys settings request told printed is_refused = MatchBool has_keys
-    (AnswersKeyed settings request told printed is_refused)
-    (AnswersLine settings request told printed is_refused)
+-- where lines have keys, the same of one that is a key, a tab and a text, with the key and the tab before each line of
+-- the text's answer; one without a key is a fault
+abbrev pub AnswersLineIn : Bool → Result Settings BadValue → RequestValue → Option (List ℕ) → List ℕ → Outcome → Type 0
+AnswersLineIn true settings request (Some line) printed outcome = MatchBool (has_key line)
+    ((answer : List ℕ) × AnswersLine settings request (Some (after_key line)) answer outcome
+    × (printed ≡ tagged (key_of line) true answer))
+    ((printed ≡ fault_line (codes "key") ++ after_answer request.question) × (outcome ≡ Refused))
+AnswersLineIn has_keys settings request told printed outcome = AnswersLine settings request told printed outcome
 
 abbrev pub tagging_of : Bool → Tagging
 tagging_of has_keys = if has_keys then Key else Nothing
 
--- the same as it is printed, and how the lines up to this one were answered
-abbrev pub AnswersNext : (has_keys is_json : Bool) → Result Settings BadValue → RequestValue → Progress
-    → Option (List ℕ) → List ℕ → Progress → Type 0
+-- the same as it is printed, and what came of the lines up to this one
+abbrev pub AnswersNext : (has_keys is_json : Bool) → Result Settings BadValue → RequestValue → Option Outcome
+    → Option (List ℕ) → List ℕ → Option Outcome → Type 0
 AnswersNext has_keys is_json settings request before told printed after =
-    (plain : List ℕ) × (is_refused : Bool) × AnswersLineIn has_keys settings request told plain is_refused
-    × (printed ≡ printed_as is_json (tagging_of has_keys) plain) × (after ≡ with_line before is_refused)
+    (plain : List ℕ) × (outcome : Outcome) × AnswersLineIn has_keys settings request told plain outcome
+    × (printed ≡ printed_as is_json (tagging_of has_keys) plain) × (after ≡ with_line before outcome)
 
--- the lines of an input, of which one that is too long is answered too
-abbrev pub form_of : Ending → Form
-form_of ending = record { ending = ending; skips_mark = true; stops_at_long = false; line_by_line = false }
+-- the lines of an input, each of which a zero byte or a line feed ends. One that is too long is answered too
+abbrev pub form_of : Bool → Form
+form_of zero = record {
+  ending = if zero then endings.Zero else endings.Feed;
+  skips_mark = true;
+  stops_at_long = false;
+  line_by_line = false;
+}
 
 -- the lines' answers, one after the other, all under the same settings; refused where one is or where there is none
-abbrev pub AnswersEach : OptionsValue → Lines → RequestValue → Option (List ℕ) → AnswerValue → Type 0
-AnswersEach options lines request input answer =
+abbrev pub AnswersEach : OptionsValue → GivenFlags → RequestValue → Option (List ℕ) → AnswerValue → Type 0
+AnswersEach options given request input answer =
     (settings : Result Settings BadValue) × GivesSettings options settings
-    × (text : List ℕ) × (progress : Progress) × IfSome input (λ bytes. text ≡ bytes)
-    × PrintsAndLeaves (form_of lines.ending) (AnswersNext lines.has_keys (is_json options) settings request) NoLine text
-    answer.printed progress
-    × (answer.told ≡ told_of_lines progress) × (answer.outcome ≡ outcome_of_lines progress)
+    × (text : List ℕ) × (last : Option Outcome) × IfSome input (λ bytes. text ≡ bytes)
+    × PrintsAndLeaves (form_of given.zero) (AnswersNext given.key (has options Json) settings request) None text
+    answer.printed last
+    × (answer.told ≡ told_of_lines last) × (answer.outcome ≡ outcome_of_lines last)
 
--- what is printed for a command line, with this input where it is known, and what came of it
-abbrev pub AnswersInvocation : Option (List ℕ) → OptionsValue → InvocationValue → AnswerValue → Type 0
-AnswersInvocation input options (Script run) answer = AnswersScript run input options answer
-AnswersInvocation input options (Each lines request) answer = AnswersEach options lines request input answer
-AnswersInvocation input options invocation answer = IsPrinted options (AnswersOnce input options invocation) answer
-
+-- what is printed for a command line, with this input where it is known, and what came of it; the help's text is
+-- `clap`'s
 abbrev pub Answers : Option (List ℕ) → CommandLineValue → AnswerValue → Type 0
-Answers input line answer = AnswersInvocation input line.options line.invocation answer
+Answers input (Help command) answer = (answer.told ≡ []) × (answer.outcome ≡ Done)
+Answers input Version answer = IsDone version_lines answer
+Answers input (Runs options (Ask text request)) answer =
+    IsPrinted options (AnswersOnce input options text request) answer
+Answers input (Runs options (Each given request)) answer = AnswersEach options given request input answer
+Answers input (Runs options (Script run)) answer = AnswersScript run input options answer

@@ -1,11 +1,11 @@
 -- What comes of the lines of `each`: what their keys are, and how all were answered.
-use Rattle.std.specs.Prelude.{ℕ, ◌+◌, ◌==◌, nat_lt, Bool, not, ◌&&◌, if◌then◌else◌, List, [], length, take, drop, codes}
+use Rattle.std.specs.Prelude.{ℕ, ◌+◌, ◌==◌, nat_lt, Bool, not, ◌&&◌, List, [], length, take, drop, codes}
+use Rattle.std.specs.Prelude.{Option, Some, None}
 use Rattle.std.specs.List.{list_any, position_or_len}
+use Rattle.std.specs.Option.{unwrap_or}
 use Rattle.sd_commands.specs.Diagnostic.{told_line}
 use Rattle.sd_commands.specs.declared.answer.Outcome.{Outcome}
-use Rattle.sd_commands.specs.declared.answer.Outcome.TheVariants.{Done, Refused}
-use Rattle.sd_command_line.specs.declared.each.Progress.{Progress}
-use Rattle.sd_command_line.specs.declared.each.Progress.TheVariants.{NoLine, AllDone, AnyRefused}
+use Rattle.sd_commands.specs.declared.answer.Outcome.TheVariants.{Refused}
 
 -- ---- keys
 
@@ -29,19 +29,18 @@ after_key line = drop (key_len line + 1) line
 
 -- ---- what comes of all
 
--- how the lines were answered, with one more that was refused or wasn't
-abbrev pub with_line : Progress → Bool → Progress
-with_line AnyRefused is_refused = AnyRefused
-with_line progress is_refused = if is_refused then AnyRefused else AllDone
+-- what came of the lines, if there was one, with one more, of which this came
+abbrev pub with_line : Option Outcome → Outcome → Option Outcome
+with_line (Some Refused) outcome = Some Refused
+with_line lines outcome = Some outcome
 
 -- an input without a line is refused too, and standard error says so
-abbrev pub outcome_of_lines : Progress → Outcome
-outcome_of_lines AllDone = Done
-outcome_of_lines progress = Refused
+abbrev pub outcome_of_lines : Option Outcome → Outcome
+outcome_of_lines lines = unwrap_or lines Refused
 
 abbrev pub no_line_note : List ℕ
 no_line_note = told_line (codes "standard input") (codes "no line")
 
-abbrev pub told_of_lines : Progress → List ℕ
-told_of_lines NoLine = no_line_note
-told_of_lines progress = []
+abbrev pub told_of_lines : Option Outcome → List ℕ
+told_of_lines None = no_line_note
+told_of_lines (Some outcome) = []

@@ -1,13 +1,11 @@
 -- A command's own options, which stand between it and its arguments.
 use Rattle.std.specs.Prelude.{ℕ, Bool, true, false, if◌then◌else◌, List, [], ◌∷◌, Some, None}
 use Rattle.std.specs.Borrow.{Bor}
-use Rattle.sd_lines.specs.declared.ending.Ending.TheVariants as endings
 use Rattle.sd_usage.specs.Table.{flag_named}
 use Rattle.sd_usage.specs.declared.row.Command.{Command}
 use Rattle.sd_usage.specs.declared.row.Flag.{Flag}
 use Rattle.sd_usage.specs.declared.row.Flag.TheVariants.{Ids, Key, Zero}
 use Rattle.sd_command_line.specs.declared.flags.GivenFlags.{GivenFlags}
-use Rattle.sd_command_line.specs.declared.flags.Lines.{Lines}
 
 abbrev pub no_flags : GivenFlags
 no_flags = record { ids = false; zero = false; key = false }
@@ -35,7 +33,3 @@ flags_in command given (word ∷ words) =
 
 abbrev pub with_words : GivenFlags × Bor (List (Bor (List ℕ))) → GivenFlags × List (Bor (List ℕ))
 with_words (given, words) = (given, words.now)
-
--- what the lines of `each` are
-abbrev pub lines_by : GivenFlags → Lines
-lines_by given = record { ending = if given.zero then endings.Zero else endings.Feed; has_keys = given.key }

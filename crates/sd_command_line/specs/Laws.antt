@@ -1,5 +1,5 @@
 -- What follows from the table of commands and from the parser of a command line.
-use Rattle.std.specs.Prelude.{◌≡◌, ℕ, ◌≤◌, List, [], ◌∷◌, length, map, Bool, true, false, Option, Some, Ok}
+use Rattle.std.specs.Prelude.{◌≡◌, ℕ, ◌≤◌, List, [], ◌∷◌, length, map, Bool, true, false, Option, Some, None, Ok}
 use Rattle.std.specs.Prelude.{codes}
 use Rattle.std.specs.Option.{option_map_or}
 use Rattle.std.specs.Borrow.{Bor}
@@ -8,11 +8,10 @@ use Rattle.sd_usage.specs.declared.row.OptionName.TheVariants.{Domain, Names}
 use Rattle.sd_usage.specs.declared.row.TextCommand.{TextCommand}
 use Rattle.sd_usage.specs.declared.row.TextCommand.TheVariants as questions
 use Rattle.sd_usage.specs.declared.table.TheConstants.{COMMANDS, OPTIONS}
-use Rattle.sd_command_line.specs.CommandLine.{InvocationValue, Ask, AskInput, Each, Help}
-use Rattle.sd_command_line.specs.CommandLine.{Version, CommandLineValue, RequestValue, CallValue, asking, asks, reading}
-use Rattle.sd_command_line.specs.CommandLine.{request_on, text_request}
+use Rattle.sd_command_line.specs.CommandLine.{CallValue, CommandLineValue, InvocationValue, RequestValue, Ask, Each}
+use Rattle.sd_command_line.specs.CommandLine.{Runs, reading, request_on, text_request}
 use Rattle.sd_command_line.specs.Options.{no_options, with_value}
-use Rattle.sd_command_line.specs.declared.flags.Lines.{Lines}
+use Rattle.sd_command_line.specs.declared.flags.GivenFlags.{GivenFlags}
 
 -- no two commands have one name, and no two options
 abbrev pub CommandsAreDistinct : Type 0
@@ -22,13 +21,12 @@ abbrev pub OptionsAreDistinct : Type 0
 OptionsAreDistinct = are_distinct (map (λ row. row.0.now) OPTIONS.now) ≡ true
 
 -- whether what was read is help or the version
-abbrev pub is_shown : InvocationValue → Bool
-is_shown (Help command) = true
-is_shown Version = true
-is_shown invocation = false
+abbrev pub is_shown : CommandLineValue → Bool
+is_shown (Runs options invocation) = false
+is_shown line = true
 
 abbrev pub shows : Option CommandLineValue → Bool
-shows read = option_map_or (λ line. is_shown line.invocation) read false
+shows read = option_map_or is_shown read false
 
 -- help and the version answer two arguments after the program's name at most
 abbrev pub HelpStandsAlone : Type 0
@@ -38,25 +36,27 @@ HelpStandsAlone = (words : List (Bor (List ℕ))) → shows (reading words) ≡ 
 abbrev pub DashesKeepTexts : TextCommand → List ℕ → Type 0
 DashesKeepTexts question command = (name word dashes sddl user mask : Bor (List ℕ)) (words : List (Bor (List ℕ)))
     → word.now ≡ command → dashes.now ≡ codes "--"
-    → reading (name ∷ word ∷ dashes ∷ sddl ∷ user ∷ mask ∷ words) ≡ Some (asking no_options
-    (Ask sddl.now (record { question = question; arguments = user ∷ mask ∷ words })))
+    → reading (name ∷ word ∷ dashes ∷ sddl ∷ user ∷ mask ∷ words) ≡ Some (Runs no_options
+    (Ask (Some sddl.now) (record { question = question; arguments = user ∷ mask ∷ words })))
 
 -- the same with options before the command
 abbrev pub OptionsKeepTexts : Type 0
 OptionsKeepTexts = (name option domain sid word dashes sddl user mask : Bor (List ℕ)) (words : List (Bor (List ℕ)))
     → option.now ≡ codes "--names" → domain.now ≡ codes "--domain" → word.now ≡ codes "why" → dashes.now ≡ codes "--"
-    → reading (name ∷ option ∷ domain ∷ sid ∷ word ∷ dashes ∷ sddl ∷ user ∷ mask ∷ words) ≡ Some (asking
+    → reading (name ∷ option ∷ domain ∷ sid ∷ word ∷ dashes ∷ sddl ∷ user ∷ mask ∷ words) ≡ Some (Runs
     (with_value (with_value no_options Names []) Domain sid.now)
-    (Ask sddl.now (record { question = questions.Why; arguments = user ∷ mask ∷ words })))
+    (Ask (Some sddl.now) (record { question = questions.Why; arguments = user ∷ mask ∷ words })))
 
--- what is asked of each line is what the command asks with the line as its first argument
+-- what is asked so of a text is what the command asks with the text as its first argument
+abbrev pub AsksTheCommand : (RequestValue → InvocationValue) → Type 0
+AsksTheCommand Invoked = (call : CallValue) (text : Bor (List ℕ)) (request : RequestValue)
+    → text_request Invoked call.command.name call ≡ Ok (Invoked request)
+    → request_on (record call { arguments = text ∷ call.arguments }) ≡ Ok (Ask (Some text.now) request)
+
+-- of each line
 abbrev pub EachAsksTheCommand : Type 0
-EachAsksTheCommand = (call : CallValue) (lines : Lines) (line : Bor (List ℕ)) (request : RequestValue)
-    → text_request (Each lines) call ≡ Ok (asks call (Each lines request))
-    → request_on (record call { arguments = line ∷ call.arguments }) ≡ Ok (asks call (Ask line.now request))
+EachAsksTheCommand = (given : GivenFlags) → AsksTheCommand (Each given)
 
--- what is asked of the input is what the command asks with the input's text as its first argument
+-- of the input
 abbrev pub InputAsksTheCommand : Type 0
-InputAsksTheCommand = (call : CallValue) (text : Bor (List ℕ)) (request : RequestValue)
-    → text_request AskInput call ≡ Ok (asks call (AskInput request))
-    → request_on (record call { arguments = text ∷ call.arguments }) ≡ Ok (asks call (Ask text.now request))
+InputAsksTheCommand = AsksTheCommand (Ask None)

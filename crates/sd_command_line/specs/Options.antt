@@ -1,6 +1,7 @@
 -- The options of a command line: what may stand between the program's name and the command, and what they say.
 use Rattle.std.specs.Prelude.{◌≡◌, ℕ, List, [], ◌∷◌, length, map, replicate, get_or, slice_set, Bool, true, false, not}
 use Rattle.std.specs.Prelude.{⊤, ◌⊎◌, is_some, if◌then◌else◌, Option, Some, None, option_map, Result, Ok, Err}
+use Rattle.std.specs.Prelude.{MatchResult}
 use Rattle.std.specs.Option.{option_map_or}
 use Rattle.std.specs.Borrow.{Bor}
 use Rattle.sd_text.specs.Domain.{domain_sid}
@@ -18,7 +19,7 @@ use Rattle.sd_usage.specs.Table.{option_named, place, takes_option}
 use Rattle.sd_usage.specs.declared.row.OptionName.{OptionName}
 use Rattle.sd_usage.specs.declared.row.OptionName.TheVariants.{Aliases, Base64, Caret, Domain, Edits, Json}
 use Rattle.sd_usage.specs.declared.row.OptionName.TheVariants.{Loose, Mapping, Names, Nodes, Percent, RequireDacl}
-use Rattle.sd_usage.specs.declared.row.OptionName.TheVariants.{Risks, Stdin, Strict, WithoutSacl}
+use Rattle.sd_usage.specs.declared.row.OptionName.TheVariants.{Risks, WithoutSacl}
 use Rattle.sd_usage.specs.declared.row.ProgramOption.{ProgramOption}
 use Rattle.sd_usage.specs.declared.row.TheConstants.{OPTION_COUNT}
 use Rattle.sd_commands.specs.Mapping.{GivesMapping, GivesNoMapping, kind_given}
@@ -76,7 +77,7 @@ options_from (Some (option, left)) options (value ∷ words) =
     then_read (λ more. options_from None more words) (with_option options left option.name value.now)
 
 abbrev pub options_in : OptionsValue → List (Bor (List ℕ)) → Result (OptionsValue × List (Bor (List ℕ))) Mistake
-options_in options words = options_from None options words
+options_in = options_from None
 
 -- ---- before which commands they go
 
@@ -100,7 +101,7 @@ misplaced_from false name named options (word ∷ words) =
     ]
 
 abbrev pub misplaced_in : List ℕ → ℕ → OptionsValue → List (Bor (List ℕ)) → Option Mistake
-misplaced_in name named options words = misplaced_from false name named options words
+misplaced_in = misplaced_from false
 
 -- options beside words that are lent
 abbrev pub parted : Options × Bor (List (Bor (List ℕ))) → OptionsValue × List (Bor (List ℕ))
@@ -120,18 +121,6 @@ byte_form_of options = if has options Base64 then forms.Base64 else if has optio
 -- how the paths of a script are spelled
 abbrev pub paths_of : OptionsValue → PathSpelling
 paths_of options = if has options Percent then paths.Percent else paths.Plain
-
--- whether the input takes the place of the first argument
-abbrev pub is_from_input : OptionsValue → Bool
-is_from_input options = has options Stdin
-
--- whether each line is printed as an object of JSON
-abbrev pub is_json : OptionsValue → Bool
-is_json options = has options Json
-
--- whether a script's fault or refusal is told by the status
-abbrev pub is_strict : OptionsValue → Bool
-is_strict options = has options Strict
 
 -- the text is the SID of this domain, or neither is there
 abbrev pub GivesDomain : Option (List ℕ) → Option DomainValue → Type 0
@@ -166,8 +155,7 @@ HasBadValue options bad = ⊥
 
 -- these settings, or this value that isn't read
 abbrev pub GivesSettings : OptionsValue → Result Settings BadValue → Type 0
-GivesSettings options (Ok settings) = AreSettings options settings
-GivesSettings options (Err bad) = HasBadValue options bad
+GivesSettings options said = MatchResult said (AreSettings options) (HasBadValue options)
 
 -- ---- what they say of a script
 
@@ -192,8 +180,8 @@ HasBadLimit options bad = ⊥
 
 -- these limits, or this value that isn't read
 abbrev pub GivesLimits : OptionsValue → Result LimitsValue BadValue → Type 0
-GivesLimits options (Ok limits) = HasNodes options limits × HasEdits options limits
-GivesLimits options (Err bad) = HasBadLimit options bad
+GivesLimits options said =
+    MatchResult said (λ limits. HasNodes options limits × HasEdits options limits) (HasBadLimit options)
 
 -- how a script is carried out
 pub record IsManner (options : OptionsValue) (manner : Manner) : Type 0 where
@@ -204,10 +192,9 @@ pub record IsManner (options : OptionsValue) (manner : Manner) : Type 0 where
   pub domain : GivesDomain (given options Domain) manner.notation.aliases.domain
   pub later : manner.notation.aliases.later ≡ has options Aliases
   pub without_sacl : manner.notation.without_sacl ≡ has options WithoutSacl
-  pub is_json : manner.notation.is_json ≡ is_json options
+  pub is_json : manner.notation.is_json ≡ has options Json
 
 -- in this manner, or this value that isn't read: a limit's only where the others' are
 abbrev pub GivesManner : OptionsValue → Result Manner BadValue → Type 0
-GivesManner options (Ok manner) = IsManner options manner
-GivesManner options (Err bad) =
-    HasBadValue options bad ⊎ (((settings : Settings) × AreSettings options settings) × HasBadLimit options bad)
+GivesManner options said = MatchResult said (IsManner options) (λ bad.
+    HasBadValue options bad ⊎ (((settings : Settings) × AreSettings options settings) × HasBadLimit options bad))

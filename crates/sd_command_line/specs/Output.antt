@@ -1,5 +1,5 @@
 -- What the program leaves in a writer whose bytes are known.
-use Rattle.std.specs.Prelude.{◌≡◌, ◌⊎◌, ℕ, Bool, ◌||◌, List, Option, Some, Result, Err, codes}
+use Rattle.std.specs.Prelude.{◌≡◌, ◌⊎◌, ℕ, Bool, ◌||◌, List, Option, Some, None, Result, Err, codes}
 use Rattle.std.specs.Io.KnownBytes.{Appends, Keeps}
 use Rattle.std.specs.Borrow.{Bor}
 use Rattle.sd_stream.specs.Streams.{AppendsBeginning, ReadsPart, is_read_error, is_write_error}
@@ -11,16 +11,15 @@ use Rattle.sd_script.specs.declared.manner.Manner.{Manner}
 use Rattle.sd_script.specs.declared.ids.TheConstants.{LINES}
 use Rattle.sd_lines.specs.Answers.{Prints}
 use Rattle.sd_lines.specs.Output.{LeavesAnswers}
-use Rattle.sd_command_line.specs.declared.flags.Lines.{Lines}
 use Rattle.sd_command_line.specs.Answer.{Answers, AnswersNext, form_of}
 use Rattle.sd_commands.specs.Answer.{AnswerValue, outcome_status}
-use Rattle.sd_command_line.specs.CommandLine.{CommandLineValue, RequestValue, Each, Script, reading, IsAudit}
+use Rattle.sd_command_line.specs.CommandLine.{CommandLineValue, Each, Runs, Script, reading, IsAudit}
 use Rattle.sd_command_line.specs.declared.command_line.ScriptRun.TheVariants.{LineByLine}
-use Rattle.sd_command_line.specs.Options.{GivesSettings, IsManner, is_json}
+use Rattle.sd_command_line.specs.Options.{GivesSettings, IsManner, has}
 use Rattle.sd_command_line.specs.declared.options.BadValue.{BadValue}
-use Rattle.sd_command_line.specs.declared.each.Progress.TheVariants.{NoLine}
 use Rattle.sd_commands.specs.declared.answer.Outcome.{Outcome}
 use Rattle.sd_commands.specs.declared.settings.Settings.{Settings}
+use Rattle.sd_usage.specs.declared.row.OptionName.TheVariants.{Json}
 
 -- ---- of a command line
 
@@ -39,31 +38,16 @@ pub record AppendsPartOfAnswerTo (line : CommandLineValue) (input old new : Opti
   pub answers : Answers input line answer
   pub beginning : AppendsBeginning old new answer.printed
 
--- line by line, what was answered until then
-pub record LeavesServed (line : CommandLineValue) (input left old new : Option (List ℕ))
-    (error : RunError) : Type 0 where
-  pub manner : Manner
-  pub has_ids : Bool
-  pub asked : line.invocation ≡ Script (LineByLine has_ids)
-  pub said : IsManner line.options manner
-  pub answers : LeavesAnswers LINES (PrintsServed has_ids manner.notation.is_json manner) input left old new error
-
--- the answers to the lines of an input, as far as it came
-pub record LeavesEach (line : CommandLineValue) (input left old new : Option (List ℕ)) (error : RunError) : Type 0 where
-  pub lines : Lines
-  pub request : RequestValue
-  pub settings : Result Settings BadValue
-  pub asked : line.invocation ≡ Each lines request
-  pub said : GivesSettings line.options settings
-  pub answers : LeavesAnswers (form_of lines.ending)
-      (Prints (form_of lines.ending) (AnswersNext lines.has_keys (is_json line.options) settings request) NoLine)
-      input left old new error
-
--- what was answered line by line until then
+-- what was answered line by line until then, of a script that is run so or of `each`
 abbrev pub LeavesLinesOf : CommandLineValue → Option (List ℕ) → Option (List ℕ) → Option (List ℕ) → Option (List ℕ)
     → RunError → Type 0
-LeavesLinesOf line input left old new error = LeavesServed line input left old new error
-    ⊎ LeavesEach line input left old new error
+LeavesLinesOf (Runs options (Script (LineByLine has_ids))) input left old new error =
+    (manner : Manner) × IsManner options manner
+    × LeavesAnswers LINES (PrintsServed has_ids manner.notation.is_json manner) input left old new error
+LeavesLinesOf (Runs options (Each given request)) input left old new error =
+    (said : Result Settings BadValue) × GivesSettings options said × LeavesAnswers (form_of given.zero)
+    (Prints (form_of given.zero) (AnswersNext given.key (has options Json) said request) None) input left old new error
+LeavesLinesOf line input left old new error = ⊥
 
 -- what stands where the answer isn't there, or not the whole of it
 abbrev pub LeavesAfter : CommandLineValue → Option (List ℕ) → Option (List ℕ) → Option (List ℕ) → Option (List ℕ)
@@ -103,4 +87,4 @@ pub record IsDue (words : List (Bor (List ℕ))) (read_before read_after write_b
   pub read : read_after ≡ (read_before || is_read_error {T = Unit {0}} (Err error))
   pub write : write_after ≡ (write_before || is_write_error {T = Unit {0}} (Err error))
   pub too_long : error ≡ TooLong → ReadsPart old new TooLong
-  pub thread : error ≡ Thread → IsAudit words
+  pub thread : error ≡ Thread → OfReading words IsAudit

@@ -12,27 +12,24 @@ abbrev pub line_note : List ℕ → Option ℕ → List ℕ
 line_note what None = []
 line_note what (Some number) = told_line (codes "line " ++ decimal number) what
 
-abbrev pub mark_note : Bool → List ℕ
-mark_note begins = if begins then told_line (codes "line 1") (codes "it begins with a byte order mark") else []
-
--- its first fault or refusal, where that is asked for
-abbrev pub first_fault_under : Bool → Tally → Option ℕ
-first_fault_under strict tally = if strict then tally.first_fault else None
+-- a line, where it is to be told
+abbrev pub line_if : Bool → Option ℕ → Option ℕ
+line_if is_told line = if is_told then line else None
 
 -- how many answers were expected, how many weren't given, and the first line that expected one of these
 abbrev pub expect_note : (expected unmet : ℕ) → Option ℕ → List ℕ
 expect_note expected unmet None =
     if expected == 0 then [] else told_line (codes "expect") (decimal expected ++ codes " expected, all met")
-expect_note expected unmet (Some number) = told_line (codes "expect") (decimal expected ++ codes " expected, "
-    ++ decimal unmet ++ codes " not met, the first in line " ++ decimal number)
+expect_note expected unmet (Some number) = told_line (codes "expect") (decimal expected ++ (codes " expected, "
+    ++ (decimal unmet ++ (codes " not met, the first in line " ++ decimal number))))
 
 abbrev pub script_notes : Bool → Tally → List ℕ
 script_notes strict tally =
-    mark_note tally.begins_with_mark
-    ++ line_note (codes "the node inherits otherwise than its descriptor says") tally.first_difference
-    ++ line_note (codes "the node's own entries are in canonical order now") tally.first_reordered
-    ++ line_note (codes "a fault or a refusal") (first_fault_under strict tally)
-    ++ expect_note tally.expected tally.unmet tally.first_unmet
+    line_note (codes "it begins with a byte order mark") (line_if tally.begins_with_mark (Some 1))
+    ++ (line_note (codes "the node inherits otherwise than its descriptor says") tally.first_difference
+    ++ (line_note (codes "the node's own entries are in canonical order now") tally.first_reordered
+    ++ (line_note (codes "a fault or a refusal") (line_if strict tally.first_fault)
+    ++ expect_note tally.expected tally.unmet tally.first_unmet)))
 
 -- nothing is told where memory for it was refused
 abbrev pub IsToldOfScript : Bool → Tally → List ℕ → Type 0

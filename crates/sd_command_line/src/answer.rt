@@ -1,54 +1,50 @@
-//! The one answer to a command line that runs no script and asks nothing of each line.
-ghost use Rattle.std.specs.Prelude.{◌≡◌, ◌≢◌, ◌||◌, true, false, Err, IfErr, IfOk};
+//! The one answer of a command to a text.
+ghost use Rattle.std.specs.Prelude.{◌≡◌, ◌≢◌, ◌||◌, true, Err, IfErr, IfOk, is_some, option_map};
 ghost use Rattle.sd_stream.specs.Watched.{has_failed, inner_of};
 ghost use Rattle.sd_stream.specs.Streams.{ReadsPart, is_read_error};
 ghost use Rattle.sd_commands.specs.Answer.{answer_of};
 ghost use Rattle.sd_command_line.specs.Answer.{AnswersOnce, IsBadOption, IsBadValue};
-ghost use Rattle.sd_command_line.specs.CommandLine.{has_one_answer, invocation_of, uses_input};
+ghost use Rattle.sd_command_line.specs.CommandLine.{request_of};
 ghost use Rattle.sd_command_line.specs.Options.{options_of};
 
-use crate::command_line::{CommandLine, Invocation};
+use crate::command_line::TextRequest;
 use crate::input::answer_input;
-use crate::options::BadValue;
-use crate::version::version_text;
+use crate::options::{BadValue, Options};
 use sd_commands::{Answer, answer_question, fault, sid_reason, told_line};
 use sd_stream::{RunError, Watched, read_whole};
 use sd_text::Aliases;
-use sd_usage::help;
 use std::alloc::{AllocError, Global};
 use std::io::Read;
 
-/// The answer before its lines are objects. Only a command after `--stdin` uses `reader`.
+/// The answer to a text, or without one to the input, before its lines are objects. Only without one it uses `reader`.
 pub(crate) fn answer_to<R: Read>(
     alloc: Global,
-    line: CommandLine<'_>,
+    options: Options<'_>,
+    text: Option<&str>,
+    request: TextRequest<'_>,
     reader: &mut Watched<R>,
 ) -> Result<Answer, RunError>
-    requires { has_one_answer (invocation_of line.invocation) ≡ true }
-    ensures ok { IfOk result (λ answer. AnswersOnce (R.remaining (inner_of reader.old))
-        (options_of line.entry.options) (invocation_of line.entry.invocation) (answer_of answer)) }
+    ensures ok { IfOk result (λ answer. AnswersOnce (R.remaining (inner_of reader.old)) (options_of options.entry)
+        (option_map (λ text. text.now) text.entry) (request_of request.entry) (answer_of answer)) }
     ensures err { IfErr result (λ error. (error ≢ RunError.Write) × (error ≢ RunError.Thread)) }
     ensures read { has_failed reader.new ≡ (has_failed reader.old || is_read_error result) }
     ensures too_long { result ≡ Err RunError.TooLong
         → ReadsPart (R.remaining (inner_of reader.old)) (R.remaining (inner_of reader.new)) RunError.TooLong }
-    ensures unused { uses_input (invocation_of line.entry.invocation) ≡ false → reader.new ≡ reader.old }
+    ensures unused { is_some text.entry ≡ true → reader.new ≡ reader.old }
 {
-    let settings = match line.options.settings() {
+    let settings = match options.settings() {
         Ok(settings) => settings,
         Err(bad) => return Ok(bad_value(alloc, bad)?),
     };
-    match line.invocation {
-        Invocation::Ask { text, request } => {
+    match text {
+        Some(text) => {
             let (question, arguments) = (request.question, request.arguments);
             Ok(answer_question(alloc, settings, question, text, arguments)?)
         }
-        Invocation::AskInput { request } => {
+        None => {
             let input = read_whole(alloc, reader)?;
             Ok(answer_input(alloc, settings, request, &input)?)
         }
-        Invocation::Help { command } => Ok(Answer::done(alloc, help(alloc, command)?)),
-        Invocation::Version => Ok(Answer::done(alloc, version_text(alloc)?)),
-        _ => unreachable!(),
     }
 }
 

@@ -1,63 +1,50 @@
 //! The parser of a command line: what its arguments ask for, by the table of commands and options.
 ghost use Rattle.std.specs.Prelude.{◌≡◌, option_map};
-ghost use Rattle.sd_command_line.specs.CommandLine.{AskInput, Each, arguments_in, asked_of, asks, call_in, call_of};
-ghost use Rattle.sd_command_line.specs.CommandLine.{command_help, command_in, command_line_of, count_of, help_on};
-ghost use Rattle.sd_command_line.specs.CommandLine.{invocation_of, miscounted, parsed, request_after, request_of};
-ghost use Rattle.sd_command_line.specs.CommandLine.{request_on, run_by, shown_by, text_request, uses_input};
-ghost use Rattle.sd_command_line.specs.CommandLine.{with_options, workers_of};
-ghost use Rattle.sd_command_line.specs.Mistake.{map_read, then_read};
-ghost use Rattle.sd_command_line.specs.Options.{options_of};
+ghost use Rattle.sd_command_line.specs.CommandLine.{arguments_in, asked_by, asks, call_in, call_of, command_line_of};
+ghost use Rattle.sd_command_line.specs.CommandLine.{count_of, first_call, help_on, invocation_of, line_of, miscounted};
+ghost use Rattle.sd_command_line.specs.CommandLine.{parsed, request_after, request_of, request_on, shown_by};
+ghost use Rattle.sd_command_line.specs.CommandLine.{uses_input, workers_of};
+ghost use Rattle.sd_command_line.specs.Mistake.{map_read};
+ghost use Rattle.sd_command_line.specs.Options.{no_options, options_of};
 
-use crate::flags::{GivenFlags, Lines, flags_in};
-use crate::mistake::{Mistake, Wrong, word_at};
+use crate::flags::{GivenFlags, flags_in};
+use crate::mistake::{Mistake, Wrong};
 use crate::options::{Options, misplaced_in, options_in};
 use crate::words::{is_help, is_help_flag, is_version_flag, no_command};
-use sd_usage::{Command, CommandName, Flag, TextCommand, command_named};
+use sd_usage::{Command, CommandName, OptionName, TextCommand, command_named};
 
 /// What a command line asks for, and with which options.
 #[derive(Clone, Copy, Debug)]
 pub(crate) struct CommandLine<'a> {
     pub(crate) options: Options<'a>,
-    pub(crate) invocation: Invocation<'a>,
+    pub(crate) asked: Asked<'a>,
 }
 
 /// What is asked for.
 #[derive(Clone, Copy, Debug)]
+pub(crate) enum Asked<'a> {
+    /// The help on a command, or on the program.
+    Help { command: Option<CommandName> },
+    /// The version of the program.
+    Version,
+    Runs(Invocation<'a>),
+}
+
+/// What a command is asked.
+#[derive(Clone, Copy, Debug)]
 pub(crate) enum Invocation<'a> {
-    /// The answer to a text.
+    /// The answer to a text, which standard input is where none is given.
     Ask {
-        text: &'a str,
+        text: Option<&'a str>,
         request: TextRequest<'a>,
     },
-    /// The answer to the text that standard input is.
-    AskInput {
+    /// The answer to each line of standard input.
+    Each {
+        given: GivenFlags,
         request: TextRequest<'a>,
     },
     /// The output of the script on standard input.
     Script(ScriptRun),
-    /// The answer to each line of standard input.
-    Each {
-        lines: Lines,
-        request: TextRequest<'a>,
-    },
-    /// The help on a command, or on the program.
-    Help {
-        command: Option<CommandName>,
-    },
-    /// The version of the program.
-    Version,
-}
-
-impl Invocation<'_> {
-    /// Whether it is answered from the input.
-    pub(crate) fn uses_input(self) -> bool
-        ensures { result ≡ uses_input (invocation_of self.entry) }
-    {
-        !matches!(
-            self,
-            Invocation::Ask { .. } | Invocation::Help { .. } | Invocation::Version
-        )
-    }
 }
 
 /// How a script is run.
@@ -77,31 +64,39 @@ pub(crate) struct TextRequest<'a> {
     pub(crate) arguments: &'a [&'a str],
 }
 
-/// What is asked for.
-#[derive(Clone, Copy)]
-struct Asked<'a> {
-    /// How many arguments there are from the command on: of `each` from the one for its lines.
-    named: usize,
-    invocation: Invocation<'a>,
-}
-
-/// A command, and what follows it.
+/// A command after these options, with which the words begin, and what follows it.
 #[derive(Clone, Copy)]
 struct Call<'a> {
-    command: Command,
-    /// How many arguments there are from the command on.
+    options: Options<'a>,
+    words: &'a [&'a str],
+    name: &'a str,
+    /// How many arguments there are from the name on.
     named: usize,
+    command: Command,
     given: GivenFlags,
     arguments: &'a [&'a str],
 }
 
-impl<'a> Call<'a> {
-    fn asks(self, invocation: Invocation<'a>) -> Asked<'a>
-        ensures { asked_of result ≡ asks (call_of self.entry) (invocation_of invocation.entry) }
+impl CommandLine<'_> {
+    /// Whether it is answered from the input.
+    pub(crate) fn uses_input(self) -> bool
+        ensures { result ≡ uses_input (command_line_of self.entry) }
     {
-        Asked {
-            named: self.named,
-            invocation,
+        match self.asked {
+            Asked::Runs(invocation) => !matches!(invocation, Invocation::Ask { text: Some(_), .. }),
+            _ => false,
+        }
+    }
+}
+
+impl<'a> Call<'a> {
+    /// What is asked for, where each option before the command may go there.
+    fn asks(self, invocation: Invocation<'a>) -> Result<Invocation<'a>, Mistake>
+        ensures { map_read invocation_of result ≡ asks (call_of self.entry) (invocation_of invocation.entry) }
+    {
+        match misplaced_in(self.name, self.named, self.options, self.words) {
+            Some(mistake) => Err(mistake),
+            None => Ok(invocation),
         }
     }
 
@@ -136,160 +131,131 @@ impl<'a> Call<'a> {
             arguments: self.arguments,
         })
     }
+
+    /// What a command asks for with its arguments, as many as it takes.
+    fn request_on(self) -> Result<Invocation<'a>, Mistake>
+        ensures { map_read invocation_of result ≡ request_on (call_of self.entry) }
+    {
+        if !self.command.takes_count(self.arguments.len()) {
+            return Err(self.miscounted(self.arguments.len()));
+        }
+        match (self.command.name, self.arguments) {
+            (CommandName::Ask(_), [text, arguments @ ..]) => {
+                let request = Call { arguments, ..self }.request_after()?;
+                let text = Some(*text);
+                self.asks(Invocation::Ask { text, request })
+            }
+            (CommandName::Script, _) => self.asks(Invocation::Script(ScriptRun::AtOnce)),
+            (CommandName::Serve, _) => {
+                let has_ids = self.given.ids;
+                self.asks(Invocation::Script(ScriptRun::LineByLine { has_ids }))
+            }
+            (CommandName::Audit, [workers, ..]) => match workers_in(workers) {
+                Some(workers) => self.asks(Invocation::Script(ScriptRun::Audit { workers })),
+                None => {
+                    let wrong = Wrong::NoWorkers(self.command);
+                    Err(Mistake::new(self.arguments.len(), self.named, wrong))
+                }
+            },
+            (CommandName::Each, words) => {
+                let call = call_in(self.options, self.words, words)?;
+                let (given, request) = (self.given, call.request_after()?);
+                call.asks(Invocation::Each { given, request })
+            }
+            _ => Err(self.miscounted(self.arguments.len())),
+        }
+    }
+
+    /// The same, or after `--stdin` what it asks of the input.
+    fn asked(self) -> Result<Invocation<'a>, Mistake>
+        ensures { map_read invocation_of result ≡ asked_by (call_of self.entry) }
+    {
+        if !self.options.has(OptionName::Stdin) {
+            return self.request_on();
+        }
+        let request = self.request_after()?;
+        self.asks(Invocation::Ask {
+            text: None,
+            request,
+        })
+    }
 }
 
 /// What the arguments ask for, of which the first is the program's name, or the first mistake in them.
 pub(crate) fn read_command_line<'a>(words: &'a [&'a str]) -> Result<CommandLine<'a>, Mistake>
     ensures { map_read command_line_of result ≡ parsed words.entry.now }
 {
-    match words {
-        [] => Err(no_command(words)),
-        [_, words @ ..] => match shown_by(words) {
-            Some(invocation) => Ok(CommandLine {
-                options: Options::none(),
-                invocation,
-            }),
-            None => run_by(words),
-        },
+    let [_, words @ ..] = words else {
+        return Err(no_command(words));
+    };
+    if let Some(asked) = shown_by(words) {
+        return Ok(CommandLine {
+            options: Options::none(),
+            asked,
+        });
     }
+    let call = first_call(words)?;
+    let invocation = call.asked()?;
+    Ok(CommandLine {
+        options: call.options,
+        asked: Asked::Runs(invocation),
+    })
 }
 
 /// The help or the version that the arguments after the program's name ask for.
-fn shown_by<'a>(words: &[&str]) -> Option<Invocation<'a>>
-    ensures { option_map invocation_of result ≡ shown_by words.now }
+fn shown_by<'a>(words: &[&str]) -> Option<Asked<'a>>
+    ensures { option_map (line_of no_options) result ≡ shown_by words.now }
 {
     match words {
-        [word] if is_help_flag(word) || is_help(word) => Some(Invocation::Help { command: None }),
-        [word] if is_version_flag(word) => Some(Invocation::Version),
+        [word] if is_help_flag(word) || is_help(word) => Some(Asked::Help { command: None }),
+        [word] if is_version_flag(word) => Some(Asked::Version),
+        [word, next] if is_help(word) && is_help(next) => Some(Asked::Help { command: None }),
         [word, next] if is_help(word) => help_on(next),
-        [word, flag] if is_help_flag(flag) => help_on_command(word),
+        [word, flag] if is_help_flag(flag) => help_on(word),
         _ => None,
     }
 }
 
-/// A command after options that it takes.
-fn run_by<'a>(words: &'a [&'a str]) -> Result<CommandLine<'a>, Mistake>
-    ensures { map_read command_line_of result ≡ run_by words.entry.now }
+/// The command after the options with which the words begin.
+fn first_call<'a>(words: &'a [&'a str]) -> Result<Call<'a>, Mistake>
+    ensures { map_read call_of result ≡ first_call words.entry.now }
 {
-    let (options, rest) = options_in(words)?;
-    let asked = command_in(options.is_from_input(), rest)?;
-    with_options(options, words, asked)
+    let (options, rest) = options_in(Options::none(), words)?;
+    call_in(options, words, rest)
 }
 
-/// What is asked for, where each of these options, with which the arguments begin, may go before the command.
-fn with_options<'a>(
+/// The command that the arguments after these options begin with, its own options, a first `--`, and its arguments.
+fn call_in<'a>(
     options: Options<'a>,
-    words: &[&str],
-    asked: Asked<'a>,
-) -> Result<CommandLine<'a>, Mistake>
-    ensures { map_read command_line_of result
-        ≡ with_options (options_of options.entry) words.now (asked_of asked.entry) }
+    words: &'a [&'a str],
+    rest: &'a [&'a str],
+) -> Result<Call<'a>, Mistake>
+    ensures { map_read call_of result ≡ call_in (options_of options.entry) words.entry.now rest.entry.now }
 {
-    match misplaced_in(word_at(words, asked.named), asked.named, options, words) {
-        Some(mistake) => Err(mistake),
-        None => Ok(CommandLine {
-            options,
-            invocation: asked.invocation,
-        }),
-    }
-}
-
-/// The command that the arguments begin with, and what it asks for: the input can be its first argument.
-fn command_in<'a>(from_input: bool, words: &'a [&'a str]) -> Result<Asked<'a>, Mistake>
-    ensures { map_read asked_of result ≡ command_in from_input words.entry.now }
-{
-    let call = call_in(words)?;
-    if from_input {
-        input_request(call)
-    } else {
-        request_on(call)
-    }
-}
-
-/// The command that the arguments begin with, and what follows it: its own options, a first `--`, and its arguments.
-fn call_in<'a>(words: &'a [&'a str]) -> Result<Call<'a>, Mistake>
-    ensures { map_read call_of result ≡ call_in words.entry.now }
-{
-    let [word, after @ ..] = words else {
-        return Err(no_command(words));
+    let [name, after @ ..] = rest else {
+        return Err(no_command(rest));
     };
-    let Some(command) = command_named(word) else {
-        return Err(no_command(words));
+    let Some(command) = command_named(name) else {
+        return Err(no_command(rest));
     };
     let (given, after) = flags_in(command, GivenFlags::none(), after);
     Ok(Call {
+        options,
+        words,
+        name,
+        named: rest.len(),
         command,
-        named: words.len(),
         given,
         arguments: arguments_in(after),
     })
 }
 
-/// What a command asks for with its arguments, as many as it takes.
-fn request_on<'a>(call: Call<'a>) -> Result<Asked<'a>, Mistake>
-    ensures { map_read asked_of result ≡ request_on (call_of call.entry) }
-{
-    if !call.command.takes_count(call.arguments.len()) {
-        return Err(call.miscounted(call.arguments.len()));
-    }
-    match (call.command.name, call.arguments) {
-        (CommandName::Ask(question), [text, arguments @ ..]) => {
-            let request = TextRequest {
-                question,
-                arguments,
-            };
-            Ok(call.asks(Invocation::Ask { text, request }))
-        }
-        (CommandName::Script, _) => Ok(call.asks(Invocation::Script(ScriptRun::AtOnce))),
-        (CommandName::Serve, _) => {
-            let has_ids = call.given.has(Flag::Ids);
-            Ok(call.asks(Invocation::Script(ScriptRun::LineByLine { has_ids })))
-        }
-        (CommandName::Audit, [workers, ..]) => match workers_in(workers) {
-            Some(workers) => Ok(call.asks(Invocation::Script(ScriptRun::Audit { workers }))),
-            None => {
-                let wrong = Wrong::NoWorkers(call.command);
-                Err(Mistake::new(call.arguments.len(), call.named, wrong))
-            }
-        },
-        (CommandName::Each, words) => line_request(call.given.lines(), words),
-        _ => Err(call.miscounted(call.arguments.len())),
-    }
-}
-
-/// What is asked of each line, by the command and its arguments without the line.
-fn line_request<'a>(lines: Lines, words: &'a [&'a str]) -> Result<Asked<'a>, Mistake>
-    ensures { map_read asked_of result ≡ then_read (text_request (Each lines)) (call_in words.entry.now) }
-{
-    let call = call_in(words)?;
-    let request = call.request_after()?;
-    Ok(call.asks(Invocation::Each { lines, request }))
-}
-
-/// What a command asks of the text that the input is.
-fn input_request<'a>(call: Call<'a>) -> Result<Asked<'a>, Mistake>
-    ensures { map_read asked_of result ≡ text_request AskInput (call_of call.entry) }
-{
-    let request = call.request_after()?;
-    Ok(call.asks(Invocation::AskInput { request }))
-}
-
-/// The help that a text after `help` asks for: on the command that it names, or, as `help` itself, on the program.
-fn help_on<'a>(word: &str) -> Option<Invocation<'a>>
-    ensures { option_map invocation_of result ≡ help_on word.now }
-{
-    if is_help(word) {
-        return Some(Invocation::Help { command: None });
-    }
-    help_on_command(word)
-}
-
 /// The help on the command that the text names.
-fn help_on_command<'a>(word: &str) -> Option<Invocation<'a>>
-    ensures { option_map invocation_of result ≡ command_help word.now }
+fn help_on<'a>(word: &str) -> Option<Asked<'a>>
+    ensures { option_map (line_of no_options) result ≡ help_on word.now }
 {
     let command = Some(command_named(word)?.name);
-    Some(Invocation::Help { command })
+    Some(Asked::Help { command })
 }
 
 /// The arguments after a command, without a first `--`: a way to say that what follows is no flag.

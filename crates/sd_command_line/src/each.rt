@@ -3,18 +3,18 @@ ghost use Rattle.std.specs.Prelude.{◌≡◌, ◌≢◌, ◌≤◌, ◌||◌, �
 ghost use Rattle.std.specs.Prelude.{option_map, string_bytes};
 ghost use Rattle.sd_stream.specs.Watched.{has_failed, inner_of};
 ghost use Rattle.sd_stream.specs.Streams.{is_read_error, is_write_error};
-ghost use Rattle.sd_commands.specs.Answer.{answer_of, is_refusal, outcome_status};
-ghost use Rattle.sd_command_line.specs.Answer.{AnswersKeyed, AnswersLine, AnswersNext, AnswersText, AnswersTold};
+ghost use Rattle.sd_commands.specs.Answer.{answer_of, outcome_status};
+ghost use Rattle.sd_command_line.specs.Answer.{AnswersLine, AnswersLineIn, AnswersNext, AnswersText, AnswersTold};
 ghost use Rattle.sd_command_line.specs.Answer.{after_answer, form_of, tagging_of};
-ghost use Rattle.sd_command_line.specs.CommandLine.{Each, asking, request_of};
+ghost use Rattle.sd_command_line.specs.CommandLine.{Each, Runs, request_of};
 ghost use Rattle.sd_command_line.specs.Each.{after_key, has_feed, has_key, key_len, key_of, no_line_note};
-ghost use Rattle.sd_command_line.specs.Each.{outcome_of_lines, told_of_lines, with_line};
+ghost use Rattle.sd_command_line.specs.Each.{told_of_lines, with_line};
 ghost use Rattle.sd_command_line.specs.Options.{options_of};
 ghost use Rattle.sd_command_line.specs.Output.{AppendsAnswerTo, LeavesAfter};
 
 use crate::answer::bad_value;
 use crate::command_line::TextRequest;
-use crate::flags::Lines;
+use crate::flags::GivenFlags;
 use crate::input::is_blank;
 use crate::options::{BadValue, Options};
 use crate::perform::Ended;
@@ -23,53 +23,10 @@ use sd_json::{Tagging, printed_as};
 use sd_lines::{AnswersLines, Ending, Form, answer_lines};
 use sd_script::tagged;
 use sd_stream::{RunError, Watched};
-use sd_usage::TextCommand;
+use sd_usage::{OptionName, TextCommand};
 use std::alloc::{AllocError, Global};
 use std::io::{Read, Write};
 use std::str::from_utf8;
-
-/// How the lines so far were answered.
-#[derive(Clone, Copy, Debug)]
-enum Progress {
-    /// There was none.
-    NoLine,
-    /// None was refused.
-    AllDone,
-    AnyRefused,
-}
-
-impl Progress {
-    /// The same with one more line, of which this came.
-    fn with_line(self, outcome: Outcome) -> Progress
-        ensures { result ≡ with_line self (is_refusal outcome) }
-    {
-        match self {
-            Progress::NoLine | Progress::AllDone if !outcome.is_refusal() => Progress::AllDone,
-            _ => Progress::AnyRefused,
-        }
-    }
-
-    /// What came of all of them. An input without a line is refused.
-    fn outcome(self) -> Outcome
-        ensures { result ≡ outcome_of_lines self }
-    {
-        match self {
-            Progress::AllDone => Outcome::Done,
-            Progress::NoLine | Progress::AnyRefused => Outcome::Refused,
-        }
-    }
-
-    /// What standard error is told of them: this note, where there was none.
-    fn told(self, alloc: Global, note: String) -> String
-        requires { string_bytes note ≡ no_line_note }
-        ensures { string_bytes result ≡ told_of_lines self }
-    {
-        match self {
-            Progress::NoLine => note,
-            Progress::AllDone | Progress::AnyRefused => String::new(alloc),
-        }
-    }
-}
 
 /// What is printed of a line, and what came of it.
 #[derive(Drop)]
@@ -91,7 +48,8 @@ struct LineQuestion<'a> {
 }
 
 impl AnswersLines for LineQuestion<'_> {
-    type State = Progress;
+    /// What came of the lines so far, if there was one.
+    type State = Option<Outcome>;
 
     ghost answers = { λ question before told printed after. AnswersNext question.has_keys question.is_json
         question.settings (request_of question.request) before told printed after };
@@ -99,18 +57,14 @@ impl AnswersLines for LineQuestion<'_> {
     fn answer(
         &self,
         alloc: Global,
-        progress: &mut Progress,
+        lines: &mut Option<Outcome>,
         line: Option<&[u8]>,
         text: &mut Vec<u8>,
     ) -> Result<(), AllocError> {
-        let answered = if self.has_keys {
-            self.answer_keyed(alloc, line)?
-        } else {
-            self.answer_line(alloc, line)?
-        };
+        let answered = self.answer_in(alloc, line)?;
         let printed = printed_as(alloc, self.is_json, self.tagging(), answered.printed)?;
         text.extend_from_slice(&printed)?;
-        *progress = progress.with_line(answered.outcome);
+        *lines = with_line(*lines, answered.outcome);
         Ok(())
     }
 }
@@ -126,12 +80,16 @@ impl LineQuestion<'_> {
         }
     }
 
-    /// The answer to a line that is a key, a tab and a text: the text's, each line of which begins with the key and the
-    /// tab. A line without a key is a fault.
-    fn answer_keyed(&self, alloc: Global, line: Option<&[u8]>) -> Result<Answered, AllocError>
-        ensures { IfOk result (λ answered. AnswersKeyed self.now.settings (request_of self.now.request)
-            (option_map (λ bytes. bytes.now) line.entry) answered.printed.items (is_refusal answered.outcome)) }
+    /// The answer to a line: where lines have keys and it is a key, a tab and a text, the text's, each line of which
+    /// begins with the key and the tab. One without a key is a fault.
+    fn answer_in(&self, alloc: Global, line: Option<&[u8]>) -> Result<Answered, AllocError>
+        ensures { IfOk result (λ answered. AnswersLineIn self.now.has_keys self.now.settings
+            (request_of self.now.request) (option_map (λ bytes. bytes.now) line.entry)
+            answered.printed.items answered.outcome) }
     {
+        if !self.has_keys {
+            return self.answer_line(alloc, line);
+        }
         let Some(bytes) = line else {
             return self.answer_line(alloc, None);
         };
@@ -148,7 +106,7 @@ impl LineQuestion<'_> {
     /// The answer to a line, and what follows it.
     fn answer_line(&self, alloc: Global, line: Option<&[u8]>) -> Result<Answered, AllocError>
         ensures { IfOk result (λ answered. AnswersLine self.now.settings (request_of self.now.request)
-            (option_map (λ bytes. bytes.now) line.entry) answered.printed.items (is_refusal answered.outcome)) }
+            (option_map (λ bytes. bytes.now) line.entry) answered.printed.items answered.outcome) }
     {
         self.ended(alloc, self.answer_told(alloc, line)?)
     }
@@ -240,12 +198,33 @@ fn after_answer(question: TextCommand) -> &'static str
     }
 }
 
-/// The lines of an input, of which one that is too long is answered too.
-fn form_of(ending: Ending) -> Form
-    ensures { result ≡ form_of ending }
+/// What came of the lines, if there was one, with one more, of which this came.
+fn with_line(lines: Option<Outcome>, outcome: Outcome) -> Option<Outcome>
+    ensures { result ≡ with_line lines outcome }
+{
+    match lines {
+        Some(Outcome::Refused) => lines,
+        _ => Some(outcome),
+    }
+}
+
+/// What standard error is told of the lines: this note, where there was none.
+fn told_of_lines(alloc: Global, lines: Option<Outcome>, note: String) -> String
+    requires { string_bytes note ≡ no_line_note }
+    ensures { string_bytes result ≡ told_of_lines lines }
+{
+    match lines {
+        None => note,
+        Some(_) => String::new(alloc),
+    }
+}
+
+/// The lines of an input, each of which a zero byte or a line feed ends. One that is too long is answered too.
+fn form_of(zero: bool) -> Form
+    ensures { result ≡ form_of zero }
 {
     Form {
-        ending,
+        ending: if zero { Ending::Zero } else { Ending::Feed },
         skips_mark: true,
         stops_at_long: false,
         line_by_line: false,
@@ -256,17 +235,17 @@ fn form_of(ending: Ending) -> Form
 pub(crate) fn answer_each<R: Read, W: Write>(
     alloc: Global,
     options: Options<'_>,
-    lines: Lines,
+    given: GivenFlags,
     request: TextRequest<'_>,
     reader: &mut Watched<R>,
     writer: &mut Watched<W>,
 ) -> Result<Ended, RunError>
     ensures ok { IfOk result (λ ended. AppendsAnswerTo
-        (asking (options_of options.entry) (Each lines (request_of request.entry))) (R.remaining (inner_of reader.old))
+        (Runs (options_of options.entry) (Each given (request_of request.entry))) (R.remaining (inner_of reader.old))
         (W.contents (inner_of writer.old)) (W.contents (inner_of writer.new)) (string_bytes ended.told)
         (outcome_status ended.outcome)) }
     ensures err { IfErr result (LeavesAfter
-        (asking (options_of options.entry) (Each lines (request_of request.entry)))
+        (Runs (options_of options.entry) (Each given (request_of request.entry)))
         (R.remaining (inner_of reader.old)) (R.remaining (inner_of reader.new))
         (W.contents (inner_of writer.old)) (W.contents (inner_of writer.new))) }
     ensures read { has_failed reader.new ≡ (has_failed reader.old || is_read_error result) }
@@ -275,22 +254,16 @@ pub(crate) fn answer_each<R: Read, W: Write>(
 {
     let note = told_line(alloc, "standard input", "no line")?;
     let question = LineQuestion {
-        has_keys: lines.has_keys,
-        is_json: options.is_json(),
+        has_keys: given.key,
+        is_json: options.has(OptionName::Json),
         settings: options.settings(),
         request,
     };
-    let mut progress = Progress::NoLine;
-    answer_lines(
-        alloc,
-        &question,
-        &mut progress,
-        form_of(lines.ending),
-        reader,
-        writer,
-    )?;
+    let mut lines = None;
+    let form = form_of(given.zero);
+    answer_lines(alloc, &question, &mut lines, form, reader, writer)?;
     Ok(Ended {
-        told: progress.told(alloc, note),
-        outcome: progress.outcome(),
+        told: told_of_lines(alloc, lines, note),
+        outcome: lines.unwrap_or(Outcome::Refused),
     })
 }

@@ -1,16 +1,15 @@
 //! A command's own options, which stand between it and its arguments.
 ghost use Rattle.std.specs.Prelude.{◌≡◌};
-ghost use Rattle.sd_command_line.specs.Flags.{flags_in, is_given, lines_by, no_flags, with_flag, with_words};
+ghost use Rattle.sd_command_line.specs.Flags.{flags_in, is_given, no_flags, with_flag, with_words};
 
-use sd_lines::Ending;
 use sd_usage::{Command, Flag};
 
 /// Which of its own options a command is given.
 #[derive(Clone, Copy, Debug)]
 pub(crate) struct GivenFlags {
-    ids: bool,
-    zero: bool,
-    key: bool,
+    pub(crate) ids: bool,
+    pub(crate) zero: bool,
+    pub(crate) key: bool,
 }
 
 impl GivenFlags {
@@ -25,7 +24,7 @@ impl GivenFlags {
         }
     }
 
-    pub(crate) fn has(self, flag: Flag) -> bool
+    fn has(self, flag: Flag) -> bool
         ensures { result ≡ is_given self flag }
     {
         match flag {
@@ -45,28 +44,6 @@ impl GivenFlags {
             Flag::Key => GivenFlags { key: true, ..self },
         }
     }
-
-    /// What the lines of `each` are.
-    pub(crate) fn lines(self) -> Lines
-        ensures { result ≡ lines_by self }
-    {
-        Lines {
-            ending: if self.zero {
-                Ending::Zero
-            } else {
-                Ending::Feed
-            },
-            has_keys: self.key,
-        }
-    }
-}
-
-/// What the lines of `each` are.
-#[derive(Clone, Copy, Debug)]
-pub(crate) struct Lines {
-    pub(crate) ending: Ending,
-    /// Whether each begins with a key and a tab.
-    pub(crate) has_keys: bool,
 }
 
 /// The command's own options that the arguments begin with, each once, beside those that are given, and the arguments

@@ -3,7 +3,7 @@ ghost use Rattle.std.specs.Prelude.{◌≡◌, IfOk};
 ghost use Rattle.std.specs.Str.Lines.{strip_carriage_return};
 ghost use Rattle.sd_commands.specs.Answer.{answer_of};
 ghost use Rattle.sd_stream.specs.Decoder.{decoded};
-ghost use Rattle.sd_command_line.specs.Answer.{AnswersFilled, AnswersInput, IsInputFault, IsNoText};
+ghost use Rattle.sd_command_line.specs.Answer.{AnswersFilled, AnswersInput, IsInputFault};
 ghost use Rattle.sd_command_line.specs.CommandLine.{request_of};
 ghost use Rattle.sd_command_line.specs.Input.{is_blank, is_utf16, is_white, without_end};
 
@@ -27,7 +27,8 @@ pub(crate) fn answer_input(
     let bytes = decoded(alloc, input)?;
     match from_utf8(without_end(&bytes)) {
         Ok(text) => answer_filled(alloc, settings, request, text),
-        Err(_) => no_text(alloc, input),
+        Err(_) if is_utf16(input) => input_fault(alloc, "utf16", "not UTF-16"),
+        Err(_) => input_fault(alloc, "utf8", "not UTF-8"),
     }
 }
 
@@ -40,17 +41,6 @@ fn decoded(alloc: Global, input: &[u8]) -> Result<Vec<u8>, AllocError>
     decoder.decode(alloc, input, &mut text)?;
     decoder.end(&mut text)?;
     Ok(text)
-}
-
-/// The answer to an input that isn't in its encoding.
-fn no_text(alloc: Global, input: &[u8]) -> Result<Answer, AllocError>
-    ensures { IfOk result (λ answer. IsNoText input.now (answer_of answer)) }
-{
-    if is_utf16(input) {
-        input_fault(alloc, "utf16", "not UTF-16")
-    } else {
-        input_fault(alloc, "utf8", "not UTF-8")
-    }
 }
 
 fn answer_filled(

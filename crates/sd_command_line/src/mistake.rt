@@ -1,7 +1,7 @@
 //! What is wrong with a command line, and what standard error gets for it.
-ghost use Rattle.std.specs.Prelude.{◌≡◌, ◌++◌, [], IfOk, codes, string_bytes};
+ghost use Rattle.std.specs.Prelude.{◌≡◌, ◌++◌, [], IfOk, string_bytes};
 ghost use Rattle.sd_answer.specs.Answer.{line};
-ghost use Rattle.sd_usage.specs.Texts.{listed_commands, usage_line};
+ghost use Rattle.sd_usage.specs.Texts.{listed_commands};
 ghost use Rattle.sd_command_line.specs.Mistake.{hint, message, mistake, phrase, place_text, subject, word_at};
 
 use sd_commands::escaped_word;
@@ -137,7 +137,11 @@ fn hint(alloc: Global, name: &str, wrong: Wrong) -> Result<String, AllocError>
         Wrong::NoText => commands_hint(alloc, "commands that do: ", Commands::Answering),
         Wrong::MissingArgument(_, command)
         | Wrong::SurplusArgument(command)
-        | Wrong::NoWorkers(command) => usage_hint(alloc, name, command),
+        | Wrong::NoWorkers(command) => {
+            let usage = usage_line(alloc, name, command)?;
+            let text = format!(in alloc; "usage: {usage}\n")?;
+            Ok(text)
+        }
     }
 }
 
@@ -146,13 +150,5 @@ fn commands_hint(alloc: Global, what: &str, commands: Commands) -> Result<String
 {
     let names = listed_commands(alloc, commands, "")?;
     let text = format!(in alloc; "{what}{names}\n")?;
-    Ok(text)
-}
-
-fn usage_hint(alloc: Global, name: &str, command: Command) -> Result<String, AllocError>
-    ensures { IfOk result (λ text. string_bytes text ≡ line (codes "usage: " ++ usage_line name.now command)) }
-{
-    let usage = usage_line(alloc, name, command)?;
-    let text = format!(in alloc; "usage: {usage}\n")?;
     Ok(text)
 }

@@ -4,9 +4,9 @@ ghost use Rattle.sd_text.specs.Domain.{domain_sid};
 ghost use Rattle.sd_text.specs.Grammar.{Spells};
 ghost use Rattle.sd_text.specs.Sid.{sid_text};
 ghost use Rattle.sd_command_line.specs.Options.{GivesDomain, GivesLimits, GivesManner, GivesNumber, GivesSettings};
-ghost use Rattle.sd_command_line.specs.Options.{HasBadValue, IsNoDomain, byte_form_of, given, has, is_from_input};
-ghost use Rattle.sd_command_line.specs.Options.{is_json, is_strict, misplaced_in, no_options, options_in, options_of};
-ghost use Rattle.sd_command_line.specs.Options.{parted, paths_of, spelling_of, with_option, with_value, wrong_option};
+ghost use Rattle.sd_command_line.specs.Options.{HasBadValue, IsNoDomain, byte_form_of, given, has, misplaced_in};
+ghost use Rattle.sd_command_line.specs.Options.{no_options, options_in, options_of, parted, paths_of, spelling_of};
+ghost use Rattle.sd_command_line.specs.Options.{with_option, with_value, wrong_option};
 ghost use Rattle.sd_command_line.specs.Mistake.{map_read};
 
 use crate::mistake::{Mistake, Wrong};
@@ -54,7 +54,7 @@ impl<'a> Options<'a> {
         self.values[option.place()]
     }
 
-    fn has(self, option: OptionName) -> bool
+    pub(crate) fn has(self, option: OptionName) -> bool
         ensures { result ≡ has (options_of self.entry) option }
     {
         self.given(option).is_some()
@@ -70,12 +70,7 @@ impl<'a> Options<'a> {
     }
 
     /// These and one more, from which on there are so many arguments, unless it is one of these already.
-    fn with_option(
-        self,
-        left: usize,
-        option: OptionName,
-        value: &'a str,
-    ) -> Result<Options<'a>, Mistake>
+    fn with_option(self, left: usize, option: OptionName, value: &'a str) -> Result<Self, Mistake>
         ensures { map_read options_of result ≡ with_option (options_of self.entry) left option value.now }
     {
         if self.has(option) {
@@ -125,7 +120,7 @@ impl<'a> Options<'a> {
                 spelling: settings.spelling,
                 aliases: settings.aliases,
                 without_sacl: settings.without_sacl,
-                is_json: self.is_json(),
+                is_json: self.has(OptionName::Json),
             },
         })
     }
@@ -142,27 +137,6 @@ impl<'a> Options<'a> {
             Err(LimitsError::NoNodes | LimitsError::TooManyNodes) => Err(BadValue::NoNodes),
             Err(LimitsError::TooManyEdits) => Err(BadValue::NoEdits),
         }
-    }
-
-    /// Whether the input takes the place of the first argument.
-    pub(crate) fn is_from_input(self) -> bool
-        ensures { result ≡ is_from_input (options_of self.entry) }
-    {
-        self.has(OptionName::Stdin)
-    }
-
-    /// Whether a script's fault or refusal is told by the status.
-    pub(crate) fn is_strict(self) -> bool
-        ensures { result ≡ is_strict (options_of self.entry) }
-    {
-        self.has(OptionName::Strict)
-    }
-
-    /// Whether each line is printed as an object of JSON.
-    pub(crate) fn is_json(self) -> bool
-        ensures { result ≡ is_json (options_of self.entry) }
-    {
-        self.has(OptionName::Json)
     }
 
     /// The domain whose SID is given, if one is.
@@ -280,16 +254,9 @@ fn number_given(text: Option<&str>, standard: u64) -> u64
     }
 }
 
-/// The options that the arguments begin with, and the arguments after them, or which of them is there twice, or lacks
-/// its value.
-pub(crate) fn options_in<'a>(words: &'a [&'a str]) -> Result<(Options<'a>, &'a [&'a str]), Mistake>
-    ensures { map_read parted result ≡ options_in no_options words.entry.now }
-{
-    options_after(Options::none(), words)
-}
-
-/// The same with those before.
-fn options_after<'a>(
+/// The options that the arguments begin with, beside those before, and the arguments after them, or which of them is
+/// there twice, or lacks its value.
+pub(crate) fn options_in<'a>(
     options: Options<'a>,
     words: &'a [&'a str],
 ) -> Result<(Options<'a>, &'a [&'a str]), Mistake>
@@ -303,11 +270,11 @@ fn options_after<'a>(
     };
     let Some(_) = option.value else {
         let options = options.with_option(words.len(), option.name, "")?;
-        return options_after(options, after);
+        return options_in(options, after);
     };
     let [value, after @ ..] = after else {
         return Err(Mistake::new(words.len(), 0, Wrong::NoValue));
     };
     let options = options.with_option(words.len(), option.name, value)?;
-    options_after(options, after)
+    options_in(options, after)
 }

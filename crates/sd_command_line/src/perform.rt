@@ -3,24 +3,25 @@ ghost use Rattle.std.specs.Prelude.{◌≡◌, ◌≢◌, ◌||◌, ℕ, List, O
 ghost use Rattle.sd_stream.specs.Watched.{has_failed, inner_of};
 ghost use Rattle.sd_stream.specs.Streams.{ReadsPart, is_read_error, is_write_error};
 ghost use Rattle.sd_commands.specs.Answer.{answer_of, outcome_status};
-ghost use Rattle.sd_command_line.specs.Answer.{Answers, printed_under};
-ghost use Rattle.sd_command_line.specs.CommandLine.{CommandLineValue, Script, asking, command_line_of, invocation_of};
+ghost use Rattle.sd_command_line.specs.Answer.{Answers, printed_when};
+ghost use Rattle.sd_command_line.specs.CommandLine.{CommandLineValue, IsAudit, Runs, Script, command_line_of};
 ghost use Rattle.sd_command_line.specs.CommandLine.{uses_input};
 ghost use Rattle.sd_command_line.specs.Options.{options_of};
 ghost use Rattle.sd_command_line.specs.Output.{AppendsAnswerTo, LeavesAfter};
-ghost use Rattle.sd_command_line.specs.declared.command_line.ScriptRun.TheVariants.{Audit};
 
 use crate::answer::{answer_to, bad_value};
-use crate::command_line::{CommandLine, Invocation, ScriptRun};
+use crate::command_line::{Asked, CommandLine, Invocation, ScriptRun};
 use crate::each::answer_each;
 use crate::options::Options;
 use crate::scripts::end_of_script;
+use crate::version::version_text;
 use sd_commands::{Answer, Outcome};
 use sd_json::{Tagging, printed_as};
 use sd_script::{run, serve};
 use sd_script_audit::run_audit;
 use sd_store::OpenGate;
 use sd_stream::{RunError, Watched, write_whole};
+use sd_usage::{OptionName, help};
 use std::alloc::Global;
 use std::io::{Read, Write};
 use std::sync::Wait;
@@ -51,18 +52,28 @@ pub(crate) fn perform<T: Threads + Wait + Sync, R: Read, W: Write>(
     ensures write { has_failed writer.new ≡ (has_failed writer.old || is_write_error result) }
     ensures too_long { result ≡ Err RunError.TooLong
         → ReadsPart (R.remaining (inner_of reader.old)) (R.remaining (inner_of reader.new)) RunError.TooLong }
-    ensures thread { result ≡ Err RunError.Thread
-        → (workers : ℕ) × (invocation_of line.entry.invocation ≡ Script (Audit workers)) }
-    ensures unused { uses_input (invocation_of line.entry.invocation) ≡ false → reader.new ≡ reader.old }
+    ensures thread { result ≡ Err RunError.Thread → IsAudit (command_line_of line.entry) }
+    ensures unused { uses_input (command_line_of line.entry) ≡ false → reader.new ≡ reader.old }
 {
-    match line.invocation {
-        Invocation::Script(run) => perform_script(rt, alloc, line.options, run, reader, writer),
-        Invocation::Each { lines, request } => {
-            answer_each(alloc, line.options, lines, request, reader, writer)
+    let options = line.options;
+    match line.asked {
+        Asked::Help { command } => {
+            let answer = Answer::done(alloc, help(alloc, command)?);
+            print(alloc, false, answer, writer)
         }
-        _ => {
-            let answer = answer_to(alloc, line, reader)?;
-            print(alloc, line.options, answer, writer)
+        Asked::Version => {
+            let answer = Answer::done(alloc, version_text(alloc)?);
+            print(alloc, false, answer, writer)
+        }
+        Asked::Runs(Invocation::Ask { text, request }) => {
+            let answer = answer_to(alloc, options, text, request, reader)?;
+            print(alloc, options.has(OptionName::Json), answer, writer)
+        }
+        Asked::Runs(Invocation::Each { given, request }) => {
+            answer_each(alloc, options, given, request, reader, writer)
+        }
+        Asked::Runs(Invocation::Script(run)) => {
+            perform_script(rt, alloc, options, run, reader, writer)
         }
     }
 }
@@ -76,53 +87,57 @@ fn perform_script<T: Threads + Wait + Sync, R: Read, W: Write>(
     reader: &mut Watched<R>,
     writer: &mut Watched<W>,
 ) -> Result<Ended, RunError>
-    ensures ok { IfOk result (λ ended. AppendsAnswerTo (asking (options_of options.entry) (Script script_run))
+    ensures ok { IfOk result (λ ended. AppendsAnswerTo (Runs (options_of options.entry) (Script script_run))
         (R.remaining (inner_of reader.old))
         (W.contents (inner_of writer.old)) (W.contents (inner_of writer.new)) (string_bytes ended.told)
         (outcome_status ended.outcome)) }
-    ensures err { IfErr result (LeavesAfter (asking (options_of options.entry) (Script script_run))
+    ensures err { IfErr result (LeavesAfter (Runs (options_of options.entry) (Script script_run))
         (R.remaining (inner_of reader.old)) (R.remaining (inner_of reader.new))
         (W.contents (inner_of writer.old)) (W.contents (inner_of writer.new))) }
     ensures read { has_failed reader.new ≡ (has_failed reader.old || is_read_error result) }
     ensures write { has_failed writer.new ≡ (has_failed writer.old || is_write_error result) }
     ensures too_long { result ≡ Err RunError.TooLong
         → ReadsPart (R.remaining (inner_of reader.old)) (R.remaining (inner_of reader.new)) RunError.TooLong }
-    ensures thread { result ≡ Err RunError.Thread → (workers : ℕ) × (script_run ≡ Audit workers) }
+    ensures thread { result ≡ Err RunError.Thread → IsAudit (Runs (options_of options.entry) (Script script_run)) }
 {
+    let is_strict = options.has(OptionName::Strict);
     let manner = match options.manner() {
         Ok(manner) => manner,
-        Err(bad) => return print(alloc, options, bad_value(alloc, bad)?, writer),
+        Err(bad) => {
+            let answer = bad_value(alloc, bad)?;
+            return print(alloc, options.has(OptionName::Json), answer, writer);
+        }
     };
     match script_run {
         ScriptRun::AtOnce => {
             let tally = run(alloc, &manner, reader, writer)?;
-            Ok(end_of_script(alloc, options.is_strict(), &tally))
+            Ok(end_of_script(alloc, is_strict, &tally))
         }
         ScriptRun::LineByLine { has_ids } => {
             let tally = serve(alloc, &manner, has_ids, reader, writer)?;
-            Ok(end_of_script(alloc, options.is_strict(), &tally))
+            Ok(end_of_script(alloc, is_strict, &tally))
         }
         ScriptRun::Audit { workers } => {
             let tally = run_audit(rt, alloc, workers, &manner, reader, writer, &OpenGate)?;
-            Ok(end_of_script(alloc, options.is_strict(), &tally))
+            Ok(end_of_script(alloc, is_strict, &tally))
         }
     }
 }
 
-/// Prints an answer as these options have it printed. It is the whole answer to each line that it answers so.
+/// Prints an answer, or an object for each of its lines. It is the whole answer to each line that it answers so.
 fn print<W: Write>(
     alloc: Global,
-    options: Options<'_>,
+    is_json: bool,
     answer: Answer,
     writer: &mut Watched<W>,
 ) -> Result<Ended, RunError>
     ensures ok { (line : CommandLineValue) → (input : Option (List ℕ))
-        → Answers input line (printed_under (options_of options.entry) (answer_of answer))
+        → Answers input line (printed_when is_json (answer_of answer))
         → IfOk result (λ ended. AppendsAnswerTo line input
         (W.contents (inner_of writer.old)) (W.contents (inner_of writer.new)) (string_bytes ended.told)
         (outcome_status ended.outcome)) }
     ensures err { (line : CommandLineValue) → (input left : Option (List ℕ))
-        → Answers input line (printed_under (options_of options.entry) (answer_of answer))
+        → Answers input line (printed_when is_json (answer_of answer))
         → IfErr result (LeavesAfter line input left
         (W.contents (inner_of writer.old)) (W.contents (inner_of writer.new))) }
     ensures only { IfErr result (λ error. (error ≢ RunError.Read) × (error ≢ RunError.TooLong)
@@ -134,12 +149,7 @@ fn print<W: Write>(
         told,
         outcome,
     } = answer;
-    let printed = printed_as(
-        alloc,
-        options.is_json(),
-        Tagging::Nothing,
-        text.into_bytes(),
-    )?;
+    let printed = printed_as(alloc, is_json, Tagging::Nothing, text.into_bytes())?;
     write_whole(writer, &printed)?;
     Ok(Ended { told, outcome })
 }

@@ -3,15 +3,13 @@ ghost use Rattle.std.specs.Prelude.{◌≡◌, ◌≤◌, ◌⊎◌, ℕ, List, 
 ghost use Rattle.std.specs.Io.KnownBytes.{Keeps};
 ghost use Rattle.sd_stream.specs.Watched.{has_failed, inner_of};
 ghost use Rattle.sd_stream.specs.Streams.{AppendsBeginning};
-ghost use Rattle.sd_stream.specs.declared.error.RunError.{RunError as Error};
 ghost use Rattle.sd_command_line.specs.CommandLine.{IsUnread, asks_input, mistake_in, reading};
 ghost use Rattle.sd_command_line.specs.Laws.{shows};
 ghost use Rattle.sd_command_line.specs.Mistake.{message};
-ghost use Rattle.sd_command_line.specs.declared.mistake.Mistake.{Mistake};
 ghost use Rattle.sd_command_line.specs.Output.{AppendsAnswer, AppendsPartOfAnswer, IsDue, LeavesByLine, error_line};
 
-use crate::command_line::{Invocation, read_command_line};
-use crate::mistake::message;
+use crate::command_line::{Asked, read_command_line};
+use crate::mistake::{Mistake, message};
 use crate::perform::{Ended, perform};
 use sd_stream::{RunError, Watched, write_whole};
 use std::alloc::Global;
@@ -54,10 +52,10 @@ pub fn drive<T: Threads + Wait + Sync, R: Read, W: Write, E: Write>(
         → Keeps (W.contents (inner_of writer.old)) (W.contents (inner_of writer.new))
         ⊎ (AppendsPartOfAnswer words.now (R.remaining (inner_of reader.old))
         (W.contents (inner_of writer.old)) (W.contents (inner_of writer.new))
-        ⊎ ((error : Error) × LeavesByLine words.now (R.remaining (inner_of reader.old))
+        ⊎ ((error : RunError) × LeavesByLine words.now (R.remaining (inner_of reader.old))
         (R.remaining (inner_of reader.new))
         (W.contents (inner_of writer.old)) (W.contents (inner_of writer.new)) error)) }
-    ensures told { result ≡ 3 → (error : Error)
+    ensures told { result ≡ 3 → (error : RunError)
         × IsDue words.now (has_failed reader.old) (has_failed reader.new)
         (has_failed writer.old) (has_failed writer.new)
         (R.remaining (inner_of reader.old)) (R.remaining (inner_of reader.new)) error
@@ -96,7 +94,7 @@ pub fn reads_input(words: &[&str]) -> bool
     ensures { result ≡ asks_input words.now }
 {
     match read_command_line(words) {
-        Ok(line) => line.invocation.uses_input(),
+        Ok(line) => line.uses_input(),
         Err(_) => false,
     }
 }
@@ -112,13 +110,10 @@ pub fn is_command_line(words: &[&str]) -> bool
 pub fn asks_help(words: &[&str]) -> bool
     ensures { result ≡ shows (reading words.now) }
 {
-    let Ok(line) = read_command_line(words) else {
-        return false;
-    };
-    matches!(
-        line.invocation,
-        Invocation::Help { .. } | Invocation::Version
-    )
+    match read_command_line(words) {
+        Ok(line) => matches!(line.asked, Asked::Help { .. } | Asked::Version),
+        Err(_) => false,
+    }
 }
 
 /// Tells standard error. What stands, stands also where the errors can't be written.

@@ -1,8 +1,7 @@
 //! What comes of a script beside its output.
-ghost use Rattle.std.specs.Prelude.{◌≡◌, ◌++◌, IfOk, codes, string_bytes};
-ghost use Rattle.std.specs.Fmt.{decimal};
-ghost use Rattle.sd_command_line.specs.Scripts.{IsToldOfScript, expect_note, first_fault_under, has_failed, line_note};
-ghost use Rattle.sd_command_line.specs.Scripts.{mark_note, script_notes, script_outcome};
+ghost use Rattle.std.specs.Prelude.{◌≡◌, IfOk, string_bytes};
+ghost use Rattle.sd_command_line.specs.Scripts.{IsToldOfScript, expect_note, has_failed, line_if, line_note};
+ghost use Rattle.sd_command_line.specs.Scripts.{script_notes, script_outcome};
 
 use crate::perform::Ended;
 use sd_commands::{Outcome, told_line};
@@ -40,23 +39,23 @@ fn has_failed(tally: &Tally) -> bool
 fn script_notes(alloc: Global, strict: bool, tally: &Tally) -> Result<String, AllocError>
     ensures { IfOk result (λ text. string_bytes text ≡ script_notes strict tally.now) }
 {
-    let mark = mark_note(alloc, tally.begins_with_mark)?;
+    let mark = line_if(tally.begins_with_mark, Some(1));
+    let mark = line_note(alloc, "it begins with a byte order mark", mark)?;
     let what = "the node inherits otherwise than its descriptor says";
     let difference = line_note(alloc, what, tally.first_difference)?;
     let what = "the node's own entries are in canonical order now";
     let order = line_note(alloc, what, tally.first_reordered)?;
-    let fault = first_fault_under(strict, tally);
+    let fault = line_if(strict, tally.first_fault);
     let fault = line_note(alloc, "a fault or a refusal", fault)?;
     let expectations = expect_note(alloc, tally.expected, tally.unmet, tally.first_unmet)?;
-    let text = format!(in alloc; "{mark}{difference}{order}{fault}{expectations}")?;
-    Ok(text)
+    format!(in alloc; "{mark}{difference}{order}{fault}{expectations}")
 }
 
-/// The first line with a fault or a refusal, where that is asked for.
-fn first_fault_under(strict: bool, tally: &Tally) -> Option<u64>
-    ensures { result ≡ first_fault_under strict tally.now }
+/// A line, where it is to be told.
+fn line_if(is_told: bool, line: Option<u64>) -> Option<u64>
+    ensures { result ≡ line_if is_told line }
 {
-    if strict { tally.first_fault } else { None }
+    if is_told { line } else { None }
 }
 
 /// What is told of a line, where there is one.
@@ -88,26 +87,10 @@ fn expect_note(
             told_line(alloc, "expect", what.as_str())
         }
         Some(line) => {
-            let what = unmet_text(alloc, expected, unmet, line)?;
+            let what = format!(in alloc;
+                "{expected} expected, {unmet} not met, the first in line {line}"
+            )?;
             told_line(alloc, "expect", what.as_str())
         }
-    }
-}
-
-fn unmet_text(alloc: Global, expected: u64, unmet: u64, line: u64) -> Result<String, AllocError>
-    ensures { IfOk result (λ text. string_bytes text ≡ decimal expected ++ codes " expected, " ++ decimal unmet
-        ++ codes " not met, the first in line " ++ decimal line) }
-{
-    let text = format!(in alloc; "{expected} expected, {unmet} not met, the first in line {line}")?;
-    Ok(text)
-}
-
-fn mark_note(alloc: Global, begins: bool) -> Result<String, AllocError>
-    ensures { IfOk result (λ text. string_bytes text ≡ mark_note begins) }
-{
-    if begins {
-        told_line(alloc, "line 1", "it begins with a byte order mark")
-    } else {
-        Ok(String::new(alloc))
     }
 }

@@ -1,7 +1,6 @@
 //! Words that ask for help or the version, and what is wrong where no command begins.
 ghost use Rattle.std.specs.Prelude.{◌≡◌};
-ghost use Rattle.sd_command_line.specs.CommandLine.{begins_with_hyphen, is_help, is_help_flag, is_unknown};
-ghost use Rattle.sd_command_line.specs.CommandLine.{is_version_flag, no_command};
+ghost use Rattle.sd_command_line.specs.CommandLine.{is_help, is_help_flag, is_unknown, is_version_flag, no_command};
 
 use crate::mistake::{Mistake, Wrong};
 use sd_usage::command_named;
@@ -16,12 +15,6 @@ pub(crate) fn is_version_flag(word: &str) -> bool
     ensures { result ≡ is_version_flag word.now }
 {
     word == "-V" || word == "--version"
-}
-
-fn begins_with_hyphen(word: &[u8]) -> bool
-    ensures { result ≡ begins_with_hyphen word.now }
-{
-    matches!(word, [b'-', ..])
 }
 
 pub(crate) fn is_help_flag(word: &str) -> bool
@@ -44,7 +37,7 @@ pub(crate) fn no_command(words: &[&str]) -> Mistake
     if is_help(word) || is_help_flag(word) || is_version_flag(word) {
         return Mistake::new(words.len(), 0, Wrong::NotAlone);
     }
-    if begins_with_hyphen(word.as_bytes()) {
+    if matches!(word.as_bytes(), [b'-', ..]) {
         return Mistake::new(words.len(), 0, Wrong::UnknownOption);
     }
     Mistake::new(words.len(), 0, Wrong::UnknownCommand)
