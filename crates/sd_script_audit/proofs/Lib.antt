@@ -1,3 +1,3 @@
 pub mod Answering
-pub mod LinesInOrder
+pub mod Lines
 pub mod Workers

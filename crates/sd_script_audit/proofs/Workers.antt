@@ -1,14 +1,13 @@
 -- Audits of one text by two numbers of workers: once a store is open, what is printed is the same.
-use Rattle.std.proofs.Common.{◌≡◌, ◌⊎◌, ℕ, Bool, true, false, List, [], ◌∷◌, ◌++◌, length, Option, Some, None, Result, Ok, Err, inl, inr, refl, sym, ◌∙◌, ap, subst, append_assoc, arith}
+use Rattle.std.proofs.Common.{◌≡◌, ◌⊎◌, ℕ, Bool, true, false, not, List, [], ◌∷◌, ◌++◌, Option, Some, Ok, Err, inl, inr, refl, sym, ◌∙◌, ap, subst, append_assoc, arith}
 use Rattle.std.specs.Prelude.{MatchBool, codes}
-use Rattle.std.specs.List.{flat_map}
 use Rattle.std.specs.Str.Lines.{lines}
 use Rattle.sd_acl.specs.declared.ace.Ace.{Ace}
 use Rattle.sd_tree.specs.Names.{Names}
 use Rattle.sd_tree.specs.declared.edit.Edit.{Edit}
 use Rattle.sd_tree.specs.declared.opening.RootSpec.{RootSpec}
 use Rattle.sd_tree.specs.declared.refusal.EditRefusal.{EditRefusal}
-use Rattle.sd_desk.specs.Machine.{Machine, Steps, due, started, with_edit}
+use Rattle.sd_desk.specs.Machine.{Machine, Steps, started}
 use Rattle.sd_versions.specs.Starts.{IsReaderCount, IsStartError}
 use Rattle.sd_desk.specs.declared.request.Reply.{Reply}
 use Rattle.sd_desk.specs.declared.request.Reply.TheVariants as replies
@@ -17,25 +16,27 @@ use Rattle.sd_desk.specs.declared.request.Request.TheVariants as requests
 use Rattle.sd_versions.specs.declared.start.StartError.{StartError}
 use Rattle.sd_versions.specs.declared.start.StartError.TheVariants as starts
 use Rattle.sd_store.specs.declared.query.Query.{Query}
+use Rattle.sd_answer.specs.Answer.{fault_line}
+use Rattle.sd_answer.specs.declared.answer.Spelling.{Spelling}
 use Rattle.sd_script.specs.Command.{line_asks}
 use Rattle.sd_script.specs.Expect.{expects}
 use Rattle.sd_script.specs.Fault.{line_of_fault}
 use Rattle.sd_script.specs.Importing.{IsImported}
 use Rattle.sd_script.specs.Lines.{is_silent}
-use Rattle.sd_script.specs.Output.{IsDone, IsOpened, is_open, line_asks_in, manner_of, opening_in}
-use Rattle.sd_script.specs.Reply.{counted_line, refused_line, start_error_line}
+use Rattle.sd_script.specs.Output.{IsOpened, opening_in, opens}
+use Rattle.sd_script.specs.Reply.{counted_line, refused_line, reply_line, start_error_line}
 use Rattle.sd_script.specs.declared.asked.Asked.{Asked}
-use Rattle.sd_script.specs.declared.asked.Asked.TheVariants.{Opening as Opens, Asking, Explaining, Finding, Deleting, Viewing, Importing}
-use Rattle.sd_answer.specs.declared.answer.Spelling.{Spelling}
+use Rattle.sd_script.specs.declared.asked.Asked.TheVariants.{Opening as Opens, Asking, Importing}
 use Rattle.sd_script.specs.declared.fault.LineFault.{LineFault}
 use Rattle.sd_script.specs.declared.manner.Manner.{Manner}
 use Rattle.sd_script.specs.declared.manner.Notation.{Notation}
-use Rattle.sd_script.specs.declared.session.Session.TheVariants as sessions
+use Rattle.sd_script.specs.declared.session.Session.{Session}
+use Rattle.sd_script.specs.declared.session.Session.TheVariants.{Opened}
 use Rattle.sd_script.specs.declared.tally.Tally.{Tally}
-use Rattle.sd_script.proofs.OneOutput.{no_error, edited, imported-one, outcome, one_step}
+use Rattle.sd_script.proofs.OneOutput.{no_error, imported-one, one_step}
 use Rattle.sd_script.proofs.OneReading.{line-one}
 use Rattle.sd_script.proofs.Timely.{line_opens}
-use Rattle.sd_script_audit.specs.Audit.{IsForScripts, Audited, Progress, IsDoneInAudit, IsAnsweredInAudit, AreAnsweredInAudit, IsEnd, answer_line, begun, last_publish, unopened}
+use Rattle.sd_script_audit.specs.Audit.{AreAnsweredInAudit, AsksInAudit, Audited, IsAnsweredInAudit, IsDoneInAudit, IsNextInAudit, IsToldInAudit, Progress, begun, end_of, unopened}
 use Rattle.sd_script_audit.specs.Laws.{DifferInOpening, WorkersShowInTheOpening}
 
 -- ---- machines that differ in their readers alone
@@ -44,206 +45,173 @@ use Rattle.sd_script_audit.specs.Laws.{DifferInOpening, WorkersShowInTheOpening}
 abbrev unread : Machine → Machine
 unread m = record { opening = m.opening; published = m.published; pending = m.pending; floors = [] }
 
-abbrev unread_after : List ℕ × Machine → List ℕ × Machine
-unread_after x = (x.0, unread x.1)
+edit_unread : (m new : Machine) (e : Edit) (reply : Reply) → Steps m (requests.Edit e) reply new → Steps (unread m) (requests.Edit e) reply (unread new)
+edit_unread m new e replies.Edited is = (is.0, ap unread is.1)
+edit_unread m new e (replies.Refused refusal) is = (is.0, ap unread is.1)
+edit_unread m new e replies.Memory is = (is.0, ap unread is.1)
+edit_unread m new e reply is = absurd is
 
-edited_unread : (m : Machine) (e : Edit) (d : Option EditRefusal) → unread_after (edited m e d) ≡ unread_after (edited (unread m) e d)
-edited_unread m e None = refl
-edited_unread m e (Some refusal) = refl
+publish_unread : (m new : Machine) (reply : Reply) → Steps m requests.Publish reply new → Steps (unread m) requests.Publish reply (unread new)
+publish_unread m new (replies.Published len) is = (is.0, ap unread is.1)
+publish_unread m new replies.Memory is = ap unread is
+publish_unread m new reply is = absurd is
 
--- one request of two such machines
-same_outcome : (spelling : Spelling) (x y : Machine) (r : Request) → unread_after (outcome spelling x r) ≡ unread_after (outcome spelling (unread x) r)
-    → unread_after (outcome spelling y r) ≡ unread_after (outcome spelling (unread y) r) → unread x ≡ unread y
-    → unread_after (outcome spelling x r) ≡ unread_after (outcome spelling y r)
-same_outcome spelling x y r one other alike = one ∙ ap (λ m. unread_after (outcome spelling m r)) alike ∙ sym other
+import_unread : (spelling : Spelling) (m : Machine) (path : Names) (given : List Ace) (reply : Reply) (p : List ℕ)
+    → IsImported spelling m path given reply p → IsImported spelling (unread m) path given reply p
+import_unread spelling m path given replies.Edited p is = is
+import_unread spelling m path given reply p is = is
 
--- ---- imports into such machines
+module _ (spelling : Spelling) (m : Machine) (x y : Machine) (p q : List ℕ) where
+  -- a request has one answer
+  requested_one : (asked : Request) (r s : Reply) → Steps m asked r x → Steps m asked s y → reply_line spelling r ≡ Some p → reply_line spelling s ≡ Some q
+      → (p ≡ q) × (x ≡ y)
+  requested_one asked r s one other first second =
+      let same = one_step spelling m asked r x p one first ∙ sym (one_step spelling m asked s y q other second) in
+      (ap (λ (z : List ℕ × Machine). z.0) same, ap (λ (z : List ℕ × Machine). z.1) same)
 
-same_import : (spelling : Spelling) (a b : Machine) (e : Edit) (r s : Reply) (x y : Machine) (p q : List ℕ) (path : Names) (given : List Ace) → unread a ≡ unread b
-    → Steps a (requests.Edit e) r x → Steps b (requests.Edit e) s y → IsImported spelling x path given r p → IsImported spelling y path given s q
-    → (p ≡ q) × (unread x ≡ unread y)
-same_import spelling a b e replies.Edited replies.Edited x y p q path given alike one other first second =
-    let same : unread x ≡ unread y = ap unread one.1 ∙ ap (λ m. unread (with_edit m e)) alike ∙ sym (ap unread other.1) in
-    (imported-one spelling y path given p q (subst (λ m. IsImported spelling m path given replies.Edited p) same first) second, same)
-same_import spelling a b e replies.Edited (replies.Refused later) x y p q path given alike one other first second =
-    absurd (let no = sym one.0 ∙ ap (λ m. due m e) alike ∙ other.0 in cc (no))
-same_import spelling a b e (replies.Refused refusal) replies.Edited x y p q path given alike one other first second =
-    absurd (let no = sym one.0 ∙ ap (λ m. due m e) alike ∙ other.0 in cc (no))
-same_import spelling a b e (replies.Refused refusal) (replies.Refused later) x y p q path given alike one other first second =
-    let same = sym one.0 ∙ ap (λ m. due m e) alike ∙ other.0 in
-    let told : refusal ≡ later = cc (same) in
-    let texts = sym first ∙ ap (λ r. Some (refused_line r)) told ∙ second in
-    (cc (texts), ap unread one.1 ∙ alike ∙ sym (ap unread other.1))
-same_import spelling a b e replies.Edited replies.Memory x y p q path given alike one other first second = absurd (cc (second))
-same_import spelling a b e (replies.Refused refusal) replies.Memory x y p q path given alike one other first second = absurd (cc (second))
-same_import spelling a b e replies.Memory s x y p q path given alike one other first second = absurd (cc (first))
-same_import spelling a b e replies.Edited s x y p q path given alike one other first second = absurd other
-same_import spelling a b e (replies.Refused refusal) s x y p q path given alike one other first second = absurd other
-same_import spelling a b e r s x y p q path given alike one other first second = absurd one
+  -- and so has an import
+  imported_one : (e : Edit) (path : Names) (given : List Ace) (r s : Reply) → Steps m (requests.Edit e) r x → Steps m (requests.Edit e) s y
+      → IsImported spelling x path given r p → IsImported spelling y path given s q → (p ≡ q) × (x ≡ y)
+  imported_one e path given replies.Edited replies.Edited one other first second =
+      let same = one.1 ∙ sym other.1 in
+      (imported-one spelling y path given p q (subst (λ n. IsImported spelling n path given replies.Edited p) same first) second, same)
+  imported_one e path given replies.Edited (replies.Refused refusal) one other first second = absurd (let no = sym one.0 ∙ other.0 in cc (no))
+  imported_one e path given (replies.Refused refusal) replies.Edited one other first second = absurd (let no = sym one.0 ∙ other.0 in cc (no))
+  imported_one e path given (replies.Refused refusal) (replies.Refused later) one other first second =
+      requested_one (requests.Edit e) (replies.Refused refusal) (replies.Refused later) one other first second
+  imported_one e path given replies.Memory s one other first second = absurd (cc (first))
+  imported_one e path given replies.Edited replies.Memory one other first second = absurd (cc (second))
+  imported_one e path given (replies.Refused refusal) replies.Memory one other first second = absurd (cc (second))
+  imported_one e path given replies.Edited s one other first second = absurd other
+  imported_one e path given (replies.Refused refusal) s one other first second = absurd other
+  imported_one e path given r s one other first second = absurd one
 
 -- ---- stores that differ in their readers alone
+
+abbrev opened : Notation → Machine → List Query → Progress
+opened notation m queries = record { store = Opened notation m; queries = queries }
+
+progress_is : (a : Progress) (store : Session) (queries : List Query) → a.store ≡ store → a.queries ≡ queries → a ≡ record { store = store; queries = queries }
+progress_is a store queries first second =
+    subst (λ s. a ≡ record { store = s; queries = queries }) first (subst (λ (xs : List Query). a ≡ record { store = a.store; queries = xs }) second refl)
 
 -- both are open
 pub record AreAlike (a b : Progress) : Type 0 where
   pub notation : Notation
   pub one : Machine
   pub other : Machine
-  pub one_is : a.store ≡ sessions.Opened notation one
-  pub other_is : b.store ≡ sessions.Opened notation other
+  pub queries : List Query
+  pub one_is : a ≡ opened notation one queries
+  pub other_is : b ≡ opened notation other queries
   pub alike : unread one ≡ unread other
-  pub queries : a.queries ≡ b.queries
 
-module _ (a b : Progress) (alike : AreAlike a b) where
-  still_open : (p q : List ℕ) (c d : Progress) (x y : Machine) → c.store ≡ sessions.Opened alike.notation x → d.store ≡ sessions.Opened alike.notation y
-      → c.queries ≡ a.queries → d.queries ≡ b.queries → (p ≡ q) × (unread x ≡ unread y) → (p ≡ q) × AreAlike c d
-  still_open p q c d x y first second one other same = (
+ends_alike : (a b : Progress) → AreAlike a b → end_of a.store a.queries ≡ end_of b.store b.queries
+ends_alike a b alike =
+    ap (λ (e : Progress). end_of e.store e.queries) alike.one_is ∙ ap (λ m. end_of (Opened alike.notation m) alike.queries) alike.alike
+    ∙ sym (ap (λ (e : Progress). end_of e.store e.queries) alike.other_is)
+
+module _ (n m : ℕ) (notation : Notation) (x y : Machine) (queries : List Query) (alike : unread x ≡ unread y) (p q : List ℕ) (c d : Progress) where
+  -- with these machines then
+  still : (v w : Machine) → c.store ≡ Opened notation v → c.queries ≡ queries → d.store ≡ Opened notation w → d.queries ≡ queries
+      → (p ≡ q) × (unread v ≡ unread w) → (p ≡ q) × AreAlike c d
+  still v w first kept second left same = (
     same.0,
     record {
-      notation = alike.notation;
-      one = x;
-      other = y;
-      one_is = first;
-      other_is = second;
+      notation = notation;
+      one = v;
+      other = w;
+      queries = queries;
+      one_is = progress_is c _ _ first kept;
+      other_is = progress_is d _ _ second left;
       alike = same.1;
-      queries = one ∙ alike.queries ∙ sym other;
     },
   )
 
-  -- a request of both stores
-  step_alike : (r : Request) (p q : List ℕ) (c d : Progress) → ((m : Machine) → unread_after (outcome alike.notation.spelling m r) ≡ unread_after (outcome alike.notation.spelling (unread m) r))
-      → IsDone a.store (Asking r) p c.store × (c.queries ≡ a.queries) → IsDone b.store (Asking r) q d.store × (d.queries ≡ b.queries)
+  -- where both stay
+  stay : (more : List Query) → p ≡ q → c ≡ opened notation x more → d ≡ opened notation y more → (p ≡ q) × AreAlike c d
+  stay more same first second = (same, record { notation = notation; one = x; other = y; queries = more; one_is = first; other_is = second; alike = alike })
+
+  done_alike : (asked : Asked) → opens asked ≡ false → IsDoneInAudit n (opened notation x queries) asked p c → IsDoneInAudit m (opened notation y queries) asked q d
       → (p ≡ q) × AreAlike c d
-  step_alike r p q c d blind one other =
-      let first = subst (λ s. IsDone s (Asking r) p c.store) alike.one_is one.0 in
-      let second = subst (λ s. IsDone s (Asking r) q d.store) alike.other_is other.0 in
-      let same = ap unread_after (one_step alike.notation.spelling alike.one r first.0 first.1 p first.2 first.3)
-      ∙ same_outcome alike.notation.spelling alike.one alike.other r (blind alike.one) (blind alike.other) alike.alike
-      ∙ sym (ap unread_after (one_step alike.notation.spelling alike.other r second.0 second.1 q second.2 second.3)) in
-      still_open p q c d first.1 second.1 first.4 second.4 one.1 other.1 (ap (λ (x : List ℕ × Machine). x.0) same, ap (λ (x : List ℕ × Machine). x.1) same)
-
-  -- an import into both stores
-  imports_alike : (e : Edit) (path : Names) (given : List Ace) (p q : List ℕ) (c d : Progress)
-      → IsDone a.store (Importing e path given) p c.store × (c.queries ≡ a.queries)
-      → IsDone b.store (Importing e path given) q d.store × (d.queries ≡ b.queries) → (p ≡ q) × AreAlike c d
-  imports_alike e path given p q c d one other =
-      let first = subst (λ s. IsDone s (Importing e path given) p c.store) alike.one_is one.0 in
-      let second = subst (λ s. IsDone s (Importing e path given) q d.store) alike.other_is other.0 in
-      still_open p q c d first.1 second.1 first.4 second.4 one.1 other.1
-      (same_import alike.notation.spelling alike.one alike.other e first.0 second.0 first.1 second.1 p q path given alike.alike first.2 second.2 first.3 second.3)
-
-  -- what changes nothing
-  stay_alike : (printed p q : List ℕ) (c d : Progress) → (p ≡ printed) × (c ≡ a) → (q ≡ printed) × (d ≡ b) → (p ≡ q) × AreAlike c d
-  stay_alike printed p q c d one other =
-      (one.0 ∙ sym other.0, subst (λ e. AreAlike c e) (sym other.1) (subst (λ e. AreAlike e b) (sym one.1) alike))
-
-  done_alike : (n m : ℕ) (r : Request) (p q : List ℕ) (c d : Progress)
-      → IsDoneInAudit n a (Asking r) p c → IsDoneInAudit m b (Asking r) q d → (p ≡ q) × AreAlike c d
-  done_alike n m (requests.Edit e) p q c d one other = step_alike (requests.Edit e) p q c d (λ x. edited_unread x e (due x e)) one other
-  done_alike n m requests.Publish p q c d one other = step_alike requests.Publish p q c d (λ x. refl) one other
-  done_alike n m requests.Tell p q c d one other = stay_alike _ p q c d one other
-  done_alike n m (requests.Learn reader len) p q c d one other = stay_alike _ p q c d one other
-  done_alike n m (requests.Show reader path) p q c d one other = stay_alike _ p q c d one other
-  done_alike n m (requests.Check reader path token asked) p q c d one other = (
-    one.0 ∙ sym other.0,
-    record {
-      notation = alike.notation;
-      one = alike.one;
-      other = alike.other;
-      one_is = ap (λ (x : Progress). x.store) one.1 ∙ alike.one_is;
-      other_is = ap (λ (x : Progress). x.store) other.1 ∙ alike.other_is;
-      alike = alike.alike;
-      queries = ap (λ (x : Progress). x.queries) one.1
-          ∙ ap (λ (xs : List Query). xs ++ record { path = path; token = token; asked = asked } ∷ []) alike.queries
-          ∙ sym (ap (λ (x : Progress). x.queries) other.1);
-    },
-  )
+  done_alike (Opens readers root) timely one other = absurd (cc (timely))
+  done_alike (Asking (requests.Edit e)) timely (one, kept) (other, left) =
+      still one.1 other.1 one.4 kept other.4 left
+      (requested_one notation.spelling (unread y) (unread one.1) (unread other.1) p q (requests.Edit e) one.0 other.0
+      (rw (← alike) (edit_unread x one.1 e one.0 one.2)) (edit_unread y other.1 e other.0 other.2) one.3 other.3)
+  done_alike (Asking requests.Publish) timely (one, kept) (other, left) =
+      still one.1 other.1 one.4 kept other.4 left
+      (requested_one notation.spelling (unread y) (unread one.1) (unread other.1) p q requests.Publish one.0 other.0
+      (rw (← alike) (publish_unread x one.1 one.0 one.2)) (publish_unread y other.1 other.0 other.2) one.3 other.3)
+  done_alike (Importing e path given) timely (one, kept) (other, left) =
+      still one.1 other.1 one.4 kept other.4 left
+      (imported_one notation.spelling (unread y) (unread one.1) (unread other.1) p q e path given one.0 other.0
+      (rw (← alike) (edit_unread x one.1 e one.0 one.2)) (edit_unread y other.1 e other.0 other.2)
+      (import_unread notation.spelling one.1 path given one.0 p one.3) (import_unread notation.spelling other.1 path given other.0 q other.3))
+  done_alike (Asking (requests.Check reader path token asked)) timely one other =
+      stay (queries ++ record { path = path; token = token; asked = asked } ∷ []) (one.0 ∙ sym other.0) one.1 other.1
+  done_alike asked timely one other = stay queries (one.0 ∙ sym other.0) one.1 other.1
 
 -- ---- lines
 
--- a line that isn't silent, and expects nothing, is answered
-abbrev Loud : ℕ → Progress → List ℕ → List ℕ → Progress → Type 0
-Loud n a text p c =
-    ((asked : Asked) × line_asks_in a.store text (Ok asked) × IsDoneInAudit n a asked p c)
-    ⊎ ((fault : LineFault) × line_asks_in a.store text (Err fault) × (p ≡ line_of_fault fault) × (c ≡ a))
-
--- a line of two audits, where it asks for the same, and what changes nothing and what is asked leaves both alike
-module _ (n m : ℕ) (text : List ℕ) (a b : Progress) (Alike : List ℕ → List ℕ → Progress → Progress → Type 0)
-    (asks : (r : Result Asked LineFault) → line_asks_in b.store text r → line_asks_in a.store text r)
-    (stays : (printed p q : List ℕ) (c d : Progress) → (p ≡ printed) × (c ≡ a) → (q ≡ printed) × (d ≡ b) → Alike p q c d)
-    (done : (asked : Asked) (p q : List ℕ) (c d : Progress) → line_asks_in a.store text (Ok asked)
-    → IsDoneInAudit n a asked p c → IsDoneInAudit m b asked q d → Alike p q c d)
-    (p q : List ℕ) (c d : Progress) where
-  one_reading : (r s : Result Asked LineFault) → line_asks_in a.store text r → line_asks_in b.store text s → r ≡ s
-  one_reading r s one other = line-one (manner_of a.store).notation (is_open a.store) text r s one (asks s other)
-
-  loud_alike : Loud n a text p c → Loud m b text q d → Alike p q c d
-  loud_alike (inl one) (inl other) =
-      let same = one_reading (Ok one.0) (Ok other.0) one.1 other.1 in
-      let asked : one.0 ≡ other.0 = cc (same) in
-      done other.0 p q c d (asks (Ok other.0) other.1) (subst (λ x. IsDoneInAudit n a x p c) asked one.2) other.2
-  loud_alike (inl one) (inr other) = absurd (let no = one_reading (Ok one.0) (Err other.0) one.1 other.1 in cc (no))
-  loud_alike (inr one) (inl other) = absurd (let no = one_reading (Err one.0) (Ok other.0) one.1 other.1 in cc (no))
-  loud_alike (inr one) (inr other) =
-      let same = one_reading (Err one.0) (Err other.0) one.1 other.1 in
+module _ (notation : Notation) (is_open : Bool) (text : List ℕ) where
+  told_one : (silent expecting : Bool) (p q : List ℕ)
+      → MatchBool silent (p ≡ []) (MatchBool expecting (p ≡ fault_line (codes "audit")) ((fault : LineFault) × line_asks notation is_open text (Err fault) × (p ≡ line_of_fault fault)))
+      → MatchBool silent (q ≡ []) (MatchBool expecting (q ≡ fault_line (codes "audit")) ((fault : LineFault) × line_asks notation is_open text (Err fault) × (q ≡ line_of_fault fault)))
+      → p ≡ q
+  told_one true expecting p q one other = one ∙ sym other
+  told_one false true p q one other = one ∙ sym other
+  told_one false false p q one other =
+      let same = line-one notation is_open text (Err one.0) (Err other.0) one.1 other.1 in
       let fault : one.0 ≡ other.0 = cc (same) in
-      stays (line_of_fault other.0) p q c d (one.2 ∙ ap line_of_fault fault, one.3) (other.2, other.3)
+      one.2 ∙ ap line_of_fault fault ∙ sym other.2
 
-  by_expectation : (expectation : Bool) → MatchBool expectation (IsForScripts a p c) (Loud n a text p c)
-      → MatchBool expectation (IsForScripts b q d) (Loud m b text q d) → Alike p q c d
-  by_expectation true one other = stays _ p q c d one other
-  by_expectation false one other = loud_alike one other
+  told_or_asked : (p : List ℕ) (asked : Asked) → IsToldInAudit notation is_open text p → AsksInAudit notation is_open text asked → ⊥
+  told_or_asked p asked told asks =
+      let fault = rw (asks.0, asks.1) at told in
+      let no = line-one notation is_open text (Err fault.0) (Ok asked) fault.1 asks.2 in cc (no)
 
-  by_silence : (silent : Bool)
-      → MatchBool silent ((p ≡ []) × (c ≡ a)) (MatchBool (expects text) (IsForScripts a p c) (Loud n a text p c))
-      → MatchBool silent ((q ≡ []) × (d ≡ b)) (MatchBool (expects text) (IsForScripts b q d) (Loud m b text q d)) → Alike p q c d
-  by_silence true one other = stays [] p q c d one other
-  by_silence false one other = by_expectation (expects text) one other
+  -- a line that both are answered by asks both for the same
+  line_alike : (R A B : Type 0) (D E : Asked → Type 0) (p q : List ℕ) → (p ≡ q → A → B → R) → ((asked : Asked) → opens asked ≡ not is_open → D asked → E asked → R)
+      → (IsToldInAudit notation is_open text p × A) ⊎ ((asked : Asked) × AsksInAudit notation is_open text asked × D asked)
+      → (IsToldInAudit notation is_open text q × B) ⊎ ((asked : Asked) × AsksInAudit notation is_open text asked × E asked) → R
+  line_alike R A B D E p q stay done (inl one) (inl other) = stay (told_one (is_silent text) (expects text) p q one.0 other.0) one.1 other.1
+  line_alike R A B D E p q stay done (inl one) (inr other) = absurd (told_or_asked p other.0 one.0 other.1)
+  line_alike R A B D E p q stay done (inr one) (inl other) = absurd (told_or_asked q one.0 other.0 one.1)
+  line_alike R A B D E p q stay done (inr one) (inr other) =
+      let same = line-one notation is_open text (Ok one.0) (Ok other.0) one.1.2 other.1.2 in
+      let asked : one.0 ≡ other.0 = cc (same) in
+      done other.0 (line_opens notation is_open text other.0 other.1.2) (subst D asked one.2) other.2
 
-  line_alike : IsAnsweredInAudit n a text p c → IsAnsweredInAudit m b text q d → Alike p q c d
-  line_alike one other = by_silence (is_silent text) one other
+open_alike : (n m : ℕ) (text : List ℕ) (a b : Progress) (p q : List ℕ) (c d : Progress) → AreAlike a b
+    → IsAnsweredInAudit n a text p c → IsAnsweredInAudit m b text q d → (p ≡ q) × AreAlike c d
+open_alike n m text a b p q c d both one other =
+    line_alike both.notation true text ((p ≡ q) × AreAlike c d) _ _ _ _ p q
+    (stay n m both.notation both.one both.other both.queries both.alike p q c d both.queries)
+    (done_alike n m both.notation both.one both.other both.queries both.alike p q c d)
+    (subst (λ e. IsAnsweredInAudit n e text p c) both.one_is one) (subst (λ e. IsAnsweredInAudit m e text q d) both.other_is other)
 
-module _ (n m : ℕ) (text : List ℕ) where
-  asking_alike : (a b : Progress) (asked : Asked) (p q : List ℕ) (c d : Progress) → (alike : AreAlike a b) → line_asks alike.notation true text (Ok asked)
-      → IsDoneInAudit n a asked p c → IsDoneInAudit m b asked q d → (p ≡ q) × AreAlike c d
-  asking_alike a b (Opens readers root) p q c d alike asks one other = absurd (let no = line_opens alike.notation true text (Opens readers root) asks in cc (no))
-  asking_alike a b (Asking r) p q c d alike asks one other = done_alike a b alike n m r p q c d one other
-  asking_alike a b (Explaining reader path token asked) p q c d alike asks one other = stay_alike a b alike _ p q c d one other
-  asking_alike a b (Finding reader path token asked) p q c d alike asks one other = stay_alike a b alike _ p q c d one other
-  asking_alike a b (Deleting reader path token) p q c d alike asks one other = stay_alike a b alike _ p q c d one other
-  asking_alike a b (Viewing view) p q c d alike asks one other = stay_alike a b alike _ p q c d one other
-  asking_alike a b (Importing e path given) p q c d alike asks one other = imports_alike a b alike e path given p q c d one other
+-- the first line's answer, and what the others and the end print
+cut : (n : ℕ) (a : Audited) (text : List ℕ) (texts : List (List ℕ)) (p : List ℕ) (x : Tally) → AreAnsweredInAudit n a (text ∷ texts) p x
+    → (first : List ℕ) × (between : Audited) × (rest : List ℕ) × IsNextInAudit n a text first between × AreAnsweredInAudit n between texts rest x × (p ≡ first ++ rest)
+cut n a text texts p x (last, answers, (first, between, rest, next, more, whole), is, tally) =
+    let end = end_of last.progress.store last.progress.queries in
+    (first, between, rest ++ end, next, (last, rest, more, refl, tally), is ∙ ap (λ xs. xs ++ end) whole ∙ append_assoc first rest end)
 
-  open_alike : (a b : Progress) (p q : List ℕ) (c d : Progress) → AreAlike a b
-      → IsAnsweredInAudit n a text p c → IsAnsweredInAudit m b text q d → (p ≡ q) × AreAlike c d
-  open_alike a b p q c d alike one other =
-      line_alike n m text a b (λ p q c d. (p ≡ q) × AreAlike c d)
-      (λ r asks. subst (λ s. line_asks_in s text r) (sym alike.one_is) (subst (λ s. line_asks_in s text r) alike.other_is asks))
-      (stay_alike a b alike)
-      (λ asked p q c d asks. asking_alike a b asked p q c d alike (subst (λ s. line_asks_in s text (Ok asked)) alike.one_is asks))
-      p q c d one other
-
-abbrev end_of : Spelling → Machine → List Query → List ℕ
-end_of spelling x queries =
-    last_publish x.pending (length (x.published ++ x.pending)) ++ counted_line (codes "told") (length (x.published ++ x.pending))
-    ++ flat_map (answer_line spelling x.opening (x.published ++ x.pending)) queries
+ended : (n : ℕ) (a : Audited) (p : List ℕ) (x : Tally) → AreAnsweredInAudit n a [] p x → p ≡ end_of a.progress.store a.progress.queries
+ended n a p x (last, answers, (none, same), is, tally) = is ∙ rw (none, same) refl
 
 -- what is printed from an open store on
 all_alike : (n m : ℕ) (texts : List (List ℕ)) (a b : Audited) (p q : List ℕ) (x y : Tally) → AreAlike a.progress b.progress
     → AreAnsweredInAudit n a texts p x → AreAnsweredInAudit m b texts q y → p ≡ q
-all_alike n m [] a b p q x y alike one other =
-    let first : p ≡ end_of alike.notation.spelling alike.one a.progress.queries = subst (λ s. IsEnd s a.progress.queries p) alike.one_is one.0 in
-    let second : q ≡ end_of alike.notation.spelling alike.other b.progress.queries = subst (λ s. IsEnd s b.progress.queries q) alike.other_is other.0 in
-    first ∙ ap (λ x. end_of alike.notation.spelling x a.progress.queries) alike.alike ∙ ap (end_of alike.notation.spelling alike.other) alike.queries ∙ sym second
+all_alike n m [] a b p q x y alike one other = ended n a p x one ∙ ends_alike a.progress b.progress alike ∙ sym (ended m b q y other)
 all_alike n m (text ∷ texts) a b p q x y alike one other =
-    let first = open_alike n m text a.progress b.progress one.0 other.0 one.1.progress other.1.progress alike one.3.answered other.3.answered in
-    let rest = all_alike n m texts one.1 other.1 one.2 other.2 x y first.1 one.4 other.4 in
-    one.5 ∙ ap (λ xs. xs ++ one.2) first.0 ∙ ap (λ xs. other.0 ++ xs) rest ∙ sym other.5
+    let first = cut n a text texts p x one in
+    let second = cut m b text texts q y other in
+    let same = open_alike n m text a.progress b.progress first.0 second.0 first.1.progress second.1.progress alike first.3.answered second.3.answered in
+    let rest = all_alike n m texts first.1 second.1 first.2 second.2 x y same.1 first.4 second.4 in
+    first.5 ∙ ap (λ xs. xs ++ first.2) same.0 ∙ ap (λ xs. second.0 ++ xs) rest ∙ sym second.5
 
 -- ---- before a store is open
-
-progress_is : (manner : Manner) (a : Progress) → a.store ≡ sessions.Closed manner → a.queries ≡ [] → a ≡ unopened manner
-progress_is manner a store queries =
-    subst (λ s. a ≡ record { store = s; queries = [] }) store (subst (λ (xs : List Query). a ≡ record { store = a.store; queries = xs }) queries refl)
 
 -- an error with a line, of a number of readers that a store can have
 root_error : (e : StartError) (n : ℕ) (due : Option EditRefusal) (p : List ℕ) → IsReaderCount n → IsStartError e n due → start_error_line e ≡ Some p
@@ -256,13 +224,13 @@ root_error starts.Place n due p count is text = absurd is
 
 module _ (manner : Manner) (n m : ℕ) (some : IsReaderCount n) (others : IsReaderCount m) where
   -- no store is open afterwards, or both are
-  abbrev Opened : List ℕ → List ℕ → Progress → Progress → Type 0
-  Opened p q c d =
+  abbrev Opening : List ℕ → List ℕ → Progress → Progress → Type 0
+  Opening p q c d =
       ((p ≡ q) × (c ≡ unopened manner) × (d ≡ unopened manner))
       ⊎ ((p ≡ counted_line (codes "opened") n) × (q ≡ counted_line (codes "opened") m) × AreAlike c d)
 
   opening : (root : RootSpec) (p q : List ℕ) (c d : Progress) → IsOpened manner n root p c.store × (c.queries ≡ [])
-      → IsOpened manner m root q d.store × (d.queries ≡ []) → Opened p q c d
+      → IsOpened manner m root q d.store × (d.queries ≡ []) → Opening p q c d
   opening root p q c d (inl one, none) (inl other, nothing) = inr (
     one.2,
     other.2,
@@ -270,10 +238,10 @@ module _ (manner : Manner) (n m : ℕ) (some : IsReaderCount n) (others : IsRead
       notation = manner.notation;
       one = started (opening_in manner root) n;
       other = started (opening_in manner root) m;
-      one_is = one.3;
-      other_is = other.3;
+      queries = [];
+      one_is = progress_is c _ _ one.3 none;
+      other_is = progress_is d _ _ other.3 nothing;
       alike = refl;
-      queries = none ∙ sym nothing;
     },
   )
   opening root p q c d (inl one, none) (inr other, nothing) = absurd (no_error other.0 m _ q others one.1 other.1 other.2)
@@ -285,28 +253,12 @@ module _ (manner : Manner) (n m : ℕ) (some : IsReaderCount n) (others : IsRead
       let refusals : first.0 ≡ second.0 = cc (dues) in
       let texts = sym first.2 ∙ ap (λ r. Some (refused_line r)) refusals ∙ second.2 in
       let same : p ≡ q = cc (texts) in
-      inl (same, progress_is manner c one.3 none, progress_is manner d other.3 nothing)
+      inl (same, progress_is c _ _ one.3 none, progress_is d _ _ other.3 nothing)
 
-  module _ (text : List ℕ) where
-    opening_asked : (asked : Asked) (p q : List ℕ) (c d : Progress) → line_asks manner.notation false text (Ok asked)
-        → IsDoneInAudit n (unopened manner) asked p c → IsDoneInAudit m (unopened manner) asked q d → Opened p q c d
-    opening_asked (Opens readers root) p q c d asks one other = opening root p q c d one other
-    opening_asked (Asking r) p q c d asks one other = absurd (let no = line_opens manner.notation false text (Asking r) asks in cc (no))
-    opening_asked (Explaining reader path token asked) p q c d asks one other =
-        absurd (let no = line_opens manner.notation false text (Explaining reader path token asked) asks in cc (no))
-    opening_asked (Finding reader path token asked) p q c d asks one other =
-        absurd (let no = line_opens manner.notation false text (Finding reader path token asked) asks in cc (no))
-    opening_asked (Deleting reader path token) p q c d asks one other =
-        absurd (let no = line_opens manner.notation false text (Deleting reader path token) asks in cc (no))
-    opening_asked (Viewing view) p q c d asks one other = absurd (let no = line_opens manner.notation false text (Viewing view) asks in cc (no))
-    opening_asked (Importing e path given) p q c d asks one other =
-        absurd (let no = line_opens manner.notation false text (Importing e path given) asks in cc (no))
-
-    unopened_alike : (p q : List ℕ) (c d : Progress) → IsAnsweredInAudit n (unopened manner) text p c
-        → IsAnsweredInAudit m (unopened manner) text q d → Opened p q c d
-    unopened_alike =
-        line_alike n m text (unopened manner) (unopened manner) Opened (λ r asks. asks)
-        (λ printed p q c d one other. inl (one.0 ∙ sym other.0, one.1, other.1)) opening_asked
+  opening_asked : (p q : List ℕ) (c d : Progress) (asked : Asked) → opens asked ≡ true
+      → IsDoneInAudit n (unopened manner) asked p c → IsDoneInAudit m (unopened manner) asked q d → Opening p q c d
+  opening_asked p q c d (Opens readers root) is one other = opening root p q c d one other
+  opening_asked p q c d asked timely one other = absurd (cc (timely))
 
   -- a line in front of two outputs
   after_line : (first p q xs ys : List ℕ) → p ≡ first ++ xs → q ≡ first ++ ys → DifferInOpening n m xs ys → DifferInOpening n m p q
@@ -319,7 +271,7 @@ module _ (manner : Manner) (n m : ℕ) (some : IsReaderCount n) (others : IsRead
   )
 
   after_opening : (texts : List (List ℕ)) (p q first second xs ys : List ℕ) (c d : Audited) (x y : Tally) → p ≡ first ++ xs → q ≡ second ++ ys
-      → Opened first second c.progress d.progress → AreAnsweredInAudit n c texts xs x → AreAnsweredInAudit m d texts ys y
+      → Opening first second c.progress d.progress → AreAnsweredInAudit n c texts xs x → AreAnsweredInAudit m d texts ys y
       → (c.progress ≡ unopened manner → d.progress ≡ unopened manner → DifferInOpening n m xs ys) → DifferInOpening n m p q
   after_opening texts p q first second xs ys c d x y one other (inl same) answered answers rest =
       after_line second p q xs ys (one ∙ ap (λ zs. zs ++ xs) same.0) other (rest same.1 same.2)
@@ -329,16 +281,17 @@ module _ (manner : Manner) (n m : ℕ) (some : IsReaderCount n) (others : IsRead
 
   all_differ : (texts : List (List ℕ)) (a b : Audited) (p q : List ℕ) (x y : Tally) → a.progress ≡ unopened manner → b.progress ≡ unopened manner
       → AreAnsweredInAudit n a texts p x → AreAnsweredInAudit m b texts q y → DifferInOpening n m p q
-  all_differ [] a b p q x y closed shut one other =
-      let first : p ≡ [] = subst (λ (e : Progress). IsEnd e.store e.queries p) closed one.0 in
-      let second : q ≡ [] = subst (λ (e : Progress). IsEnd e.store e.queries q) shut other.0 in
-      inl (first ∙ sym second)
+  all_differ [] a b p q x y closed shut one other = inl (ended n a p x one ∙ rw (closed, shut) refl ∙ sym (ended m b q y other))
   all_differ (text ∷ texts) a b p q x y closed shut one other =
-      after_opening texts p q one.0 other.0 one.2 other.2 one.1 other.1 x y one.5 other.5
-      (unopened_alike text one.0 other.0 one.1.progress other.1.progress
-      (subst (λ e. IsAnsweredInAudit n e text one.0 one.1.progress) closed one.3.answered)
-      (subst (λ e. IsAnsweredInAudit m e text other.0 other.1.progress) shut other.3.answered)) one.4 other.4
-      (λ still yet. all_differ texts one.1 other.1 one.2 other.2 x y still yet one.4 other.4)
+      let first = cut n a text texts p x one in
+      let second = cut m b text texts q y other in
+      let c = first.1.progress in
+      let d = second.1.progress in
+      after_opening texts p q first.0 second.0 first.2 second.2 first.1 second.1 x y first.5 second.5
+      (line_alike manner.notation false text (Opening first.0 second.0 c d) _ _ _ _ first.0 second.0 (λ same kept left. inl (same, kept, left))
+      (opening_asked first.0 second.0 c d)
+      (subst (λ e. IsAnsweredInAudit n e text first.0 c) closed first.3.answered) (subst (λ e. IsAnsweredInAudit m e text second.0 d) shut second.3.answered))
+      first.4 second.4 (λ still yet. all_differ texts first.1 second.1 first.2 second.2 x y still yet first.4 second.4)
 
 pub workers_show_in_the_opening : WorkersShowInTheOpening
 workers_show_in_the_opening manner n m text one other some others prints other_prints =

@@ -1,26 +1,31 @@
 -- The parts of an audit, as its functions see them. No public contract says so.
-use Rattle.std.specs.Prelude.{◌≡◌, ℕ, true, false, List, [], ◌++◌, length, replicate, Bool, Ok, codes}
-use Rattle.std.specs.List.{flat_map}
-use Rattle.std.specs.Str.Lines.{lines}
+use Rattle.std.specs.Prelude.{ℕ, List, [], replicate, Option, Some, None}
 use Rattle.sd_tree.specs.declared.opening.Opening.{Opening}
 use Rattle.sd_tree.specs.declared.opening.RootSpec.{RootSpec}
-use Rattle.sd_desk.specs.Machine.{Machine}
-use Rattle.sd_versions.specs.declared.answer.Answer.{Answer}
+use Rattle.sd_desk.specs.Machine.{Machine, started}
 use Rattle.sd_store.specs.Sights.{StoreState}
 use Rattle.sd_store.specs.declared.query.Query.{Query}
-use Rattle.sd_answer.specs.declared.answer.Spelling.{Spelling}
-use Rattle.sd_script.specs.Command.{line_asks}
-use Rattle.sd_script.specs.Lines.{is_silent}
-use Rattle.sd_script.specs.Output.{IsOpened}
-use Rattle.sd_script.specs.Reply.{check_line, counted_line, seen_line}
-use Rattle.sd_script.specs.Tally.{tallied}
-use Rattle.sd_script.specs.declared.asked.Asked.TheVariants.{Opening as Opens}
+use Rattle.sd_script.specs.Output.{opening_in}
 use Rattle.sd_script.specs.declared.manner.Manner.{Manner}
 use Rattle.sd_script.specs.declared.manner.Notation.{Notation}
+use Rattle.sd_script.specs.declared.session.Session.{Session}
 use Rattle.sd_script.specs.declared.session.Session.TheVariants.{Closed, Opened}
 use Rattle.sd_script.specs.declared.tally.Tally.{Tally}
-use Rattle.sd_script_audit.specs.Audit.{Audited, Progress, AreAnsweredInAudit, last_publish}
-use Rattle.sd_script_audit.specs.declared.counted.Counted.{Counted}
+use Rattle.sd_script_audit.specs.Audit.{Audited, Progress}
+
+-- no store is open, or one with this root that nothing was asked of
+abbrev pub store_of : Manner → ℕ → Option RootSpec → Session
+store_of manner workers None = Closed manner
+store_of manner workers (Some root) = Opened manner.notation (started (opening_in manner root) workers)
+
+abbrev pub without_queries : Manner → ℕ → Option RootSpec → Progress
+without_queries manner workers root = record { store = store_of manner workers root; queries = [] }
+
+abbrev pub before_queries : Manner → ℕ → Option RootSpec → Tally → Audited
+before_queries manner workers root tally = record {
+  progress = without_queries manner workers root;
+  tally = tally;
+}
 
 -- the machine of a writer, whose readers have seen nothing
 abbrev pub machine_of : Opening → ℕ → StoreState → Machine
@@ -44,37 +49,3 @@ audited notation opening readers writer queries tally = record {
   progress = progress notation opening readers writer queries;
   tally = tally;
 }
-
--- the line opens a store with this root, where none is open
-abbrev pub OpensStore : Notation → List ℕ → RootSpec → Type 0
-OpensStore notation line root = (is_silent line ≡ false)
-    × ((readers : ℕ) × line_asks notation false line (Ok (Opens readers root)))
-
--- an opening line was answered, and where a store was then open, so were the lines after it and the end
-abbrev pub IsOpenedAndAudited : Manner → ℕ → RootSpec → List ℕ → List ℕ → Bool → Counted → Counted → Type 0
-IsOpenedAndAudited manner workers root line after true old new =
-    (first : List ℕ) × (machine : Machine) × (rest : List ℕ)
-    × IsOpened manner workers root first (Opened manner.notation machine)
-    × AreAnsweredInAudit workers
-    (record {
-      progress = record { store = Opened manner.notation machine; queries = [] };
-      tally = tallied line first old.tally;
-    })
-    (lines after) rest new.tally
-    × (new.printed.items ≡ old.printed.items ++ first ++ rest)
-IsOpenedAndAudited manner workers root line after false old new =
-    (first : List ℕ) × IsOpened manner workers root first (Closed manner)
-    × (new.tally ≡ tallied line first old.tally) × (new.printed.items ≡ old.printed.items ++ first)
-
--- what the last publish and the notice print
-abbrev pub last_lines : StoreState → List ℕ
-last_lines writer =
-    last_publish writer.pending (length (writer.journal ++ writer.pending)) ++ counted_line (codes "told")
-    (length (writer.journal ++ writer.pending))
-
--- the lines of answers by journals of this length
-abbrev pub given_line : Spelling → ℕ → Answer → List ℕ
-given_line spelling seen given = seen_line seen (check_line spelling given.reply)
-
-abbrev pub given_lines : Spelling → ℕ → List Answer → List ℕ
-given_lines spelling seen answers = flat_map (given_line spelling seen) answers

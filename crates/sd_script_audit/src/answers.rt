@@ -1,16 +1,15 @@
 //! The end of an audit: a last publish, and the answers to its queries.
 
-ghost use Rattle.std.specs.Prelude.{◌≡◌, ◌⊎◌, ◌++◌, ◌<◌, ◌≤◌, ℕ, List, length, All, IfErr, IfOk, OnOk};
-ghost use Rattle.sd_script_audit.specs.Audit.{IsEnd};
-ghost use Rattle.sd_script_audit.specs.Parts.{given_lines, last_lines, machine_of};
+ghost use Rattle.std.specs.Prelude.{◌≡◌, ◌⊎◌, ◌++◌, ◌<◌, ◌≤◌, ℕ, length, IfErr, IfOk, OnOk, codes};
+ghost use Rattle.sd_script.specs.Reply.{counted_line};
 ghost use Rattle.sd_script.specs.declared.session.Session.TheVariants.{Opened};
+ghost use Rattle.sd_script_audit.specs.Audit.{end_of, last_publish};
+ghost use Rattle.sd_script_audit.specs.Parts.{machine_of};
 
-use sd_answer::Spelling;
 use sd_desk::Reply;
 use sd_script::{Notation, counted_line, reply_line};
 use sd_store::{AuditError, Checker, Gate, Naming, Notice, Query, StoreWriter, audit};
 use sd_stream::RunError;
-use sd_versions::Answer;
 use std::alloc::{AllocError, Global};
 use std::sync::Wait;
 use std::thread::Threads;
@@ -27,19 +26,25 @@ pub(crate) fn publish_and_answer<J: Naming + Send + Sync, T: Threads + Wait + Sy
     printed: &mut Vec<u8>,
 ) -> Result<(), RunError>
     requires some { (0 < length checkers.old) × (length checkers.old ≤ 64) }
-    ensures end { (readers : ℕ) → OnOk result ((back : List ℕ)
-        × IsEnd (Opened notation (machine_of J.opening readers writer.old)) queries.now back
-        × (printed.new.items ≡ printed.old.items ++ back)) }
+    ensures end { (readers : ℕ) → OnOk result (printed.new.items ≡ printed.old.items
+        ++ end_of (Opened notation (machine_of J.opening readers writer.old)) queries.now) }
     ensures failed { IfErr result (λ e. (e ≡ RunError.Memory) ⊎ (e ≡ RunError.Thread)) }
 {
     let mut notice = publish_and_tell(rt, alloc, writer, printed)?;
-    match audit(rt, alloc, checkers, &mut notice, queries, gate) {
-        Ok(answers) => {
-            print_answers(alloc, notation.spelling, notice.length(), &answers, printed)
+    let answers = match audit(rt, alloc, checkers, &mut notice, queries, gate) {
+        Ok(answers) => answers,
+        Err(AuditError::Memory) => return Err(RunError::Memory),
+        Err(AuditError::Gate | AuditError::Gone) => return Err(RunError::Thread),
+    };
+    let seen = notice.length();
+    for answer in &answers {
+        if answer.seen != seen {
+            return Err(RunError::Thread);
         }
-        Err(AuditError::Memory) => Err(RunError::Memory),
-        Err(AuditError::Gate | AuditError::Gone) => Err(RunError::Thread),
+        let line = reply_line(alloc, notation.spelling, &Reply::Answered(*answer))?;
+        printed.extend_from_slice(line.as_bytes())?;
     }
+    Ok(())
 }
 
 /// Publishes the pending edits, where there are some, and prints the journal's length.
@@ -50,7 +55,9 @@ fn publish_and_tell<J: Naming, T: Wait>(
     printed: &mut Vec<u8>,
 ) -> Result<Notice<J>, AllocError>
     ensures journal { IfOk result (λ notice. notice.journal ≡ writer.old.journal ++ writer.old.pending) }
-    ensures printed { OnOk result (printed.new.items ≡ printed.old.items ++ last_lines writer.old) }
+    ensures printed { OnOk result (printed.new.items ≡ printed.old.items
+        ++ last_publish writer.old.pending (length (writer.old.journal ++ writer.old.pending))
+        ++ counted_line (codes "told") (length (writer.old.journal ++ writer.old.pending))) }
 {
     if writer.pending_len() > 0 {
         let Ok(length) = writer.publish(rt) else {
@@ -63,26 +70,4 @@ fn publish_and_tell<J: Naming, T: Wait>(
     let line = counted_line(alloc, "told", notice.length())?;
     printed.extend_from_slice(line.as_bytes())?;
     Ok(notice)
-}
-
-/// Prints the answers, masks in this spelling, where each is by a journal of this length.
-fn print_answers(
-    alloc: Global,
-    spelling: Spelling,
-    seen: u64,
-    answers: &[Answer],
-    printed: &mut Vec<u8>,
-) -> Result<(), RunError>
-    ensures seen { OnOk result (All (λ given. given.seen ≡ seen) answers.now) }
-    ensures printed { OnOk result (printed.new.items ≡ printed.old.items ++ given_lines spelling seen answers.now) }
-    ensures failed { IfErr result (λ e. (e ≡ RunError.Memory) ⊎ (e ≡ RunError.Thread)) }
-{
-    for answer in answers {
-        if answer.seen != seen {
-            return Err(RunError::Thread);
-        }
-        let line = reply_line(alloc, spelling, &Reply::Answered(*answer))?;
-        printed.extend_from_slice(line.as_bytes())?;
-    }
-    Ok(())
 }

@@ -16,8 +16,9 @@
 #![tactic(auto)]
 
 mod answers;
-mod counted;
 mod laws;
+mod line;
+mod opening;
 mod output;
 mod queries;
 mod streams;

@@ -1,27 +1,23 @@
 //! The whole output of an audit.
 
-ghost use Rattle.std.specs.Prelude.{◌≡◌, ◌⊎◌, ◌++◌, ◌<◌, ◌≤◌, ℕ, List, [], length, IfErr, IfNone, IfOk, IfSome};
-ghost use Rattle.sd_script.specs.Output.{opening_in};
-ghost use Rattle.sd_script.specs.Tally.{tallied};
-ghost use Rattle.sd_script_audit.specs.Audit.{AreAnsweredInAudit, IsAnsweredInAudit, PrintsAuditAndCounts, unopened};
-ghost use Rattle.sd_script_audit.specs.Parts.{audited, IsOpenedAndAudited, OpensStore};
+ghost use Rattle.std.specs.Prelude.{◌≡◌, ◌⊎◌, ◌++◌, ◌<◌, ◌≤◌, ℕ, List, length, Some, IfErr, IfOk, OnOk, is_some};
 ghost use Rattle.std.specs.Str.Lines.{lines};
+ghost use Rattle.sd_script.specs.Output.{opening_in};
+ghost use Rattle.sd_script_audit.specs.Audit.{AreAnsweredInAudit, PrintsAuditAndCounts};
+ghost use Rattle.sd_script_audit.specs.Parts.{audited, before_queries};
 
 use crate::answers::publish_and_answer;
-use crate::counted::Counted;
-use crate::queries::{collect_queries, only_in_scripts};
+use crate::opening::{Openings, Unopened};
+use crate::queries::{Open, Queries};
 use sd_history::Opened;
-use sd_lines::{Ending, first_line};
-use sd_script::{
-    Asked, LineStop, Manner, Notation, Tally, counted_line, expects, is_silent, line_of_fault,
-    read_line, start_error_line,
-};
-use sd_store::{Checker, Gate, Naming, StoreWriter, start_within};
+use sd_lines::{answer_text, answer_until};
+use sd_script::{LINES, Manner, Tally};
+use sd_store::{Checker, Gate, Naming, start_within};
 use sd_stream::RunError;
 use sd_tree::{Edit, RootSpec};
 use sd_versions::StartError;
-use std::alloc::{AllocError, Global};
-use std::marker::Brand;
+use std::alloc::Global;
+use std::marker::{Brand, PhantomData};
 use std::sync::Wait;
 use std::thread::Threads;
 
@@ -38,75 +34,47 @@ pub(crate) fn audit_output<T: Threads + Wait + Sync, G: Gate + Sync>(
     ensures printed { IfOk result (λ output. PrintsAuditAndCounts manner.now workers text.now output.0.items output.1) }
     ensures failed { IfErr result (λ e. (e ≡ RunError.Memory) ⊎ (e ≡ RunError.Thread)) }
 {
-    let mut counted = Counted::new(alloc, Tally::of_no_lines());
-    let mut rest = text;
-    while !rest.is_empty() {
-        let (line, after) = first_line(Ending::Feed, rest);
-        if let Some(root) = opened_root(alloc, manner, line, &mut counted)? {
-            let history = Opened::new();
-            let is_open = open_and_audit::<Brand, T, G>(
-                rt,
-                alloc,
-                workers,
-                history,
-                manner,
-                &root,
-                line,
-                after,
-                gate,
-                &mut counted,
-            )?;
-            if is_open {
-                return Ok((counted.printed, counted.tally));
-            }
-        }
-        rest = after;
-    }
-    Ok((counted.printed, counted.tally))
+    let mut printed = Vec::new(alloc);
+    let openings = Openings {
+        manner: *manner,
+        workers,
+    };
+    let mut unopened = Unopened {
+        root: None,
+        tally: Tally::of_no_lines(),
+    };
+    let after = answer_until(
+        alloc,
+        &openings,
+        &mut unopened,
+        LINES,
+        text,
+        &mut printed,
+        |unopened: &Unopened|
+            ensures { result ≡ is_some unopened.now.root }
+        { unopened.root.is_some() },
+    )?;
+    let Unopened { root, tally } = unopened;
+    let Some(root) = root else {
+        return Ok((printed, tally));
+    };
+    let tally = open_and_audit::<Brand, T, G>(
+        rt,
+        alloc,
+        workers,
+        Opened::new(),
+        manner,
+        &root,
+        after,
+        tally,
+        gate,
+        &mut printed,
+    )?;
+    Ok((printed, tally))
 }
 
-/// The root of the store that a line opens. What another line is answered by is printed, and the line counted.
-fn opened_root(
-    alloc: Global,
-    manner: &Manner,
-    line: &[u8],
-    counted: &mut Counted,
-) -> Result<Option<RootSpec>, AllocError>
-    ensures opens { IfOk result (λ found. IfSome found (λ root.
-        OpensStore manner.now.notation line.now root × (counted.new ≡ counted.old))) }
-    ensures answered { (workers : ℕ) → IfOk result (λ found. IfNone found ((answer : List ℕ)
-        × IsAnsweredInAudit workers (unopened manner.now) line.now answer (unopened manner.now)
-        × (counted.new.tally ≡ tallied line.now answer counted.old.tally)
-        × (counted.new.printed.items ≡ counted.old.printed.items ++ answer))) }
-{
-    if is_silent(line) {
-        counted.answer(line, b"".as_slice())?;
-        return Ok(None);
-    }
-    if expects(line) {
-        let answer = only_in_scripts(alloc)?;
-        counted.answer(line, answer.as_bytes())?;
-        return Ok(None);
-    }
-    match read_line(alloc, manner.notation, false, line) {
-        Ok(Asked::Opening { readers: _, root }) => Ok(Some(root)),
-        Ok(Asked::Asking(_)) => unreachable!(),
-        Ok(Asked::Explaining { .. }) => unreachable!(),
-        Ok(Asked::Finding { .. }) => unreachable!(),
-        Ok(Asked::Deleting { .. }) => unreachable!(),
-        Ok(Asked::Viewing(_)) => unreachable!(),
-        Ok(Asked::Importing { .. }) => unreachable!(),
-        Err(LineStop::Fault(fault)) => {
-            let answer = line_of_fault(alloc, fault)?;
-            counted.answer(line, answer.as_bytes())?;
-            Ok(None)
-        }
-        Err(LineStop::Memory) => Err(AllocError),
-    }
-}
-
-/// Opens a store of this history by a line, and answers the lines after, to the end of the audit. Whether the store was
-/// opened: where it was refused, just that is printed.
+/// Opens a store of this history with this root, answers the lines after its opening, to the end of the audit, and
+/// returns what is then counted.
 fn open_and_audit<J: Naming + Send + Sync, T: Threads + Wait + Sync, G: Gate + Sync>(
     rt: &T,
     alloc: Global,
@@ -114,85 +82,83 @@ fn open_and_audit<J: Naming + Send + Sync, T: Threads + Wait + Sync, G: Gate + S
     history: Opened<Edit>,
     manner: &Manner,
     root: &RootSpec,
-    line: &[u8],
-    after: &[u8],
+    text: &[u8],
+    tally: Tally,
     gate: &G,
-    counted: &mut Counted,
-) -> Result<bool, RunError>
+    printed: &mut Vec<u8>,
+) -> Result<Tally, RunError>
     requires history { (history.book ≡ J.book) × (history.first ≡ J.first) }
     requires opening { opening_in manner.now root.now ≡ J.opening }
-    ensures audited { IfOk result (λ is_open.
-        IsOpenedAndAudited manner.now workers root.now line.now after.now is_open counted.old counted.new) }
+    ensures audited { IfOk result (λ last. (added : List ℕ) × (printed.new.items ≡ printed.old.items ++ added)
+        × AreAnsweredInAudit workers (before_queries manner.now workers (Some root.now) tally) (lines text.now)
+        added last) }
     ensures failed { IfErr result (λ e. (e ≡ RunError.Memory) ⊎ (e ≡ RunError.Thread)) }
 {
-    let opened = counted_line(alloc, "opened", workers)?;
-    let limits = manner.limits;
-    match start_within::<J, T>(rt, alloc, history, &manner.mapping, root, limits, workers) {
-        Ok((mut writer, mut checkers)) => {
-            let answered = collect_and_answer(
+    let Manner {
+        mapping,
+        limits,
+        notation,
+    } = *manner;
+    match start_within::<J, T>(rt, alloc, history, &mapping, root, limits, workers) {
+        Ok((writer, mut checkers)) => {
+            let queries = Queries {
                 rt,
-                alloc,
                 workers,
-                manner.notation,
-                &mut writer,
-                &mut checkers,
-                after,
-                gate,
-                counted.tally.with(line, opened.as_bytes()),
-            );
+                notation,
+                of: PhantomData,
+            };
+            let mut open = Open {
+                writer,
+                queries: Vec::new(alloc),
+                tally,
+            };
+            let answered = queries.answered(alloc, &mut open, text, &mut checkers, gate, printed);
+            let Open {
+                writer,
+                queries: _,
+                tally,
+            } = open;
             writer.end(rt);
-            let Counted { printed, tally } = answered?;
-            counted.printed.extend_from_slice(opened.as_bytes())?;
-            counted.printed.extend_from_slice(&printed)?;
-            counted.tally = tally;
-            Ok(true)
+            answered?;
+            Ok(tally)
         }
-        Err(StartError::Place) => Err(RunError::Thread),
-        Err(error) => {
-            let refused = start_error_line(alloc, error)?;
-            counted.answer(line, refused.as_bytes())?;
-            Ok(false)
-        }
+        Err(StartError::Memory) => Err(RunError::Memory),
+        Err(_) => Err(RunError::Thread),
     }
 }
 
-/// What the lines after an opening and the end of the audit are answered by, and what is then counted.
-fn collect_and_answer<J: Naming + Send + Sync, T: Threads + Wait + Sync, G: Gate + Sync>(
-    rt: &T,
-    alloc: Global,
-    workers: u64,
-    notation: Notation,
-    writer: &mut StoreWriter<J>,
-    checkers: &mut [Checker<J>],
-    text: &[u8],
-    gate: &G,
-    tally: Tally,
-) -> Result<Counted, RunError>
-    requires some { (0 < length checkers.old) × (length checkers.old ≤ 64) }
-    ensures printed { IfOk result (λ counted. AreAnsweredInAudit workers
-        (audited notation J.opening workers writer.old [] tally) (lines text.now) counted.printed.items counted.tally) }
-    ensures failed { IfErr result (λ e. (e ≡ RunError.Memory) ⊎ (e ≡ RunError.Thread)) }
-{
-    let mut counted = Counted::new(alloc, tally);
-    let mut queries = Vec::new(alloc);
-    collect_queries(
-        rt,
-        alloc,
-        notation,
-        writer,
-        text,
-        &mut queries,
-        &mut counted,
-    )?;
-    publish_and_answer(
-        rt,
-        alloc,
-        notation,
-        writer,
-        checkers,
-        &queries,
-        gate,
-        &mut counted.printed,
-    )?;
-    Ok(counted)
+impl<J: Naming + Send + Sync, T: Threads + Wait + Sync> Queries<'_, J, T> {
+    /// Answers the lines after an opening and the end of the audit.
+    fn answered<G: Gate + Sync>(
+        &self,
+        alloc: Global,
+        open: &mut Open<J>,
+        text: &[u8],
+        checkers: &mut [Checker<J>],
+        gate: &G,
+        printed: &mut Vec<u8>,
+    ) -> Result<(), RunError>
+        requires some { (0 < length checkers.old) × (length checkers.old ≤ 64) }
+        ensures audited { OnOk result ((added : List ℕ) × (printed.new.items ≡ printed.old.items ++ added)
+            × AreAnsweredInAudit self.now.workers (audited self.now.notation J.opening self.now.workers
+            open.old.writer open.old.queries.items open.old.tally) (lines text.now) added open.new.tally) }
+        ensures failed { IfErr result (λ e. (e ≡ RunError.Memory) ⊎ (e ≡ RunError.Thread)) }
+    {
+        answer_text(alloc, self, open, LINES, text, printed)?;
+        let Open {
+            writer,
+            queries,
+            ..
+        } = open;
+        publish_and_answer(
+            self.rt,
+            alloc,
+            self.notation,
+            writer,
+            checkers,
+            queries,
+            gate,
+            printed,
+        )
+    }
 }

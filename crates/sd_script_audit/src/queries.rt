@@ -1,155 +1,127 @@
 //! The lines of an audit after the one that opened its store: their answers, and the queries among them.
 
-ghost use Rattle.std.specs.Prelude.{◌≡◌, ◌++◌, ℕ, List, [], IfOk, OnOk, codes, string_bytes};
-ghost use Rattle.std.specs.Str.Lines.{lines};
+ghost use Rattle.std.specs.Prelude.{◌≡◌, ℕ, false, IfOk, IfSome, string_bytes};
 ghost use Rattle.sd_desk.specs.Machine.{Steps};
 ghost use Rattle.sd_desk.specs.declared.request.Request.TheVariants as asked;
-ghost use Rattle.sd_script_audit.specs.Audit.{AreAnsweredInAudit, IsAnsweredInAudit, IsDoneInAudit};
+ghost use Rattle.sd_script.specs.Output.{opens};
+ghost use Rattle.sd_script_audit.specs.Audit.{IsAnsweredInAudit, IsDoneInAudit, IsNextInAudit};
 ghost use Rattle.sd_script_audit.specs.Parts.{audited, machine_of, progress};
-ghost use Rattle.sd_script.specs.declared.tally.Tally.{Tally};
-ghost use Rattle.sd_store.specs.declared.query.Query.{Query};
-ghost use Rattle.sd_answer.specs.Answer.{fault_line};
-ghost use Rattle.sd_script.specs.declared.asked.Asked.TheVariants.{Asking, Importing};
 
-use crate::counted::Counted;
-use sd_answer::fault_line;
+use crate::line::{asked_or_told, only_in_scripts};
 use sd_desk::{Reply, Request};
-use sd_lines::{Ending, first_line};
-use sd_script::{
-    Asked, LineStop, Notation, expects, import_line, is_silent, line_of_fault, read_line,
-    reply_line,
-};
+use sd_lines::AnswersLines;
+use sd_script::{Asked, Notation, Tally, import_line, reply_line};
 use sd_store::{EditError, Naming, PublishError, Query, StoreWriter};
-use sd_tree::{Edit, Entries, Path};
+use sd_tree::Edit;
 use std::alloc::{AllocError, Global};
+use std::marker::PhantomData;
 use std::sync::Wait;
 
-/// Answers the lines and counts them, and keeps the queries among them.
-pub(crate) fn collect_queries<J: Naming, T: Wait>(
-    rt: &T,
-    alloc: Global,
-    notation: Notation,
-    writer: &mut StoreWriter<J>,
-    text: &[u8],
-    queries: &mut Vec<Query>,
-    counted: &mut Counted,
-) -> Result<(), AllocError>
-    requires queries { queries.old.items ≡ [] }
-    requires printed { counted.old.printed.items ≡ [] }
-    ensures { (workers : ℕ) → OnOk result ((back : List ℕ) (tally : Tally)
-        → AreAnsweredInAudit workers
-        (audited notation J.opening workers writer.new queries.new.items counted.new.tally) [] back tally
-        → AreAnsweredInAudit workers
-        (audited notation J.opening workers writer.old [] counted.old.tally) (lines text.now)
-        (counted.new.printed.items ++ back) tally) }
-{
-    let mut rest = text;
-    while !rest.is_empty() {
-        let (line, after) = first_line(Ending::Feed, rest);
-        let answer = answer_line(rt, alloc, notation, writer, queries, line)?;
-        counted.answer(line, answer.as_bytes())?;
-        rest = after;
-    }
-    Ok(())
+/// How these lines are answered.
+#[derive(Drop)]
+pub(crate) struct Queries<'a, J, T> {
+    pub(crate) rt: &'a T,
+    pub(crate) workers: u64,
+    pub(crate) notation: Notation,
+    pub(crate) of: PhantomData<J>,
 }
 
-/// What a line is answered by. A check is kept.
-fn answer_line<J: Naming, T: Wait>(
-    rt: &T,
-    alloc: Global,
-    notation: Notation,
-    writer: &mut StoreWriter<J>,
-    queries: &mut Vec<Query>,
-    line: &[u8],
-) -> Result<String, AllocError>
-    ensures { (workers : ℕ) → IfOk result (λ text. IsAnsweredInAudit workers
-        (progress notation J.opening workers writer.old queries.old.items) line.now (string_bytes text)
-        (progress notation J.opening workers writer.new queries.new.items)) }
-{
-    if is_silent(line) {
-        return Ok(String::new(alloc));
+/// What stands between two of them.
+pub(crate) struct Open<J: Naming> {
+    /// The writer of the store.
+    pub(crate) writer: StoreWriter<J>,
+    /// What is asked at the end.
+    pub(crate) queries: Vec<Query>,
+    /// What is counted of the lines before.
+    pub(crate) tally: Tally,
+}
+
+impl<J: Naming, T: Wait> AnswersLines for Queries<'_, J, T> {
+    type State = Open<J>;
+
+    ghost answers = { λ by old line printed new. IfSome line (λ text. IsNextInAudit by.workers
+        (audited by.notation J.opening by.workers old.writer old.queries.items old.tally) text printed
+        (audited by.notation J.opening by.workers new.writer new.queries.items new.tally)) };
+
+    fn answer(
+        &self,
+        alloc: Global,
+        open: &mut Open<J>,
+        line: Option<&[u8]>,
+        text: &mut Vec<u8>,
+    ) -> Result<(), AllocError> {
+        let Some(line) = line else {
+            // (no line is too long)
+            return Err(AllocError);
+        };
+        let answer = self.answer_line(alloc, &mut open.writer, &mut open.queries, line)?;
+        open.tally = open.tally.with(line, answer.as_bytes());
+        text.extend_from_slice(answer.as_bytes())
     }
-    if expects(line) {
-        return only_in_scripts(alloc);
-    }
-    match read_line(alloc, notation, true, line) {
-        Ok(Asked::Asking(request)) => {
-            answer_request(rt, alloc, notation, writer, queries, request)
+}
+
+impl<J: Naming, T: Wait> Queries<'_, J, T> {
+    /// What a line is answered by.
+    fn answer_line(
+        &self,
+        alloc: Global,
+        writer: &mut StoreWriter<J>,
+        queries: &mut Vec<Query>,
+        line: &[u8],
+    ) -> Result<String, AllocError>
+        ensures { IfOk result (λ text. IsAnsweredInAudit self.now.workers
+            (progress self.now.notation J.opening self.now.workers writer.old queries.old.items) line.now
+            (string_bytes text)
+            (progress self.now.notation J.opening self.now.workers writer.new queries.new.items)) }
+    {
+        match asked_or_told(alloc, self.notation, true, line)? {
+            Ok(asked) => self.done(alloc, writer, queries, asked),
+            Err(told) => Ok(told),
         }
-        Ok(Asked::Importing { edit, path, given }) => {
-            import(alloc, notation, writer, &edit, &path, &given)
-        }
-        Ok(
-            Asked::Explaining { .. }
-            | Asked::Finding { .. }
-            | Asked::Deleting { .. }
-            | Asked::Viewing(_),
-        ) => only_in_scripts(alloc),
-        Ok(Asked::Opening { .. }) => unreachable!(),
-        Err(LineStop::Fault(fault)) => line_of_fault(alloc, fault),
-        Err(LineStop::Memory) => Err(AllocError),
     }
-}
 
-/// What a request is answered by. A check is kept, and what only a script does is a fault.
-fn answer_request<J: Naming, T: Wait>(
-    rt: &T,
-    alloc: Global,
-    notation: Notation,
-    writer: &mut StoreWriter<J>,
-    queries: &mut Vec<Query>,
-    request: Request,
-) -> Result<String, AllocError>
-    ensures { (workers : ℕ) → IfOk result (λ text. IsDoneInAudit workers
-        (progress notation J.opening workers writer.old queries.old.items) (Asking request) (string_bytes text)
-        (progress notation J.opening workers writer.new queries.new.items)) }
-{
-    match request {
-        Request::Edit(edit) => reply_line(alloc, notation.spelling, &edit_reply(writer, &edit)),
-        Request::Publish => reply_line(alloc, notation.spelling, &publish_reply(rt, writer)),
-        Request::Check {
-            reader: _,
-            path,
-            token,
-            asked,
-        } => {
-            queries.push(Query { path, token, asked })?;
-            Ok(String::new(alloc))
+    /// What is asked is done, and answered by this. A check is kept, and what only a script does is a fault. After an
+    /// import the node is compared in the tree of all accepted edits.
+    fn done(
+        &self,
+        alloc: Global,
+        writer: &mut StoreWriter<J>,
+        queries: &mut Vec<Query>,
+        asked: Asked,
+    ) -> Result<String, AllocError>
+        requires { opens asked ≡ false }
+        ensures { IfOk result (λ text. IsDoneInAudit self.now.workers
+            (progress self.now.notation J.opening self.now.workers writer.old queries.old.items) asked
+            (string_bytes text)
+            (progress self.now.notation J.opening self.now.workers writer.new queries.new.items)) }
+    {
+        let spelling = self.notation.spelling;
+        match asked {
+            Asked::Asking(Request::Edit(edit)) => {
+                reply_line(alloc, spelling, &edit_reply(writer, &edit))
+            }
+            Asked::Asking(Request::Publish) => {
+                reply_line(alloc, spelling, &publish_reply(self.rt, writer))
+            }
+            Asked::Asking(
+                Request::Check {
+                    reader: _,
+                    path,
+                    token,
+                    asked,
+                },
+            ) => {
+                queries.push(Query { path, token, asked })?;
+                Ok(String::new(alloc))
+            }
+            Asked::Importing { edit, path, given } => {
+                let reply = edit_reply(writer, &edit);
+                import_line(alloc, spelling, writer.draft(), &path, &given, &reply)
+            }
+            Asked::Opening { .. } => unreachable!(),
+            _ => only_in_scripts(alloc),
         }
-        Request::Tell | Request::Learn { .. } | Request::Show { .. } => only_in_scripts(alloc),
     }
-}
-
-/// What an import is answered by: the edit is made, and the node is compared in the tree of all accepted edits.
-fn import<J: Naming>(
-    alloc: Global,
-    notation: Notation,
-    writer: &mut StoreWriter<J>,
-    edit: &Edit,
-    path: &Path,
-    given: &Entries,
-) -> Result<String, AllocError>
-    ensures { (workers : ℕ) (queries : List Query) → IfOk result (λ text. IsDoneInAudit
-        workers (progress notation J.opening workers writer.old queries) (Importing edit.now path.now given.now)
-        (string_bytes text)
-        (progress notation J.opening workers writer.new queries)) }
-{
-    let reply = edit_reply(writer, edit);
-    import_line(
-        alloc,
-        notation.spelling,
-        writer.draft(),
-        path,
-        given,
-        &reply,
-    )
-}
-
-/// The line of a command that only a script carries out.
-pub(crate) fn only_in_scripts(alloc: Global) -> Result<String, AllocError>
-    ensures { IfOk result (λ text. string_bytes text ≡ fault_line (codes "audit")) }
-{
-    fault_line(alloc, "audit")
 }
 
 /// The reply to an edit.

@@ -1,15 +1,26 @@
-use Rattle.std.proofs.Common.{◌∙◌, length, ap, arith}
+use Rattle.std.proofs.Common.{◌++◌, ◌<◌, length, sym, ◌∙◌, ap, arith}
 use Rattle.sd_store.specs.Sights.{Told}
-use Rattle.sd_script_audit.proofs.Answering.{end_is, both_ok}
+use Rattle.sd_versions.specs.declared.answer.Answer.{Answer}
+use Rattle.sd_script_audit.proofs.Answering.{answered_more, replies_by, some_of}
 use Rattle.sd_script_audit.proofs.answers.publish_and_answer.Goals as goal
 
-pub returns-in-Ok-clause-end : goal.returns-in-Ok-clause-end
-returns-in-Ok-clause-end g c = λ readers.
+pub loop-answer-preserved : goal.loop-answer-preserved
+loop-answer-preserved g c =
+    let o = g.J.Naming.opening in
+    let journal = c.args.writer.now.journal ++ c.args.writer.now.pending in
+    let queries = c.args.queries.now in
     let answers = c.in-Ok.answers.items in
-    let seen = rw (c.deref.ensures.value) at c.print_answers.ensures.seen in
-    let grown = rw (c.deref.ensures.value) at c.print_answers.ensures.printed in
-    both_ok c.print_answers.result (λ all more.
-    end_is c.args.notation g.J.Naming.opening c.in_ok-notice.notice.journal c.args.writer.now readers c.args.queries.now c.args.checkers.now c.audit.new.checkers answers
-    c.args.printed.now.items c.publish_and_tell.new.printed.items c.print_answers.new.printed.items c.length.result
-    c.in_ok-notice.ensures.journal (c.length.ensures.length ∙ ap (λ (t : Told). length t.journal) c.in-Ok.ensures.notice) c.in_ok-notice.ensures.printed more
-    all c.requires.some.0 c.in-Ok.ensures.grown c.in-Ok.ensures.answers (omega (arith, c.in-Ok.ensures.count))) seen grown
+    let i = c.loop-answer.answer-index in
+    let given = c.answer-item.result in
+    let is = rw (c.deref-answer-items.ensures.value) at c.answer-item.is in
+    let low : i < length answers = rw (c.deref-answer-items.ensures.value) at c.loop-answer-test.true in
+    let within : i < length queries = omega (arith, low, c.in-Ok.ensures.count) in
+    let q = some_of queries (omega arith) in
+    let seen = c.if-answer-seen.false ∙ c.length-seen.ensures.length
+    ∙ ap (λ (t : Told). length t.journal) c.in-Ok.ensures.notice ∙ ap length c.in_ok-notice.ensures.journal in
+    let grown = rw (c.in_ok-notice.ensures.journal) at c.in-Ok.ensures.grown in
+    let are = rw (c.in_ok-notice.ensures.journal) at c.in-Ok.ensures.answers in
+    answered_more c.args.notation.spelling o journal queries i q given c.publish_and_tell.new.printed.items c.loop-answer.printed.items c.extend_from_slice.new.self.items c.as_bytes.result.now
+    within c.loop-answer.invariant c.in_ok-extend_from_slice.ensures.items (rw (c.as_bytes.ensures.value) c.in_ok-line.ensures) seen
+    (ap (λ (a : Answer). a.reply) is
+    ∙ replies_by o journal queries c.args.checkers.now c.audit.new.checkers answers i given q c.requires.some.0 grown are low (ap (λ (a : Answer). a.seen) (sym is) ∙ seen))

@@ -1,35 +1,44 @@
-use Rattle.std.proofs.Common.{◌≡◌, length, [], refl, append-nil, sym, ◌∙◌, arith}
-use Rattle.std.proofs.lemmas.Bool.Decides.{nat_tests}
-use Rattle.sd_script_audit.specs.Audit.{PrintsAuditAndCounts}
-use Rattle.sd_script_audit.proofs.LinesInOrder.{all_answered, before_opening, opened_refused, opened_whole, more_answered}
+use Rattle.std.proofs.Common.{◌≡◌, ◌++◌, [], None, Some, refl, ◌∙◌, ap, append-nil, inl, inr, subst, sym}
+use Rattle.std.specs.Prelude.{is_some}
+use Rattle.std.specs.Str.Lines.{lines}
+use Rattle.sd_lines.specs.Answers.{AreAnswered}
+use Rattle.sd_lines.proofs.InOrder.{seen_as}
+use Rattle.sd_script_audit.specs.Audit.{AreAnsweredInAudit, IsNextInAudit, begun}
+use Rattle.sd_script_audit.specs.Parts.{before_queries}
+use Rattle.sd_script_audit.specs.declared.opening.Unopened.{Unopened}
+use Rattle.sd_script_audit.proofs.Lines.{lines_before}
 use Rattle.sd_script_audit.proofs.output.audit_output.Goals as goal
-
-pub loop-rest-preserved-else-is_open : goal.loop-rest-preserved-else-is_open
-loop-rest-preserved-else-is_open g c =
-    let found = rw (c.in-Some.is) at c.in_ok-root.ensures.opens in
-    let held = rw (c.if-is_open.false) at c.in_ok-is_open.ensures.audited in
-    opened_refused (PrintsAuditAndCounts c.args.manner.now c.args.workers c.args.text.now) c.args.workers c.args.manner.now
-    c.loop-rest.rest.now c.first_line.result.1.now c.first_line.result.0.now c.in-Some.root c.loop-rest.counted c.opened_root.new.counted c.open_and_audit.new.counted
-    c.loop-rest.invariant c.first_line.ensures.lines found.0 found.1 held
-
-pub loop-rest-preserved : goal.loop-rest-preserved
-loop-rest-preserved g c =
-    let found = rw (c.in_default.is) at c.in_ok-root.ensures.answered c.args.workers in
-    more_answered (PrintsAuditAndCounts c.args.manner.now c.args.workers c.args.text.now) c.args.workers c.loop-rest.rest.now c.first_line.result.1.now c.first_line.result.0.now
-    (before_opening c.args.manner.now c.loop-rest.counted.tally) (before_opening c.args.manner.now c.opened_root.new.counted.tally)
-    c.loop-rest.counted.printed.items found.0 c.opened_root.new.counted.printed.items c.loop-rest.invariant c.first_line.ensures.lines
-    (record { answered = found.1; counted = found.2 }) found.3
 
 pub returns-clause-printed : goal.returns-clause-printed
 returns-clause-printed g c =
-    let none : length c.loop-rest.rest.now ≡ 0 = let test = sym c.is_empty.ensures ∙ c.loop-rest-test.false in grind (arith, nat_tests) in
-    rw (← append-nil c.loop-rest.counted.printed.items) (all_answered (PrintsAuditAndCounts c.args.manner.now c.args.workers c.args.text.now) c.args.workers c.loop-rest.rest.now
-    c.loop-rest.counted.printed.items (before_opening c.args.manner.now c.loop-rest.counted.tally) c.loop-rest.invariant none [] c.loop-rest.counted.tally (refl, refl))
+    let manner = c.args.manner.now in
+    let n = c.args.workers in
+    let said = c.in_ok-after.ensures.answered in
+    let rest = c.in_ok-tally.ensures.audited in
+    let left = c.answer_until.new.state in
+    let seen : AreAnswered (IsNextInAudit n) (before_queries manner n None c.of_no_lines.result) said.0 said.1 (before_queries manner n left.root left.tally) =
+    seen_as _ (IsNextInAudit n) (λ (s : Unopened). before_queries manner n s.root s.tally) (λ old new line printed is. is) _ left said.0 said.1 said.4 in
+    let first = rw (c.in-Some.is, c.of_no_lines.ensures) at seen in
+    let whole : c.open_and_audit.new.printed.items ≡ said.1 ++ rest.0 =
+    rest.1 ∙ ap (λ l. l ++ rest.0) (said.3 ∙ ap (λ l. l ++ said.1) c.new-printed.ensures.items) in
+    subst (λ ls. AreAnsweredInAudit n (begun manner) ls c.open_and_audit.new.printed.items c.in_ok-tally.tally) (sym said.2)
+    (subst (λ p. AreAnsweredInAudit n (begun manner) (said.0 ++ lines c.in_ok-after.after.now) p c.in_ok-tally.tally) (sym whole)
+    (lines_before n (begun manner) (before_queries manner n (Some c.in-Some.root) left.tally) said.0 (lines c.in_ok-after.after.now) said.1 rest.0 c.in_ok-tally.tally first rest.2))
 
-pub returns-then-is_open-clause-printed : goal.returns-then-is_open-clause-printed
-returns-then-is_open-clause-printed g c =
-    let found = rw (c.in-Some.is) at c.in_ok-root.ensures.opens in
-    let held = rw (c.if-is_open.true) at c.in_ok-is_open.ensures.audited in
-    opened_whole (PrintsAuditAndCounts c.args.manner.now c.args.workers c.args.text.now) c.args.workers c.args.manner.now
-    c.loop-rest.rest.now c.first_line.result.1.now c.first_line.result.0.now c.in-Some.root c.loop-rest.counted c.opened_root.new.counted c.open_and_audit.new.counted
-    c.loop-rest.invariant c.first_line.ensures.lines found.0 found.1 held
+pub returns-in_default-clause-printed : goal.returns-in_default-clause-printed
+returns-in_default-clause-printed g c =
+    let manner = c.args.manner.now in
+    let n = c.args.workers in
+    let said = c.in_ok-after.ensures.answered in
+    let left = c.answer_until.new.state in
+    let seen : AreAnswered (IsNextInAudit n) (before_queries manner n None c.of_no_lines.result) said.0 said.1 (before_queries manner n left.root left.tally) =
+    seen_as _ (IsNextInAudit n) (λ (s : Unopened). before_queries manner n s.root s.tally) (λ old new line printed is. is) _ left said.0 said.1 said.4 in
+    let first = rw (c.in_default.is, c.of_no_lines.ensures) at seen in
+    let none : c.in_ok-after.after.now ≡ [] = elim c.in_ok-after.ensures.over [ inl nothing ↦ nothing | inr over ↦ absurd (let is = over.says.met ∙ ap (λ (s : Unopened). is_some s.root) over.shows ∙ ap is_some c.in_default.is in cc (is)) ] in
+    let all : lines c.args.text.now ≡ said.0 = said.2 ∙ ap (λ t. said.0 ++ lines t) none ∙ append-nil said.0 in (
+      before_queries manner n None left.tally,
+      said.1,
+      rw all first,
+      said.3 ∙ ap (λ l. l ++ said.1) c.new-printed.ensures.items ∙ sym (append-nil said.1),
+      refl,
+    )

@@ -1,0 +1,10 @@
+-- The queries so far are answered, by all that was accepted.
+use Rattle.std.proofs.Common.{◌≡◌, ◌++◌, take}
+use Rattle.std.specs.List.{flat_map}
+use Rattle.sd_script_audit.specs.Audit.{answer_line}
+use Rattle.sd_script_audit.proofs.answers.publish_and_answer.Given as goal
+
+abbrev pub invariant-loop-answer : goal.invariant-loop-answer
+invariant-loop-answer g l =
+    l.printed.items ≡ l.initial.printed.items
+    ++ flat_map (answer_line l.notation.spelling g.J.Naming.opening (l.fn.writer.journal ++ l.fn.writer.pending)) (take l.answer-index l.queries)

@@ -1,0 +1,27 @@
+use Rattle.std.proofs.Common.{◌++◌, refl, ◌∙◌, ap, append_assoc}
+use Rattle.sd_lines.proofs.InOrder.{seen_as}
+use Rattle.sd_script.specs.declared.session.Session.TheVariants.{Opened}
+use Rattle.sd_script_audit.specs.Audit.{IsNextInAudit, end_of}
+use Rattle.sd_script_audit.specs.Parts.{audited, machine_of}
+use Rattle.sd_script_audit.proofs.Lines.{map_ok}
+use Rattle.sd_script_audit.proofs.queries.Queries.answered.Goals as goal
+
+pub returns-clause-audited : goal.returns-clause-audited
+returns-clause-audited g c =
+    let by = c.args.self.now in
+    let o = g.J.Naming.opening in
+    let said = c.in_ok-answer_text.ensures in
+    let left = c.answer_text.new.state in
+    let end = end_of (Opened by.notation (machine_of o by.workers left.writer)) left.queries.items in
+    map_ok c.publish_and_answer.result (λ more. (
+      said.0 ++ end,
+      more ∙ ap (λ l. l ++ end) said.1 ∙ append_assoc _ said.0 end,
+      (
+        audited by.notation o by.workers left.writer left.queries.items left.tally,
+        said.0,
+        seen_as _ (IsNextInAudit by.workers) (λ s. audited by.notation o by.workers s.writer s.queries.items s.tally) (λ old new line printed is. is)
+            c.args.open.now left _ said.0 said.2,
+        refl,
+        refl,
+      ),
+    )) (rw (c.deref.ensures.value) at (c.publish_and_answer.ensures.end by.workers))

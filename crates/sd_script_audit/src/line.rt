@@ -1,0 +1,41 @@
+//! What a line of an audit asks for.
+
+ghost use Rattle.std.specs.Prelude.{◌≡◌, IfErr, IfOk, codes, string_bytes};
+ghost use Rattle.sd_answer.specs.Answer.{fault_line};
+ghost use Rattle.sd_script_audit.specs.Audit.{AsksInAudit, IsToldInAudit};
+
+use sd_answer::fault_line;
+use sd_script::{Asked, LineStop, Notation, expects, is_silent, line_of_fault, read_line};
+use std::alloc::{AllocError, Global};
+
+/// What a line asks for, or else what it is told: nothing if it is silent, and a fault if it expects an answer, which
+/// scripts alone do, or has one.
+pub(crate) fn asked_or_told(
+    alloc: Global,
+    notation: Notation,
+    is_open: bool,
+    line: &[u8],
+) -> Result<Result<Asked, String>, AllocError>
+    ensures asks { IfOk result (λ found. IfOk found (λ asked. AsksInAudit notation is_open line.now asked)) }
+    ensures told { IfOk result (λ found. IfErr found
+        (λ text. IsToldInAudit notation is_open line.now (string_bytes text))) }
+{
+    if is_silent(line) {
+        return Ok(Err(String::new(alloc)));
+    }
+    if expects(line) {
+        return Ok(Err(only_in_scripts(alloc)?));
+    }
+    match read_line(alloc, notation, is_open, line) {
+        Ok(asked) => Ok(Ok(asked)),
+        Err(LineStop::Fault(fault)) => Ok(Err(line_of_fault(alloc, fault)?)),
+        Err(LineStop::Memory) => Err(AllocError),
+    }
+}
+
+/// The line of a command that only a script carries out.
+pub(crate) fn only_in_scripts(alloc: Global) -> Result<String, AllocError>
+    ensures { IfOk result (λ text. string_bytes text ≡ fault_line (codes "audit")) }
+{
+    fault_line(alloc, "audit")
+}
