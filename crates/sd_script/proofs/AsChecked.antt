@@ -21,7 +21,7 @@ use Rattle.sd_script.specs.Reply.{check_line, node_why_text, seen_line}
 use Rattle.sd_answer.specs.Why.{listed, part_lines}
 use Rattle.sd_answer.specs.declared.answer.Spelling.{Spelling}
 use Rattle.sd_script.specs.declared.manner.Notation.{Notation}
-use Rattle.sd_script.specs.declared.question.Question.TheVariants.{Why, Delete}
+use Rattle.sd_script.specs.declared.question.NodeQuestion.TheVariants.{Why, Delete}
 use Rattle.sd_script.specs.declared.session.Session.TheVariants.{Opened}
 use Rattle.sd_script.proofs.OneOutput.{by_reader, one_step, outcome}
 use Rattle.std.specs.Fmt.{decimal}

@@ -1,8 +1,7 @@
 -- The lines that make a tree, and whether they are read as what makes it.
-use Rattle.std.proofs.Common.{◌≡◌, ℕ, zero, suc, ◌+◌, ◌<◌, ◌≤◌, Bool, true, false, List, [], ◌∷◌, ◌++◌, length, Option, Some, None, Result, Ok, Err, refl, sym, ◌∙◌, ap, subst, inl, inr, add-one, append_assoc, append-nil, take-append-drop, arith}
-use Rattle.std.specs.Prelude.{drop, nat_lt, take, slice_get, option_map, codes}
+use Rattle.std.proofs.Common.{◌≡◌, ℕ, zero, suc, ◌+◌, ◌<◌, ◌≤◌, Bool, true, false, List, [], ◌∷◌, ◌++◌, length, Option, Some, None, refl, sym, ◌∙◌, ap, subst, inl, inr, add-one, append_assoc, append-nil, take-append-drop, arith}
+use Rattle.std.specs.Prelude.{drop, nat_lt, take, slice_get}
 use Rattle.std.specs.Bool.{Decides}
-use Rattle.std.specs.Fmt.{decimal}
 use Rattle.std.specs.FinMap.{entries, len, len-entries}
 use Rattle.std.specs.List.{flat_map, position_or_len}
 use Rattle.std.specs.Ordering.{eq_by_cmp}
@@ -12,46 +11,23 @@ use Rattle.std.proofs.Math.Seq.{drop-cons}
 use Rattle.std.proofs.lemmas.List.{length-append, take_all}
 use Rattle.std.proofs.lemmas.Bool.{cases_lt, false≢true, lt-ltb}
 use Rattle.std.proofs.lemmas.Option.{get_or_from_slice_get, slice_get_cases, slice_get_within}
-use Rattle.sd_acl.specs.Descriptor.{DescriptorValue}
-use Rattle.sd_tree.specs.Names.{Names, is_root, names_cmp}
+use Rattle.sd_tree.specs.Names.{Names, names_cmp}
 use Rattle.sd_tree.specs.Plain.{PlainTree, row_at}
-use Rattle.sd_tree.specs.Answers.{given_at}
-use Rattle.sd_tree.specs.Descriptors.{own_descriptor_of_row}
-use Rattle.sd_tree.specs.declared.node.NodeKind.{NodeKind}
 use Rattle.sd_tree.specs.declared.node.Row.{Row}
 use Rattle.sd_tree.proofs.Moved.{entry_there}
 use Rattle.sd_tree.proofs.Rows.{one_path, path_itself}
-use Rattle.sd_answer.specs.Answer.{line}
-use Rattle.sd_script.specs.Command.{line_asks}
-use Rattle.sd_script.specs.Dump.{adding_word, making, makings, making_line, wanted, IsAskedBy, AreAskedBy}
-use Rattle.sd_script.specs.Lines.{is_silent}
-use Rattle.sd_script.specs.Paths.{path_word}
-use Rattle.sd_script.specs.Reply.{shown_sddl}
+use Rattle.sd_script.specs.Dump.{making, makings, wanted, IsAskedBy, AreAskedBy}
 use Rattle.sd_desk.specs.declared.request.Request.TheVariants.{Publish}
 use Rattle.sd_script.specs.declared.asked.Asked.{Asked}
 use Rattle.sd_script.specs.declared.asked.Asked.TheVariants.{Asking}
-use Rattle.sd_script.specs.declared.fault.LineFault.{LineFault}
 use Rattle.sd_script.specs.declared.manner.Notation.{Notation}
 use Rattle.sd_lines.specs.Lines.{HasNoEnd, end_byte}
 use Rattle.sd_lines.specs.declared.ending.Ending.TheVariants.{Feed}
 use Rattle.sd_lines.proofs.Cutting.{end_at, ends, lines_cut, lines_last, none_before}
-use Rattle.sd_script.proofs.OneReading.{line-one}
 
 -- the order of paths tells whether they are one
 pub path_decides : (p q : Names) (r : Bool) → r ≡ eq_by_cmp names_cmp p q → Decides r (p ≡ q)
 path_decides p q r is = (λ e. one_path p q (sym is ∙ e), λ e. is ∙ ap (eq_by_cmp names_cmp p) (sym e) ∙ path_itself p)
-
--- ---- the line of a node
-
-pub root_line : (notation : Notation) (readers : ℕ) (path : Names) (row : Row) → is_root path ≡ true
-    → making_line notation readers path row ≡ line (codes "open " ++ decimal readers ++ codes " " ++ shown_sddl notation.spelling (own_descriptor_of_row row))
-root_line notation readers [] row is = refl
-root_line notation readers (name ∷ names) row is = absurd (cc (is))
-
-pub adding_line : (notation : Notation) (readers : ℕ) (path : Names) (row : Row) → is_root path ≡ false
-    → making_line notation readers path row ≡ line (adding_word row.kind ++ codes " " ++ path_word notation.paths path ++ codes " " ++ shown_sddl notation.spelling (own_descriptor_of_row row))
-adding_line notation readers [] row is = absurd (cc (is))
-adding_line notation readers (name ∷ names) row is = refl
 
 -- ---- the nodes one after the other
 
@@ -71,25 +47,11 @@ pub nothing_left : (t : PlainTree) (k n : ℕ) → n ≡ len t → n ≤ k → d
 nothing_left t k n count past =
     let size = len-entries t in drop_of_length-le (entries t) (omega (arith, size, count, past))
 
--- what was given to the node of an entry
-pub given_there : (t : PlainTree) (k : ℕ) (path : Names) (row : Row) → Some (path, row) ≡ slice_get (entries t) k
-    → given_at t path ≡ Some (row.kind, own_descriptor_of_row row)
-given_there t k path row is =
-    let low = slice_get_within (entries t) k (path, row) (sym is) in
-    let at = get_or_from_slice_get (entries t) k (path, row) (path, row) (sym is) in
-    let stands = subst (λ (e : Names × Row). row_at t e.0 ≡ Some e.1) at (entry_there t k (path, row) low) in
-    ap (option_map (λ (r : Row). (r.kind, own_descriptor_of_row r))) stands
-
--- two that are told the same
-abbrev pub told : NodeKind → DescriptorValue → Option (NodeKind × DescriptorValue)
-told kind d = Some (kind, d)
-
-abbrev second : DescriptorValue → Option (NodeKind × DescriptorValue) → DescriptorValue
-second d None = d
-second d (Some pair) = pair.1
-
-pub second_of : (a b : NodeKind) (x y : DescriptorValue) → told a x ≡ told b y → x ≡ y
-second_of a b x y e = ap (second x) e
+-- the node of an entry stands at its path
+pub stands_there : (t : PlainTree) (k : ℕ) (node : Names × Row) → Some node ≡ slice_get (entries t) k → row_at t node.0 ≡ Some node.1
+stands_there t k node is =
+    let low = slice_get_within (entries t) k node (sym is) in
+    subst (λ (e : Names × Row). row_at t e.0 ≡ Some e.1) (get_or_from_slice_get (entries t) k node node (sym is)) (entry_there t k node low)
 
 -- the piece of one more node
 pub piece_more : {A : Type 0} (f : A → List ℕ) (es : List A) (k : ℕ) (x : A) (text piece grown whole : List ℕ) → Some x ≡ slice_get es k
@@ -101,29 +63,6 @@ pub none_left : (f : Names × Row → List ℕ) (t : PlainTree) (k n : ℕ) (tex
     → text ++ flat_map f (drop k (entries t)) ≡ whole → text ≡ whole
 none_left f t k n text whole count past so_far =
     sym (append-nil text) ∙ ap (λ es. text ++ flat_map f es) (sym (nothing_left t k n count past)) ∙ so_far
-
--- ---- whether a line is read as this
-
-abbrev good : Asked → Result Asked LineFault
-good asked = Ok asked
-
-same_read : {r : Bool} (asked wanted : Asked) → Decides r (asked ≡ wanted) → Decides r (good asked ≡ good wanted)
-same_read asked wanted same = (λ e. ap Ok (same.0 e), λ e. same.1 (cc (e)))
-
-decides_read : (notation : Notation) (is_open : Bool) (text : List ℕ) (read : Result Asked LineFault) (wanted : Asked) (r : Bool) → is_silent text ≡ false
-    → line_asks notation is_open text read → Decides r (read ≡ Ok wanted) → Decides r (IsAskedBy notation is_open text wanted)
-decides_read notation is_open text read wanted r loud asks same =
-    (λ e. (loud, subst (λ x. line_asks notation is_open text x) (same.0 e) asks), λ is. same.1 (line-one notation is_open text read (Ok wanted) asks is.1))
-
-pub read_decides : (notation : Notation) (is_open : Bool) (text : List ℕ) (asked wanted : Asked) (r : Bool) → is_silent text ≡ false
-    → line_asks notation is_open text (Ok asked) → Decides r (asked ≡ wanted) → Decides r (IsAskedBy notation is_open text wanted)
-read_decides notation is_open text asked wanted r loud asks same = decides_read notation is_open text (Ok asked) wanted r loud asks (same_read asked wanted same)
-
--- a line with a fault is read as nothing
-pub fault_decides : (notation : Notation) (is_open : Bool) (text : List ℕ) (fault : LineFault) (wanted : Asked) → is_silent text ≡ false
-    → line_asks notation is_open text (Err fault) → Decides false (IsAskedBy notation is_open text wanted)
-fault_decides notation is_open text fault wanted loud asks =
-    decides_read notation is_open text (Err fault) wanted false loud asks (λ e. absurd (false≢true e), λ e. absurd (cc (e)))
 
 -- ---- the lines that are left
 
@@ -153,32 +92,34 @@ none_wanted : (readers : ℕ) (es : List (Names × Row)) (k : ℕ) → k ≡ len
 none_wanted readers es k is =
     drop_of_length-le (makings readers es ++ Asking Publish ∷ []) (omega (arith, is, length-append (makings readers es) (Asking Publish ∷ []), length-map es (λ (node : Names × Row). making readers node.0 node.1)))
 
-module _ (notation : Notation) (readers : ℕ) (es : List (Names × Row)) where
+module _ (notation : Notation) (readers : ℕ) (t : PlainTree) where
   abbrev pub AreLeft : List (List ℕ) → ℕ → Type 0
-  AreLeft texts k = AreAskedBy notation (nat_lt 0 k) texts (left readers es k)
+  AreLeft texts k = AreAskedBy notation (nat_lt 0 k) texts (left readers (entries t) k)
+
+  next : (k : ℕ) → k ≤ len t → left readers (entries t) k ≡ wanted readers (slice_get (entries t) k) ∷ left readers (entries t) (k + 1)
+  next k low = next_wanted readers (entries t) k (rw (len-entries t) at low)
 
   -- no line is left, but something is wanted
-  pub nothing_asks : (k : ℕ) → k ≤ length es → Decides false (AreLeft [] k)
-  nothing_asks k low = rw (next_wanted readers es k low) (λ e. absurd (false≢true e), λ are. absurd are)
+  pub nothing_asks : (k : ℕ) → k ≤ len t → Decides false (AreLeft [] k)
+  nothing_asks k low = rw (next k low) (λ e. absurd (false≢true e), λ are. absurd are)
 
   -- the first line asks for something else
-  pub asks_otherwise : (texts : List (List ℕ)) (text rest : List ℕ) (k : ℕ) (node : Option (Names × Row)) → k ≤ length es → node ≡ slice_get es k
+  pub asks_otherwise : (texts : List (List ℕ)) (text rest : List ℕ) (k : ℕ) (node : Option (Names × Row)) → k ≤ len t → node ≡ slice_get (entries t) k
       → texts ≡ text ∷ lines rest → Decides false (IsAskedBy notation (nat_lt 0 k) text (wanted readers node)) → Decides false (AreLeft texts k)
-  asks_otherwise texts text rest k node low is cut other =
-      rw (cut, next_wanted readers es k low, ← is) (λ e. absurd (false≢true e), λ are. other.1 are.0)
+  asks_otherwise texts text rest k found low is cut other =
+      rw (cut, next k low, ← is) (λ e. absurd (false≢true e), λ are. other.1 are.0)
 
   -- it asks for what is wanted
-  pub asks_this : (texts : List (List ℕ)) (text rest : List ℕ) (k : ℕ) (node : Option (Names × Row)) (r : Bool) → k ≤ length es → node ≡ slice_get es k
+  pub asks_this : (texts : List (List ℕ)) (text rest : List ℕ) (k : ℕ) (node : Option (Names × Row)) (r : Bool) → k ≤ len t → node ≡ slice_get (entries t) k
       → texts ≡ text ∷ lines rest → Decides true (IsAskedBy notation (nat_lt 0 k) text (wanted readers node)) → Decides r (AreLeft (lines rest) (k + 1))
       → Decides r (AreLeft texts k)
-  asks_this texts text rest k node r low is cut this more =
-      let is_open : nat_lt 0 (k + 1) ≡ true = lt-ltb 0 (k + 1) (omega arith) in
-      let others = rw is_open at more in
-      rw (cut, next_wanted readers es k low, ← is) (λ e. (this.0 refl, others.0 e), λ are. others.1 are.1)
+  asks_this texts text rest k found r low is cut this more =
+      let others = rw (lt-ltb 0 (k + 1) (omega arith)) at more in
+      rw (cut, next k low, ← is) (λ e. (this.0 refl, others.0 e), λ are. others.1 are.1)
 
   -- nothing is wanted any more
-  pub all_asked : (text : List ℕ) (k : ℕ) (r : Bool) → k ≡ length es + 1 → Decides r (length text ≡ 0) → Decides r (AreLeft (lines text) k)
-  all_asked text k r is empty = rw (none_wanted readers es k is) (by_text text empty) where
+  pub all_asked : (text : List ℕ) (k : ℕ) (r : Bool) → k ≡ len t + 1 → Decides r (length text ≡ 0) → Decides r (AreLeft (lines text) k)
+  all_asked text k r is empty = rw (none_wanted readers (entries t) k (rw (len-entries t) at is)) (by_text text empty) where
     by_text : (text : List ℕ) → Decides r (length text ≡ 0) → Decides r (AreAskedBy notation (nat_lt 0 k) (lines text) [])
     by_text [] empty = (λ e. tt, λ are. empty.1 refl)
     by_text (x ∷ xs) empty =

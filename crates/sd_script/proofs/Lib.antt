@@ -1,6 +1,5 @@
 pub mod AsChecked
 pub mod Askings
-pub mod Deleted
 pub mod Dumping
 pub mod NoId
 pub mod OneOutput
@@ -9,6 +8,5 @@ pub mod PathWords
 pub mod Readings
 pub mod Reviewed
 pub mod Silence
-pub mod Splitting
 pub mod Timely
 pub mod Untold

@@ -1,12 +1,12 @@
 -- What `dump` prints: the published tree as lines of a script, that of its root first and a parent before what it
 -- holds. They are printed only where each is parsed to what makes its node.
 use Rattle.std.specs.Prelude.{◌≡◌, ◌⊎◌, ⊤, ℕ, Bool, true, false, List, [], ◌∷◌, ◌++◌, length, map, Option, Some}
-use Rattle.std.specs.Prelude.{None, Ok, codes}
+use Rattle.std.specs.Prelude.{None, Ok, if◌then◌else◌, codes}
 use Rattle.std.specs.List.{flat_map}
 use Rattle.std.specs.Fmt.{decimal}
 use Rattle.std.specs.FinMap.{entries}
 use Rattle.std.specs.Str.Lines.{lines}
-use Rattle.sd_tree.specs.Names.{Names}
+use Rattle.sd_tree.specs.Names.{Names, is_root}
 use Rattle.sd_tree.specs.Plain.{PlainTree}
 use Rattle.sd_tree.specs.Descriptors.{own_descriptor_of_row}
 use Rattle.sd_tree.specs.Journal.{replay}
@@ -40,18 +40,13 @@ abbrev pub adding_word : NodeKind → List ℕ
 adding_word Container = codes "addc"
 adding_word Object = codes "addo"
 
-abbrev pub making_line : Notation → ℕ → Names → Row → List ℕ
-making_line notation readers [] row = line
-    (codes "open " ++ decimal readers ++ codes " " ++ shown_sddl notation.spelling (own_descriptor_of_row row))
-making_line notation readers (name ∷ names) row =
-    line (adding_word row.kind ++ codes " " ++ path_word notation.paths (name ∷ names) ++ codes " "
-    ++ shown_sddl notation.spelling (own_descriptor_of_row row))
+abbrev pub making_line : Notation → ℕ → Names × Row → List ℕ
+making_line notation readers node =
+    let sddl = shown_sddl notation.spelling (own_descriptor_of_row node.1) in
+    if is_root node.0 then line (codes "open " ++ decimal readers ++ codes " " ++ sddl)
+    else line (adding_word node.1.kind ++ codes " " ++ path_word notation.paths node.0 ++ codes " " ++ sddl)
 
 -- ---- the whole tree
-
-abbrev pub making_lines : Notation → ℕ → List (Names × Row) → List ℕ
-making_lines notation readers nodes =
-    flat_map (λ (node : Names × Row). making_line notation readers node.0 node.1) nodes
 
 abbrev pub makings : ℕ → List (Names × Row) → List Asked
 makings readers nodes = map (λ (node : Names × Row). making readers node.0 node.1) nodes
@@ -74,7 +69,7 @@ AreAskedBy notation is_open texts more = ⊥
 
 -- the nodes' lines, and then the publish
 abbrev pub dump_text : Notation → ℕ → PlainTree → List ℕ
-dump_text notation readers t = making_lines notation readers (entries t) ++ line (codes "publish")
+dump_text notation readers t = flat_map (making_line notation readers) (entries t) ++ line (codes "publish")
 
 abbrev pub IsReadBack : Notation → ℕ → PlainTree → List ℕ → Type 0
 IsReadBack notation readers t text = AreAskedBy notation false (lines text)

@@ -8,7 +8,7 @@ use Rattle.sd_tree.specs.declared.opening.RootSpec.{RootSpec}
 use Rattle.sd_desk.specs.Machine.{Machine, Steps, started}
 use Rattle.sd_versions.specs.Starts.{IsReaderCount, IsStartError}
 use Rattle.sd_desk.specs.declared.request.Reply.{Reply}
-use Rattle.sd_desk.specs.declared.request.Request.TheVariants.{Edit as Edits}
+use Rattle.sd_desk.specs.declared.request.Request.TheVariants.{Edit}
 use Rattle.sd_versions.specs.declared.start.StartError.{StartError}
 use Rattle.sd_lines.specs.Answers.{AreAnswered}
 use Rattle.sd_script.specs.Command.{line_asks}
@@ -27,7 +27,7 @@ use Rattle.sd_script.specs.declared.carried.Carried.{Carried}
 use Rattle.sd_script.specs.declared.fault.LineFault.{LineFault}
 use Rattle.sd_script.specs.declared.listing.Which.TheVariants.{Granting}
 use Rattle.sd_script.specs.declared.manner.Manner.{Manner}
-use Rattle.sd_script.specs.declared.question.Question.TheVariants.{Why, Find, Delete}
+use Rattle.sd_script.specs.declared.question.NodeQuestion.TheVariants.{Why, Find, Delete}
 use Rattle.sd_script.specs.declared.session.Session.{Session}
 use Rattle.sd_script.specs.declared.session.Session.TheVariants.{Closed, Opened}
 use Rattle.sd_script.specs.declared.tally.Tally.{Tally}
@@ -81,7 +81,7 @@ IsDone (Opened notation old) (Deleting reader path token) printed new =
 IsDone (Opened notation old) (Viewing view) printed new =
     IsViewed notation old view printed × (new ≡ Opened notation old)
 IsDone (Opened notation old) (Importing edit path given) printed new =
-    (reply : Reply) × (machine : Machine) × Steps old (Edits edit) reply machine
+    (reply : Reply) × (machine : Machine) × Steps old (Edit edit) reply machine
     × IsImported notation.spelling machine path given reply printed × (new ≡ Opened notation machine)
 IsDone old asked printed new = ⊥
 
@@ -123,7 +123,7 @@ abbrev pub IsMade : Session → Asked → Session → Type 0
 IsMade (Opened notation old) (Asking request) new =
     (reply : Reply) × (machine : Machine) × Steps old request reply machine × (new ≡ Opened notation machine)
 IsMade (Opened notation old) (Importing edit path given) new =
-    (reply : Reply) × (machine : Machine) × Steps old (Edits edit) reply machine × (new ≡ Opened notation machine)
+    (reply : Reply) × (machine : Machine) × Steps old (Edit edit) reply machine × (new ≡ Opened notation machine)
 IsMade old asked new = (printed : List ℕ) × IsDone old asked printed new
 
 -- a line isn't answered, out of memory: nothing has changed, or what it asks for is done, without an answer

@@ -1,21 +1,18 @@
 //! A published tree as lines of a script.
-ghost use Rattle.std.specs.Prelude.{◌≡◌, IfOk, option_map, string_bytes};
+ghost use Rattle.std.specs.Prelude.{◌≡◌, IfOk, Some, option_map, string_bytes};
 ghost use Rattle.std.specs.Bool.{Decides};
-ghost use Rattle.std.specs.FinMap.{entries};
 ghost use Rattle.sd_tree.specs.Journal.{replay};
 ghost use Rattle.sd_tree.specs.Listing.{listed};
-ghost use Rattle.sd_acl.specs.Descriptor.{descriptor_of};
-ghost use Rattle.sd_tree.specs.Descriptors.{own_descriptor_of_row};
-ghost use Rattle.sd_script.specs.Dump.{IsAskedBy, IsDumpOf, IsReadBack, adding_word, making_line, making_lines, wanted};
+ghost use Rattle.sd_tree.specs.Plain.{row_at};
+ghost use Rattle.sd_script.specs.Dump.{IsAskedBy, IsDumpOf, IsReadBack, adding_word, making_line, wanted};
 
 use crate::fault::LineStop;
 use crate::line::read_line;
 use crate::lines::is_silent;
-use crate::listing::Printer;
+use crate::listing::{Printer, push_lines};
 use crate::paths::path_word;
 use crate::reply::shown_sddl;
 use crate::same::is_wanted;
-use sd_acl::Descriptor;
 use sd_answer::fault_line;
 use sd_lines::{Ending, first_line};
 use sd_tree::{NodeKind, NodeRef};
@@ -28,7 +25,8 @@ impl Printer<'_> {
         ensures { IfOk result (λ text. IsDumpOf self.now.notation readers
             (replay self.now.tree.now.opening self.now.tree.now.journal) (string_bytes text)) }
     {
-        let mut text = self.making_lines(readers)?;
+        let mut text = String::new(self.alloc);
+        push_lines(self.tree, &mut text, |node| self.making_line(readers, node))?;
         text.push_str("publish\n")?;
         if self.is_read_back(readers, text.as_bytes())? {
             Ok(text)
@@ -37,37 +35,17 @@ impl Printer<'_> {
         }
     }
 
-    /// The line of each node.
-    fn making_lines(&self, readers: u64) -> Result<String, AllocError>
-        ensures { IfOk result (λ text. string_bytes text ≡ making_lines self.now.notation readers
-            (entries (replay self.now.tree.now.opening self.now.tree.now.journal))) }
-    {
-        let mut text = String::new(self.alloc);
-        for index in 0..self.tree.node_count() {
-            let Some(node) = self.tree.node(index) else {
-                unreachable!()
-            };
-            let Some((_, given)) = self.tree.given(node.path)? else {
-                unreachable!()
-            };
-            let line = self.making_line(readers, &node, &given)?;
-            text.push_str(&line)?;
-        }
-        Ok(text)
-    }
-
-    /// The line that makes a node with this descriptor of its own: an opening for the root, and else an addition.
-    fn making_line(
-        &self,
-        readers: u64,
-        node: &NodeRef<'_>,
-        given: &Descriptor,
-    ) -> Result<String, AllocError>
-        requires { descriptor_of given.now ≡ own_descriptor_of_row (listed node.now).1 }
+    /// The line that makes a node of the tree: an opening for the root, and else an addition.
+    fn making_line(&self, readers: u64, node: &NodeRef<'_>) -> Result<String, AllocError>
+        requires { row_at (replay self.now.tree.now.opening self.now.tree.now.journal) (listed node.now).0
+            ≡ Some (listed node.now).1 }
         ensures { IfOk result (λ text. string_bytes text
-            ≡ making_line self.now.notation readers (listed node.now).0 (listed node.now).1) }
+            ≡ making_line self.now.notation readers (listed node.now)) }
     {
-        let sddl = shown_sddl(self.alloc, self.notation.spelling, given)?;
+        let Some((_, given)) = self.tree.given(node.path)? else {
+            unreachable!()
+        };
+        let sddl = shown_sddl(self.alloc, self.notation.spelling, &given)?;
         if node.path.as_path_ref().is_root() {
             let text = format!(in self.alloc; "open {readers} {sddl}\n")?;
             return Ok(text);

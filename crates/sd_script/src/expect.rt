@@ -1,6 +1,6 @@
 //! Lines that expect an answer.
 ghost use Rattle.std.specs.Prelude.{◌≡◌, Some, None, IfOk};
-ghost use Rattle.sd_script.specs.Expect.{expect_line, expected_in, expects, first_line_of, is_met};
+ghost use Rattle.sd_script.specs.Expect.{expect_line, expects, first_line_of, is_met};
 
 use crate::lines::{head_len, len_before, word_len};
 use std::alloc::{AllocError, Global};
@@ -38,13 +38,13 @@ impl LastAnswer {
         })
     }
 
-    /// Whether it is what the line expects.
-    pub(crate) fn meets(&self, line: &[u8]) -> bool
-        ensures { result ≡ is_met self.now line.now }
+    /// What a line that expects an answer is answered by: whether this is all after its first word and a space.
+    pub(crate) fn expect_line(&self, line: &[u8]) -> &'static str
+        ensures { result.now ≡ expect_line (is_met self.now line.now) }
     {
         match &self.first_line {
-            Some(answer) => answer.as_slice() == expected_in(line),
-            None => false,
+            Some(answer) if answer.as_slice() == &line[head_len(line)..] => "ok\n",
+            _ => "fault expect\n",
         }
     }
 }
@@ -54,18 +54,4 @@ pub fn expects(line: &[u8]) -> bool
     ensures { result ≡ expects line.now }
 {
     &line[..word_len(line)] == b"expect".as_slice()
-}
-
-/// The answer that the line expects: all after its first word and a space.
-fn expected_in(line: &[u8]) -> &[u8]
-    ensures { result.now ≡ expected_in line.now }
-{
-    &line[head_len(line)..]
-}
-
-/// What a line that expects an answer is answered by.
-pub(crate) fn expect_line(is_met: bool) -> &'static str
-    ensures { result.now ≡ expect_line is_met }
-{
-    if is_met { "ok\n" } else { "fault expect\n" }
 }

@@ -2,7 +2,7 @@
 //! of JSON that has the id.
 
 ghost use Rattle.std.specs.Prelude.{◌≡◌, ◌≤◌, true, length, IfOk, IfSome};
-ghost use Rattle.sd_script.specs.Ids.{IsNextIn, asked_of, has_id, is_id, tag_len, tag_of, tagged};
+ghost use Rattle.sd_script.specs.Ids.{IsNextIn, has_id, tag_len, tagged};
 ghost use Rattle.sd_script.specs.Printed.{IsNextServed, served_tagging};
 
 use crate::carried::Carried;
@@ -79,21 +79,13 @@ fn answer_next(
         let answer = answer_line(alloc, carried, line)?;
         return Ok(answer.into_bytes());
     }
-    let (tag, asked) = parted(line);
+    let (tag, asked) = line.split_at(tag_len(line));
     let answer = answer_line(alloc, carried, asked)?;
-    tagged(alloc, tag, answer.as_bytes())
+    let printed = tagged(alloc, tag, answer.as_bytes())?;
+    Ok(printed)
 }
 
-/// A line's id with the space after it, and what it asks. A line whose first word is no id asks all that it is.
-fn parted(line: &[u8]) -> (&[u8], &[u8])
-    ensures tag { result.0.now ≡ tag_of line.now }
-    ensures asked { result.1.now ≡ asked_of line.now }
-{
-    let len = tag_len(line);
-    (&line[..len], &line[len..])
-}
-
-/// The bytes of a line's id and of the space after it.
+/// The bytes of a line's id and of the space after it: none where its first word is no id.
 fn tag_len(line: &[u8]) -> usize
     ensures len { result ≡ tag_len line.now }
     ensures within { result ≤ length line.now }
@@ -101,17 +93,12 @@ fn tag_len(line: &[u8]) -> usize
     if has_id(line) { head_len(line) } else { 0 }
 }
 
-/// Whether the first word of a line is an id: with ids each line of its answer then begins with that and a space.
+/// Whether the first word of a line is an id: it isn't empty, doesn't begin with `#`, and has printable ASCII
+/// characters alone.
 fn has_id(line: &[u8]) -> bool
     ensures { result ≡ has_id line.now }
 {
-    is_id(&line[..word_len(line)])
-}
-
-/// Whether a word is an id: it isn't empty, doesn't begin with `#`, and has printable ASCII characters alone.
-fn is_id(word: &[u8]) -> bool
-    ensures { result ≡ is_id word.now }
-{
+    let word = &line[..word_len(line)];
     !is_silent(word) && word.iter().all(|b| b.is_ascii_graphic())
 }
 

@@ -1,13 +1,11 @@
 //! A node that comes with the descriptor that it had elsewhere.
 ghost use Rattle.std.specs.Prelude.{◌≡◌, IfOk, Some, filter, string_bytes};
-ghost use Rattle.std.specs.Bool.{Decides};
 ghost use Rattle.sd_acl.specs.Canonical.{is_explicit, is_inherited};
 ghost use Rattle.sd_acl.specs.Descriptor.{descriptor_of};
-ghost use Rattle.sd_script.specs.Argument.{entries_in, import_of, imported};
-ghost use Rattle.sd_script.specs.Argument.{imported_dacl};
+ghost use Rattle.sd_script.specs.Argument.{entries_in, import_of, imported, imported_dacl};
 ghost use Rattle.sd_script.specs.Command.{Parses, imports};
 ghost use Rattle.sd_script.specs.Fault.{UnlessMemory};
-ghost use Rattle.sd_script.specs.Importing.{AreOrderedAlike, InheritAlike, IsImported, entries_by, imported_line};
+ghost use Rattle.sd_script.specs.Importing.{IsImported, entries_by, imported_line};
 ghost use Rattle.sd_desk.specs.Machine.{Machine, accepted};
 ghost use Rattle.sd_tree.specs.Answers.{descriptor_at};
 ghost use Rattle.sd_tree.specs.Journal.{replay};
@@ -125,8 +123,10 @@ pub fn import_line(
     match reply {
         Reply::Edited => {
             let stored = entries_at(alloc, tree, path)?;
-            let inherits_alike = inherit_alike(alloc, &stored, given.as_slice())?;
-            let is_ordered_alike = are_ordered_alike(alloc, &stored, given.as_slice())?;
+            let inherited = inherited_in(alloc, given.as_slice())?;
+            let inherits_alike = same_entries(&inherited_in(alloc, &stored)?, &inherited);
+            let explicit = explicit_in(alloc, given.as_slice())?;
+            let is_ordered_alike = same_entries(&explicit_in(alloc, &stored)?, &explicit);
             String::from_str(alloc, imported_line(inherits_alike, is_ordered_alike))
         }
         _ => reply_line(alloc, spelling, reply),
@@ -153,22 +153,4 @@ fn entries_at(alloc: Global, tree: &Tree, path: &Path) -> Result<Vec<Ace>, Alloc
         Some(descriptor) => entries_in(alloc, &descriptor.dacl),
         None => Ok(Vec::new(alloc)),
     }
-}
-
-/// Whether the inherited entries of both lists are the same, in one order.
-fn inherit_alike(alloc: Global, stored: &[Ace], given: &[Ace]) -> Result<bool, AllocError>
-    ensures { IfOk result (λ are. Decides are (InheritAlike stored.now given.now)) }
-{
-    let stored = inherited_in(alloc, stored)?;
-    let given = inherited_in(alloc, given)?;
-    Ok(same_entries(&stored, &given))
-}
-
-/// Whether those that weren't inherited are.
-fn are_ordered_alike(alloc: Global, stored: &[Ace], given: &[Ace]) -> Result<bool, AllocError>
-    ensures { IfOk result (λ are. Decides are (AreOrderedAlike stored.now given.now)) }
-{
-    let stored = explicit_in(alloc, stored)?;
-    let given = explicit_in(alloc, given)?;
-    Ok(same_entries(&stored, &given))
 }

@@ -22,12 +22,10 @@ pub(crate) fn wants_lines(line: &[u8]) -> bool
     ensures { result ≡ wants_lines line.now }
 {
     let word = &line[..word_len(line)];
-    word == b"why".as_slice()
-        || word == b"find".as_slice()
-        || word == b"list".as_slice()
-        || word == b"dump".as_slice()
-        || word == b"who".as_slice()
-        || word == b"review".as_slice()
+    matches!(
+        word,
+        b"why" | b"find" | b"list" | b"dump" | b"who" | b"review"
+    )
 }
 
 /// The bytes before the first space.
@@ -51,10 +49,8 @@ pub(crate) fn len_before(end: u8, bytes: &[u8]) -> usize
     ensures len { result ≡ position_or_len (λ b. b == end) bytes.now }
     ensures within { result ≤ length bytes.now }
 {
-    match bytes.iter().position(|b| *b == end) {
-        Some(len) => len,
-        None => bytes.len(),
-    }
+    let found = bytes.iter().position(|b| *b == end);
+    found.unwrap_or(bytes.len())
 }
 
 /// The words of a line, parted by single spaces.

@@ -1,19 +1,18 @@
 //! The nodes of a published tree, a line for each.
-ghost use Rattle.std.specs.Prelude.{◌≡◌, IfOk, option_map};
-ghost use Rattle.std.specs.Prelude.{string_bytes};
+ghost use Rattle.std.specs.Prelude.{◌≡◌, ◌++◌, ℕ, IfOk, List, Ok, OnOk, Some, string_bytes};
 ghost use Rattle.std.specs.FinMap.{entries};
-ghost use Rattle.std.specs.List.{list_any};
-ghost use Rattle.sd_acl.specs.Descriptor.{descriptor_of};
+ghost use Rattle.std.specs.List.{flat_map};
 ghost use Rattle.sd_tree.specs.Journal.{replay};
 ghost use Rattle.sd_tree.specs.Listing.{listed};
-ghost use Rattle.sd_script.specs.Listing.{is_split_below, kind_word, grants};
-ghost use Rattle.sd_script.specs.Listing.{lacks_words, line_below};
-ghost use Rattle.sd_script.specs.Listing.{node_line, nodes_text};
+ghost use Rattle.sd_tree.specs.Names.{Names};
+ghost use Rattle.sd_tree.specs.Plain.{row_at};
+ghost use Rattle.sd_tree.specs.declared.node.Row.{Row};
+ghost use Rattle.sd_script.specs.Listing.{grants, is_split_below, kind_word, lacks_words, line_below};
+ghost use Rattle.sd_script.specs.Listing.{nodes_text};
 
 use crate::manner::Notation;
 use crate::paths::{PathSpelling, is_split, path_word};
 use crate::reply::shown_sddl;
-use sd_acl::Descriptor;
 use sd_answer::fault_line;
 use sd_check::{Token, Verdict};
 use sd_sid::Mask;
@@ -37,19 +36,7 @@ pub(crate) struct Printer<'a> {
     pub(crate) tree: &'a Tree,
 }
 
-impl<'a> Printer<'a> {
-    /// Of this tree.
-    pub(crate) fn of(alloc: Global, notation: Notation, tree: &'a Tree) -> Printer<'a>
-        ensures notation { result.notation ≡ notation }
-        ensures tree { result.tree.now ≡ tree.now }
-    {
-        Printer {
-            alloc,
-            notation,
-            tree,
-        }
-    }
-
+impl Printer<'_> {
     /// The lines of the nodes at and below a path, in the order of their paths, after what the answer begins with and a
     /// title; `nonode` where none stands there, and `fault name` where the path of one would be more than one word.
     pub(crate) fn nodes_text(
@@ -65,45 +52,16 @@ impl<'a> Printer<'a> {
         if self.tree.lookup(top).is_none() {
             return format!(in self.alloc; "{begins}nonode\n");
         }
-        if self.lacks_words(top)? {
+        if lacks_words(self.alloc, self.notation.paths, self.tree, top)? {
             return fault_line(self.alloc, "name");
         }
         let mut text = format!(in self.alloc; "{begins}{title}")?;
-        for index in 0..self.tree.node_count() {
-            let Some(node) = self.tree.node(index) else {
-                unreachable!()
-            };
-            let line = self.line_below(top, which, &node)?;
-            text.push_str(&line)?;
-        }
+        push_lines(
+            self.tree,
+            &mut text,
+            |node| self.line_below(top, which, node),
+        )?;
         Ok(text)
-    }
-
-    /// Whether the path of some node at or below this one can't be printed.
-    pub(crate) fn lacks_words(&self, top: &Path) -> Result<bool, AllocError>
-        ensures { IfOk result (λ lacks. lacks ≡ lacks_words self.now.notation.paths
-            (replay self.now.tree.now.opening self.now.tree.now.journal) top.now) }
-    {
-        match self.notation.paths {
-            PathSpelling::Plain => self.has_split_path(top),
-            PathSpelling::Percent => Ok(false),
-        }
-    }
-
-    /// Whether the path of some node that stands at or below this one would be more than one word.
-    fn has_split_path(&self, top: &Path) -> Result<bool, AllocError>
-        ensures { IfOk result (λ has. has ≡ list_any (is_split_below top.now)
-            (entries (replay self.now.tree.now.opening self.now.tree.now.journal))) }
-    {
-        for index in 0..self.tree.node_count() {
-            let Some(node) = self.tree.node(index) else {
-                unreachable!()
-            };
-            if is_split_below(self.alloc, top, &node)? {
-                return Ok(true);
-            }
-        }
-        Ok(false)
     }
 
     /// The line of a node, where it stands at or below the path, and else nothing.
@@ -122,8 +80,14 @@ impl<'a> Printer<'a> {
         }
         match which {
             Which::All => {
-                let descriptor = self.tree.descriptor(node.path)?;
-                self.node_line(node.kind, node.path, &descriptor)
+                let Some(descriptor) = self.tree.descriptor(node.path)? else {
+                    return Ok(String::new(self.alloc));
+                };
+                let word = kind_word(node.kind);
+                let path = path_word(self.alloc, self.notation.paths, node.path)?;
+                let sddl = shown_sddl(self.alloc, self.notation.spelling, &descriptor)?;
+                let line = format!(in self.alloc; "{word} {path} {sddl}\n")?;
+                Ok(line)
             }
             Which::Granting { token, asked } if grants(self.tree.check(node.path, token, *asked)) =>
                 {
@@ -134,37 +98,61 @@ impl<'a> Printer<'a> {
             Which::Granting { .. } => Ok(String::new(self.alloc)),
         }
     }
+}
 
-    /// The line of a node with this descriptor.
-    fn node_line(
-        &self,
-        kind: NodeKind,
-        path: &Path,
-        descriptor: &Option<Descriptor>,
-    ) -> Result<String, AllocError>
-        ensures { IfOk result (λ text. string_bytes text
-            ≡ node_line self.now.notation kind path.now (option_map descriptor_of descriptor.now)) }
-    {
-        match descriptor {
-            None => Ok(String::new(self.alloc)),
-            Some(descriptor) => {
-                let word = kind_word(kind);
-                let path = path_word(self.alloc, self.notation.paths, path)?;
-                let sddl = shown_sddl(self.alloc, self.notation.spelling, descriptor)?;
-                let text = format!(in self.alloc; "{word} {path} {sddl}\n")?;
-                Ok(text)
-            }
-        }
+/// Appends the lines of a tree's nodes, one after the other.
+pub(crate) fn push_lines<F: Fn(&NodeRef<'_>) -> Result<String, AllocError>>(
+    tree: &Tree,
+    text: &mut String,
+    line: F,
+) -> Result<(), AllocError>
+    requires { (node : _) → row_at (replay tree.now.opening tree.now.journal) (listed node.now).0
+        ≡ Some (listed node.now).1 → F.pre line node }
+    ensures { OnOk result ((f : Names × Row → List ℕ)
+        → ((node : _) (text : _) → F.post line node (Ok text) → string_bytes text ≡ f (listed node.now))
+        → string_bytes text.new ≡ string_bytes text.old
+        ++ flat_map f (entries (replay tree.now.opening tree.now.journal))) }
+{
+    for index in 0..tree.node_count() {
+        let Some(node) = tree.node(index) else {
+            unreachable!()
+        };
+        let line = line(&node)?;
+        text.push_str(&line)?;
     }
+    Ok(())
 }
 
 fn is_split_below(alloc: Global, top: &Path, node: &NodeRef<'_>) -> Result<bool, AllocError>
     ensures { IfOk result (λ is. is ≡ is_split_below top.now (listed node.now)) }
 {
-    if !node.path.as_path_ref().is_within(&top.as_path_ref()) {
-        return Ok(false);
+    Ok(node.path.as_path_ref().is_within(&top.as_path_ref()) && is_split(alloc, node.path)?)
+}
+
+/// Whether the path of some node at or below this one can't be printed.
+pub(crate) fn lacks_words(
+    alloc: Global,
+    paths: PathSpelling,
+    tree: &Tree,
+    top: &Path,
+) -> Result<bool, AllocError>
+    ensures { IfOk result
+        (λ lacks. lacks ≡ lacks_words paths (replay tree.now.opening tree.now.journal) top.now) }
+{
+    match paths {
+        PathSpelling::Percent => Ok(false),
+        PathSpelling::Plain => {
+            for index in 0..tree.node_count() {
+                let Some(node) = tree.node(index) else {
+                    unreachable!()
+                };
+                if is_split_below(alloc, top, &node)? {
+                    return Ok(true);
+                }
+            }
+            Ok(false)
+        }
     }
-    is_split(alloc, node.path)
 }
 
 /// Whether a check is granted.

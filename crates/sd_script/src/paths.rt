@@ -3,7 +3,7 @@ ghost use Rattle.std.specs.Prelude.{◌≡◌, IfOk, string_bytes};
 ghost use Rattle.sd_script.specs.Argument.{path};
 ghost use Rattle.sd_script.specs.Fault.{UnlessMemory};
 ghost use Rattle.sd_script.specs.Paths.{is_split, path_word};
-ghost use Rattle.sd_script.specs.declared.paths.PathSpelling.TheVariants as spellings;
+ghost use Rattle.sd_script.specs.declared.paths.PathSpelling.TheVariants.{Percent, Plain};
 
 use crate::fault::{LineFault, LineStop};
 use percent_encoding::{
@@ -35,7 +35,7 @@ pub(crate) fn path_in(alloc: Global, paths: PathSpelling, word: &str) -> Result<
 }
 
 fn plain_path(alloc: Global, word: &str) -> Result<Path, LineStop>
-    ensures { UnlessMemory (path spellings.Plain word.now) result }
+    ensures { UnlessMemory (path Plain word.now) result }
 {
     match Path::read(alloc, word) {
         Ok(path) => Ok(path),
@@ -46,7 +46,7 @@ fn plain_path(alloc: Global, word: &str) -> Result<Path, LineStop>
 
 /// A name has no `/`, so that none is spelled by `%`: what is a part of a name never parts two.
 fn percent_path(alloc: Global, word: &str) -> Result<Path, LineStop>
-    ensures { UnlessMemory (path spellings.Percent word.now) result }
+    ensures { UnlessMemory (path Percent word.now) result }
 {
     if word.contains("%2F") || word.contains("%2f") {
         return Err(LineStop::Fault(LineFault::Path));

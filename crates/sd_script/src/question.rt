@@ -9,8 +9,9 @@ ghost use Rattle.sd_script.specs.declared.session.Session.TheVariants.{Opened};
 use crate::deletion::{DELETE, deletion_line, parent_grants};
 use crate::listing::{Printer, Which};
 use crate::manner::Notation;
-use crate::reply::{node_why_text, reply_line, seen_line};
+use crate::reply::{reply_line, seen_line};
 use sd_acl::Descriptor;
+use sd_answer::why_text;
 use sd_check::Token;
 use sd_desk::{Desk, Reply, Request};
 use sd_sid::Mask;
@@ -19,7 +20,7 @@ use std::alloc::{AllocError, Global};
 
 /// What a reader asks about the node of a path.
 #[derive(Debug, Drop)]
-pub(crate) enum Question {
+pub(crate) enum NodeQuestion {
     /// Why a check is answered as it is ([MS-DTYP] 2.5.3.2).
     Why { token: Token, asked: Mask },
     /// Which nodes at and below the path there are.
@@ -28,7 +29,7 @@ pub(crate) enum Question {
     Delete { token: Token },
 }
 
-impl Question {
+impl NodeQuestion {
     /// Has a reader see the published tree, and answers the question by that; or as the reply to any other request is
     /// answered. The reader asks for the node's descriptor, and the reasons are that descriptor's.
     pub(crate) fn answer(
@@ -70,24 +71,24 @@ impl Question {
     {
         let tree = desk.published();
         match self {
-            Question::Why { token, asked } => {
-                let mapping = tree.mapping();
-                let lines = node_why_text(
-                    alloc,
-                    notation.spelling,
-                    mapping,
-                    token,
-                    *asked,
-                    descriptor,
-                )?;
+            NodeQuestion::Why { token, asked } => {
+                let Some(descriptor) = descriptor else {
+                    return seen_line(alloc, tree.len(), "nonode\n");
+                };
+                let (mapping, spelling) = (tree.mapping(), notation.spelling);
+                let lines = why_text(alloc, mapping, spelling, descriptor, token, *asked)?;
                 seen_line(alloc, tree.len(), &lines)
             }
-            Question::Find(which) => {
+            NodeQuestion::Find(which) => {
                 let begins = seen_line(alloc, tree.len(), "")?;
-                let printer = Printer::of(alloc, notation, tree);
+                let printer = Printer {
+                    alloc,
+                    notation,
+                    tree,
+                };
                 printer.nodes_text(path, which, &begins, "found\n")
             }
-            Question::Delete { token } => {
+            NodeQuestion::Delete { token } => {
                 let by_parent = parent_grants(alloc, tree, path, token)?;
                 let what = deletion_line(tree.check(path, token, DELETE), by_parent);
                 seen_line(alloc, tree.len(), what)

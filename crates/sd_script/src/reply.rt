@@ -1,14 +1,12 @@
 //! The line of each reply of a store.
 ghost use Rattle.std.specs.Prelude.{◌≡◌, Some, IfOk, option_map, string_bytes};
 ghost use Rattle.sd_acl.specs.Descriptor.{descriptor_of};
-ghost use Rattle.sd_script.specs.Reply.{check_line, counted_line, node_why_text, refused_line};
-ghost use Rattle.sd_script.specs.Reply.{reply_line, seen_line, shown_line, shown_sddl, start_error_line};
+ghost use Rattle.sd_script.specs.Reply.{check_line, counted_line, refused_line, reply_line, seen_line, shown_line};
+ghost use Rattle.sd_script.specs.Reply.{shown_sddl, start_error_line};
 
 use sd_acl::Descriptor;
-use sd_answer::{Spelling, verdict_line, why_text};
-use sd_check::Token;
+use sd_answer::{Spelling, verdict_line};
 use sd_desk::Reply;
-use sd_sid::{GenericMapping, Mask};
 use sd_text::print_sddl_in;
 use sd_tree::{CheckReply, EditRefusal};
 use sd_versions::StartError;
@@ -108,23 +106,5 @@ fn shown_line(
             let sddl = shown_sddl(alloc, spelling, descriptor)?;
             format!(in alloc; "shown {sddl}\n")
         }
-    }
-}
-
-/// The lines of an explanation by the descriptor of a node, where there is one.
-pub(crate) fn node_why_text(
-    alloc: Global,
-    spelling: Spelling,
-    mapping: &GenericMapping,
-    token: &Token,
-    asked: Mask,
-    descriptor: &Option<Descriptor>,
-) -> Result<String, AllocError>
-    ensures { IfOk result (λ text. string_bytes text
-        ≡ node_why_text spelling mapping.now token.now asked (option_map descriptor_of descriptor.now)) }
-{
-    match descriptor {
-        None => String::from_str(alloc, "nonode\n"),
-        Some(descriptor) => { why_text(alloc, mapping, spelling, descriptor, token, asked) }
     }
 }

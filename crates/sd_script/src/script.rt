@@ -1,13 +1,12 @@
 //! The whole output of a script.
 ghost use Rattle.std.specs.Prelude.{◌≡◌, ◌⊎◌, false, true, IfOk, OnErr, string_bytes};
-ghost use Rattle.sd_script.specs.Expect.{last_after};
-ghost use Rattle.sd_script.specs.Output.{IsAnswered, IsAnsweredAfter, IsDone, IsMade, IsNext, IsTold, IsUnanswered};
-ghost use Rattle.sd_script.specs.Output.{IsUntold, PrintsAndCounts, is_open, opens};
+ghost use Rattle.sd_script.specs.Output.{IsAnsweredAfter, IsDone, IsMade, IsNext, IsTold, IsUnanswered, IsUntold};
+ghost use Rattle.sd_script.specs.Output.{PrintsAndCounts, is_open, opens};
 ghost use Rattle.sd_script.specs.declared.session.Session.TheVariants.{Opened};
 
 use crate::asked::Asked;
 use crate::carried::Carried;
-use crate::expect::{LastAnswer, expect_line, expects};
+use crate::expect::{LastAnswer, expects};
 use crate::fault::{LineStop, line_of_fault};
 use crate::ids::{LINES, Script};
 use crate::importing::import_line;
@@ -15,7 +14,7 @@ use crate::line::read_line;
 use crate::lines::{is_silent, wants_lines};
 use crate::listing::Which;
 use crate::manner::{Manner, Notation};
-use crate::question::Question;
+use crate::question::NodeQuestion;
 use crate::reply::{counted_line, reply_line, start_error_line};
 use crate::session::Session;
 use crate::tally::Tally;
@@ -56,7 +55,8 @@ pub fn answer_line(alloc: Global, carried: &mut Carried, line: &[u8]) -> Result<
     Ok(answer)
 }
 
-/// What a line is answered by where this stands, and this is the last answer.
+/// What a line is answered by where this stands, and this is the last answer. That of a line that expects none is then
+/// the last.
 fn answer_after(
     alloc: Global,
     session: &mut Session,
@@ -68,23 +68,8 @@ fn answer_after(
     ensures failed { OnErr result ((last.new ≡ last.old) × IsUntold session.old line.now session.new) }
 {
     if expects(line) {
-        String::from_str(alloc, expect_line(last.meets(line)))
-    } else {
-        answer_in(alloc, session, last, line)
+        return String::from_str(alloc, last.expect_line(line));
     }
-}
-
-/// What a line that expects nothing is answered by where this stands. Its answer is then the last.
-fn answer_in(
-    alloc: Global,
-    session: &mut Session,
-    last: &mut LastAnswer,
-    line: &[u8],
-) -> Result<String, AllocError>
-    ensures answered { IfOk result (λ text. IsAnswered session.old line.now (string_bytes text) session.new) }
-    ensures last { IfOk result (λ text. last.new ≡ last_after line.now (string_bytes text) last.old) }
-    ensures failed { OnErr result ((last.new ≡ last.old) × IsUntold session.old line.now session.new) }
-{
     if is_silent(line) {
         return Ok(String::new(alloc));
     }
@@ -159,7 +144,7 @@ fn done(
             path,
             token,
             asked,
-        } => Question::Why { token, asked }.answer(alloc, notation, desk, reader, &path),
+        } => NodeQuestion::Why { token, asked }.answer(alloc, notation, desk, reader, &path),
         Asked::Finding {
             reader,
             path,
@@ -167,13 +152,13 @@ fn done(
             asked,
         } => {
             let which = Which::Granting { token, asked };
-            Question::Find(which).answer(alloc, notation, desk, reader, &path)
+            NodeQuestion::Find(which).answer(alloc, notation, desk, reader, &path)
         }
         Asked::Deleting {
             reader,
             path,
             token,
-        } => Question::Delete { token }.answer(alloc, notation, desk, reader, &path),
+        } => NodeQuestion::Delete { token }.answer(alloc, notation, desk, reader, &path),
         Asked::Viewing(view) => view_text(alloc, notation, desk, &view),
         Asked::Importing { edit, path, given } => {
             let reply = desk.step(&Request::Edit(edit));

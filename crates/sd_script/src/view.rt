@@ -74,7 +74,11 @@ pub(crate) fn view_text(
     ensures { IfOk result (λ text. IsViewed notation desk.now view.now (string_bytes text)) }
 {
     let tree = desk.published();
-    let printer = Printer::of(alloc, notation, tree);
+    let printer = Printer {
+        alloc,
+        notation,
+        tree,
+    };
     match view {
         View::List { path } => printer.nodes_text(path, &Which::All, "", ""),
         View::Dump => printer.dump_text(desk.readers()),

@@ -1,16 +1,14 @@
 //! Who is granted which rights by a node of the published tree.
-ghost use Rattle.std.specs.Prelude.{◌≡◌, IfOk, Some, string_bytes};
-ghost use Rattle.sd_acl.specs.Descriptor.{descriptor_of};
+ghost use Rattle.std.specs.Prelude.{◌≡◌, IfOk, string_bytes};
 ghost use Rattle.sd_tree.specs.Answers.{descriptor_at};
 ghost use Rattle.sd_tree.specs.Journal.{replay};
 ghost use Rattle.sd_script.specs.Who.{IsWhoText, or_empty};
 
 use crate::view::Groups;
-use sd_acl::Descriptor;
 use sd_analysis::{Base, who};
 use sd_answer::{Spelling, rights_asked, who_text};
 use sd_review::borrowed;
-use sd_sid::{GenericMapping, Mask};
+use sd_sid::Mask;
 use sd_tree::{Path, Tree};
 use std::alloc::{AllocError, Global};
 
@@ -28,35 +26,17 @@ pub(crate) fn node_who_text(
         (descriptor_at tree.now.opening.mapping (replay tree.now.opening tree.now.journal) path.now)
         asked groups.now (string_bytes text)) }
 {
-    match tree.descriptor(path)? {
-        None => String::from_str(alloc, "nonode\n"),
-        Some(descriptor) => {
-            descriptor_who_text(alloc, spelling, tree.mapping(), &descriptor, groups, asked)
-        }
-    }
-}
-
-/// The lines of a descriptor.
-fn descriptor_who_text(
-    alloc: Global,
-    spelling: Spelling,
-    mapping: &GenericMapping,
-    descriptor: &Descriptor,
-    groups: &Groups,
-    asked: Mask,
-) -> Result<String, AllocError>
-    ensures { IfOk result (λ text. IsWhoText spelling mapping.now (Some (descriptor_of descriptor.now)) asked groups.now
-        (string_bytes text)) }
-{
+    let Some(descriptor) = tree.descriptor(path)? else {
+        return String::from_str(alloc, "nonode\n");
+    };
     let base = Base {
         groups: groups.as_slice(),
     };
     let dacl = borrowed(&descriptor.dacl);
-    let rights = rights_asked(mapping, asked);
-    let accesses = who(alloc, descriptor.owner, dacl, mapping, &base, rights)?;
+    let rights = rights_asked(tree.mapping(), asked);
+    let accesses = who(alloc, descriptor.owner, dacl, tree.mapping(), &base, rights)?;
     let text = who_text(alloc, spelling, &accesses)?;
-    let lines = or_empty(alloc, text)?;
-    Ok(lines)
+    or_empty(alloc, text)
 }
 
 /// The text, or `empty` where it has no line: where no right was asked about.

@@ -1,6 +1,5 @@
 -- With ids what the line asks is answered, with its tag.
 use Rattle.std.proofs.Common.{◌≡◌, ℕ, Bool, true, false, List}
-use Rattle.std.proofs.lemmas.Result.{IfOk-weaker}
 use Rattle.sd_script.specs.Output.{IsNext}
 use Rattle.sd_script.specs.declared.carried.Carried.{Carried}
 use Rattle.sd_script.specs.Ids.{IsNextIn, asked_of, tag_of, tagged}
@@ -14,7 +13,6 @@ with_tag true old new line tag asked answer bytes printed is first rest next sam
 with_tag false old new line tag asked answer bytes printed is first rest next same whole = absurd (cc is)
 
 pub returns : goal.returns
-returns c = IfOk-weaker c.tagged.result _ _
-    (λ printed is. with_tag _ _ _ _ _ _ _ _ _ c.if-not-has_ids.false c.parted.ensures.tag c.parted.ensures.asked
-    c.in_ok-answer-2.ensures.answered c.as_bytes.ensures.value is)
-    c.tagged.ensures
+returns c =
+    with_tag _ _ _ _ _ _ _ _ _ c.if-not-has_ids.false (rw (c.tag_len.ensures.len) at c.split_at.ensures.front) (rw (c.tag_len.ensures.len) at c.split_at.ensures.back)
+    c.in_ok-answer-2.ensures.answered c.as_bytes.ensures.value c.in_ok-printed.ensures

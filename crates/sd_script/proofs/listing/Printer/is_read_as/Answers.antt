@@ -1,12 +1,28 @@
-use Rattle.std.proofs.Common.{sym, ◌∙◌}
-use Rattle.sd_script.proofs.Dumping.{read_decides, fault_decides}
+use Rattle.std.proofs.Common.{◌≡◌, ◌∙◌, Ok, Result, subst, sym}
+use Rattle.std.proofs.lemmas.Bool.{false≢true}
+use Rattle.sd_script.specs.Command.{line_asks}
+use Rattle.sd_script.specs.declared.asked.Asked.{Asked}
+use Rattle.sd_script.specs.declared.fault.LineFault.{LineFault}
+use Rattle.sd_script.specs.declared.manner.Notation.{Notation}
+use Rattle.sd_script.proofs.OneReading.{line-one}
 use Rattle.sd_script.proofs.listing.Printer.is_read_as.Goals as goal
+
+abbrev read : Asked → Result Asked LineFault
+read asked = Ok asked
 
 pub returns-in-Ok : goal.returns-in-Ok
 returns-in-Ok c =
-    read_decides c.args.self.now.notation c.args.is_open c.args.line.now c.in-Ok.asked _ c.is_wanted.result (sym c.is_silent.ensures ∙ c.if-is_silent.false) c.in-Ok.ensures c.is_wanted.ensures
+    let notation : Notation = c.args.self.now.notation in (
+      λ yes. (
+        sym c.is_silent.ensures ∙ c.if-is_silent.false,
+        subst (λ (asked : Asked). line_asks notation c.args.is_open c.args.line.now (Ok asked)) (c.is_wanted.ensures.0 yes) c.in-Ok.ensures,
+      ),
+      λ is. let same : read c.in-Ok.asked ≡ read _ = line-one notation c.args.is_open c.args.line.now _ _ c.in-Ok.ensures is.1 in c.is_wanted.ensures.1 (cc (same)),
+    )
 
 pub returns-in-Err-Fault : goal.returns-in-Err-Fault
 returns-in-Err-Fault c =
-    let asks = rw (c.in-Err-Fault.field-0-is) at c.in-Err-Fault.ensures in
-    fault_decides c.args.self.now.notation c.args.is_open c.args.line.now c.in-Err-Fault.field-0-0 _ (sym c.is_silent.ensures ∙ c.if-is_silent.false) asks
+    let asks = rw (c.in-Err-Fault.field-0-is) at c.in-Err-Fault.ensures in (
+      λ yes. absurd (false≢true yes),
+      λ is. let same = line-one c.args.self.now.notation c.args.is_open c.args.line.now _ _ asks is.1 in absurd (cc (same)),
+    )

@@ -1,7 +1,6 @@
 -- Whether the lines that are left ask for what is left decides whether all lines ask for what makes the tree.
 use Rattle.std.specs.Prelude.{Bool}
 use Rattle.std.specs.Bool.{Decides}
-use Rattle.std.specs.FinMap.{entries}
 use Rattle.std.specs.Str.Lines.{lines}
 use Rattle.sd_tree.specs.Journal.{replay}
 use Rattle.sd_script.specs.Dump.{IsReadBack}
@@ -11,4 +10,4 @@ use Rattle.sd_script.proofs.listing.Printer.is_read_back.Given as goal
 abbrev pub invariant-loop-index : goal.invariant-loop-index
 invariant-loop-index l =
     let t = replay l.self.tree.now.opening l.self.tree.now.journal in
-    (r : Bool) → Decides r (AreLeft l.self.notation l.readers (entries t) (lines l.rest) l.index) → Decides r (IsReadBack l.self.notation l.readers t l.text)
+    (r : Bool) → Decides r (AreLeft l.self.notation l.readers t (lines l.rest) l.index) → Decides r (IsReadBack l.self.notation l.readers t l.text)

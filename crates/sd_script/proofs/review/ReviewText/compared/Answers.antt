@@ -1,17 +1,30 @@
-use Rattle.std.proofs.Common.{◌++◌, string_bytes, subst}
-use Rattle.std.specs.Prelude.{codes}
+use Rattle.std.proofs.Common.{◌≡◌, ℕ, List, Option, Some, None, subst}
+use Rattle.sd_sid.specs.Mapping.{MappingValue}
+use Rattle.sd_acl.specs.Descriptor.{DescriptorValue}
 use Rattle.sd_tree.specs.Answers.{descriptor_at}
 use Rattle.sd_review.specs.Compared.{IsOfBoth}
+use Rattle.sd_review.specs.Lines.{lines}
+use Rattle.sd_review.specs.Parts.{parts_in}
 use Rattle.sd_review.specs.Review.{trees_of}
-use Rattle.sd_script.specs.Paths.{path_word}
-use Rattle.sd_script.proofs.Reviewed.{compared_lines}
+use Rattle.sd_review.specs.declared.compared.Compared.{Compared}
+use Rattle.sd_review.proofs.RightOnes.{right_one}
+use Rattle.sd_answer.specs.declared.answer.Spelling.{Spelling}
+use Rattle.sd_script.specs.Review.{IsChangeOf}
 use Rattle.sd_script.proofs.review.ReviewText.compared.Goals as goal
 
-pub returns-in_ok-text-in-Some-clause-text : goal.returns-in_ok-text-in-Some-clause-text
-returns-in_ok-text-in-Some-clause-text c =
+-- the lines of what was compared of two nodes that are there
+compared_lines : (spelling : Spelling) (g : MappingValue) (head : List ℕ) (x y : Option DescriptorValue) (c : Compared) (text : List ℕ)
+    → IsOfBoth g x y (Some c) → text ≡ lines spelling head c → IsChangeOf spelling g head x y text
+compared_lines spelling g head None y c text of is = absurd (cc (of))
+compared_lines spelling g head (Some a) None c text of is = absurd (cc (of))
+compared_lines spelling g head (Some a) (Some b) c text of is =
+    let right = right_one g (parts_in a) (parts_in b) c of in
+    rw (← of.0, ← of.1) (c.comparison.gained.items, c.comparison.lost.items, right.2, right.3, is)
+
+pub returns-clause-text : goal.returns-clause-text
+returns-clause-text c =
     let ts = trees_of c.args.self.now.review in
     let x = descriptor_at ts.mapping ts.old c.args.before.now in
     let y = descriptor_at ts.mapping ts.new c.args.path.now in
-    compared_lines c.args.self.now.notation.spelling ts.mapping (path_word c.args.self.now.notation.paths c.args.path.now ++ codes " ") x y c.in-Some.compared
-    (string_bytes c.in_ok-text-in-Some.text) (subst (IsOfBoth ts.mapping x y) c.in-Some.is c.in_ok-compare.ensures.compared)
-    (λ right. c.in_ok-text-in-Some.ensures ts.mapping right)
+    compared_lines c.args.self.now.notation.spelling ts.mapping _ x y c.in-Some.compared _ (subst (IsOfBoth ts.mapping x y) c.in-Some.is c.in_ok-compare.ensures.compared)
+    (rw (c.deref.ensures, c.in_ok-head.ensures.ok, c.in_ok-path.ensures) at c.in_ok-text.ensures)

@@ -1,7 +1,7 @@
 -- The line is told, and its answer can't be kept to its end.
 use Rattle.std.proofs.Common.{refl, string_bytes}
 use Rattle.sd_script.proofs.Untold.{on_err, told_untold}
-use Rattle.sd_script.proofs.script.answer_in.Goals as goal
+use Rattle.sd_script.proofs.script.answer_after.Goals as goal
 
 pub returns-in_err-push_str-clause-failed : goal.returns-in_err-push_str-clause-failed
 returns-in_err-push_str-clause-failed c =

@@ -1,0 +1,11 @@
+use Rattle.std.proofs.Common.{◌∙◌, ap, length, sym}
+use Rattle.std.specs.Prelude.{option_map}
+use Rattle.sd_acl.specs.Descriptor.{descriptor_of}
+use Rattle.sd_script.proofs.question.NodeQuestion.text.Goals as goal
+
+pub returns-in_ok-lines-in-Why : goal.returns-in_ok-lines-in-Why
+returns-in_ok-lines-in-Why c =
+    let there = ap (option_map descriptor_of) (sym c.in-Some.is) ∙ c.requires in
+    let len = c.len-in-Why.ensures.length ∙ ap length c.published-tree.ensures.journal in
+    let lines = c.deref.ensures ∙ c.in_ok-lines-in-Why.ensures in
+    rw (c.in-Why.is, ← there) (rw (len, lines, c.mapping-mapping.ensures, c.published-tree.ensures.opening) at c.seen_line-in-Why.ensures)

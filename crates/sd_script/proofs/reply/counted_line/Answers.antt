@@ -1,6 +1,0 @@
--- The line is that of the definition, its parts joined from the right.
-use Rattle.std.proofs.Common.{append_assoc}
-use Rattle.sd_script.proofs.reply.counted_line.Goals as goal
-
-pub returns : goal.returns
-returns c = rw c.in_ok-text.ensures.ok (simp append_assoc)
