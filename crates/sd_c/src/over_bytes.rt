@@ -13,7 +13,7 @@ use crate::request::mapping_of;
 use crate::stop::NotRead;
 use sd_check::Verdict;
 use sd_sid::Mask;
-use sd_wire_check::check_bytes;
+use sd_wire::check_bytes;
 use std::alloc::Global;
 
 /// The verdict on a request ([MS-DTYP] 2.5.3.2), for the descriptor in the bytes and a kept token. The token's handle

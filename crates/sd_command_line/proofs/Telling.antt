@@ -1,7 +1,7 @@
 -- What an error leaves of a script's output.
 use Rattle.std.proofs.Common.{ℕ, List, [], Option, Ok, inl, inr, refl}
-use Rattle.sd_stream.specs.declared.error.RunError.{RunError}
-use Rattle.sd_stream.specs.declared.error.RunError.TheVariants.{Read, TooLong, Write, Memory, Thread}
+use Rattle.sd_lines.specs.declared.error.RunError.{RunError}
+use Rattle.sd_lines.specs.declared.error.RunError.TheVariants.{Read, TooLong, Write, Memory, Thread}
 use Rattle.sd_lines.specs.Output.{LeavesOutput}
 use Rattle.sd_script.specs.declared.manner.Manner.{Manner}
 use Rattle.sd_script.specs.declared.tally.Tally.{Tally}

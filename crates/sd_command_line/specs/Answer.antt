@@ -11,7 +11,7 @@ use Rattle.sd_script_audit.specs.Audit.{PrintsAuditAndCounts}
 use Rattle.sd_script.specs.Ids.{tagged}
 use Rattle.sd_script.specs.Printed.{PrintsAndCountsServed, PrintsAs}
 use Rattle.sd_lines.specs.Answers.{PrintsAndLeaves}
-use Rattle.sd_stream.specs.Decoder.{decoded}
+use Rattle.sd_lines.specs.Decoder.{decoded}
 use Rattle.sd_lines.specs.declared.ending.Ending.TheVariants as endings
 use Rattle.sd_lines.specs.declared.form.Form.{Form}
 use Rattle.sd_command_line.specs.Scripts.{IsToldOfScript, script_outcome}

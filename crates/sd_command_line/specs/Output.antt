@@ -2,9 +2,9 @@
 use Rattle.std.specs.Prelude.{◌≡◌, ◌⊎◌, ℕ, Bool, ◌||◌, List, Option, Some, None, Result, Err, codes}
 use Rattle.std.specs.Io.KnownBytes.{Appends, Keeps}
 use Rattle.std.specs.Borrow.{Bor}
-use Rattle.sd_stream.specs.Streams.{AppendsBeginning, ReadsPart, is_read_error, is_write_error}
-use Rattle.sd_stream.specs.declared.error.RunError.{RunError}
-use Rattle.sd_stream.specs.declared.error.RunError.TheVariants.{Read, TooLong, Write, Memory, Thread}
+use Rattle.sd_lines.specs.Streams.{AppendsBeginning, ReadsPart, is_read_error, is_write_error}
+use Rattle.sd_lines.specs.declared.error.RunError.{RunError}
+use Rattle.sd_lines.specs.declared.error.RunError.TheVariants.{Read, TooLong, Write, Memory, Thread}
 use Rattle.sd_answer.specs.Answer.{line}
 use Rattle.sd_script.specs.Printed.{PrintsServed}
 use Rattle.sd_script.specs.declared.manner.Manner.{Manner}

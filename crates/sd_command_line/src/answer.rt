@@ -1,7 +1,7 @@
 //! The one answer of a command to a text.
 ghost use Rattle.std.specs.Prelude.{◌≡◌, ◌≢◌, ◌||◌, true, Err, IfErr, IfOk, is_some, option_map};
-ghost use Rattle.sd_stream.specs.Watched.{has_failed, inner_of};
-ghost use Rattle.sd_stream.specs.Streams.{ReadsPart, is_read_error};
+ghost use Rattle.sd_lines.specs.Watched.{has_failed, inner_of};
+ghost use Rattle.sd_lines.specs.Streams.{ReadsPart, is_read_error};
 ghost use Rattle.sd_commands.specs.Answer.{answer_of};
 ghost use Rattle.sd_command_line.specs.Answer.{AnswersOnce, IsBadOption, IsBadValue};
 ghost use Rattle.sd_command_line.specs.CommandLine.{request_of};
@@ -11,7 +11,7 @@ use crate::command_line::TextRequest;
 use crate::input::answer_input;
 use crate::options::{BadValue, Options};
 use sd_commands::{Answer, answer_question, fault, sid_reason, told_line};
-use sd_stream::{RunError, Watched, read_whole};
+use sd_lines::{RunError, Watched, read_whole};
 use sd_text::Aliases;
 use std::alloc::{AllocError, Global};
 use std::io::Read;

@@ -1,8 +1,8 @@
 //! The answers of one command to each line of an input.
 ghost use Rattle.std.specs.Prelude.{◌≡◌, ◌≢◌, ◌≤◌, ◌||◌, ◌++◌, true, false, IfErr, IfNone, IfOk, IfSome, length};
 ghost use Rattle.std.specs.Prelude.{option_map, string_bytes};
-ghost use Rattle.sd_stream.specs.Watched.{has_failed, inner_of};
-ghost use Rattle.sd_stream.specs.Streams.{is_read_error, is_write_error};
+ghost use Rattle.sd_lines.specs.Watched.{has_failed, inner_of};
+ghost use Rattle.sd_lines.specs.Streams.{is_read_error, is_write_error};
 ghost use Rattle.sd_commands.specs.Answer.{answer_of, outcome_status};
 ghost use Rattle.sd_command_line.specs.Answer.{AnswersLine, AnswersLineIn, AnswersNext, AnswersText, AnswersTold};
 ghost use Rattle.sd_command_line.specs.Answer.{after_answer, form_of, tagging_of};
@@ -20,9 +20,8 @@ use crate::options::{BadValue, Options};
 use crate::perform::Ended;
 use sd_commands::{Answer, Outcome, Settings, answer_question, fault, told_line};
 use sd_json::{Tagging, printed_as};
-use sd_lines::{AnswersLines, Ending, Form, answer_lines};
+use sd_lines::{AnswersLines, Ending, Form, RunError, Watched, answer_lines};
 use sd_script::tagged;
-use sd_stream::{RunError, Watched};
 use sd_usage::{OptionName, TextCommand};
 use std::alloc::{AllocError, Global};
 use std::io::{Read, Write};

@@ -2,14 +2,14 @@
 ghost use Rattle.std.specs.Prelude.{◌≡◌, IfOk};
 ghost use Rattle.std.specs.Str.Lines.{strip_carriage_return};
 ghost use Rattle.sd_commands.specs.Answer.{answer_of};
-ghost use Rattle.sd_stream.specs.Decoder.{decoded};
+ghost use Rattle.sd_lines.specs.Decoder.{decoded};
 ghost use Rattle.sd_command_line.specs.Answer.{AnswersFilled, AnswersInput, IsInputFault};
 ghost use Rattle.sd_command_line.specs.CommandLine.{request_of};
 ghost use Rattle.sd_command_line.specs.Input.{is_blank, is_utf16, is_white, without_end};
 
 use crate::command_line::TextRequest;
 use sd_commands::{Answer, Settings, answer_question, fault, told_line};
-use sd_stream::Decoder;
+use sd_lines::Decoder;
 use std::alloc::{AllocError, Global};
 use std::str::from_utf8;
 

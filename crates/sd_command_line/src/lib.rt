@@ -27,8 +27,8 @@ mod words;
 
 pub use laws::{dashes_keep_texts, each_asks_the_command, help_stands_alone, names_are_distinct};
 pub use program::{asks_help, drive, is_command_line, reads_input};
+pub use sd_lines::{RunError, Watched};
 pub use sd_script::{Manner, Notation, PathSpelling, Tally, run};
 pub use sd_script_audit::run_audit;
 pub use sd_sid::GenericMapping;
 pub use sd_store::{Gate, OpenGate};
-pub use sd_stream::{RunError, Watched};

@@ -1,7 +1,7 @@
 //! A command line, carried out over streams.
 ghost use Rattle.std.specs.Prelude.{◌≡◌, ◌≢◌, ◌||◌, ℕ, List, Option, false, Err, IfErr, IfOk, string_bytes};
-ghost use Rattle.sd_stream.specs.Watched.{has_failed, inner_of};
-ghost use Rattle.sd_stream.specs.Streams.{ReadsPart, is_read_error, is_write_error};
+ghost use Rattle.sd_lines.specs.Watched.{has_failed, inner_of};
+ghost use Rattle.sd_lines.specs.Streams.{ReadsPart, is_read_error, is_write_error};
 ghost use Rattle.sd_commands.specs.Answer.{answer_of, outcome_status};
 ghost use Rattle.sd_command_line.specs.Answer.{Answers, printed_when};
 ghost use Rattle.sd_command_line.specs.CommandLine.{CommandLineValue, IsAudit, Runs, Script, command_line_of};
@@ -17,10 +17,10 @@ use crate::scripts::end_of_script;
 use crate::version::version_text;
 use sd_commands::{Answer, Outcome};
 use sd_json::{Tagging, printed_as};
+use sd_lines::{RunError, Watched, write_whole};
 use sd_script::{run, serve};
 use sd_script_audit::run_audit;
 use sd_store::OpenGate;
-use sd_stream::{RunError, Watched, write_whole};
 use sd_usage::{OptionName, help};
 use std::alloc::Global;
 use std::io::{Read, Write};

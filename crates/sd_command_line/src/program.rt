@@ -1,8 +1,8 @@
 //! The program over any words and streams: words in, an answer and a status out.
 ghost use Rattle.std.specs.Prelude.{◌≡◌, ◌≤◌, ◌⊎◌, ℕ, List, false, Some, is_some};
 ghost use Rattle.std.specs.Io.KnownBytes.{Keeps};
-ghost use Rattle.sd_stream.specs.Watched.{has_failed, inner_of};
-ghost use Rattle.sd_stream.specs.Streams.{AppendsBeginning};
+ghost use Rattle.sd_lines.specs.Watched.{has_failed, inner_of};
+ghost use Rattle.sd_lines.specs.Streams.{AppendsBeginning};
 ghost use Rattle.sd_command_line.specs.CommandLine.{IsUnread, asks_input, mistake_in, reading};
 ghost use Rattle.sd_command_line.specs.Laws.{shows};
 ghost use Rattle.sd_command_line.specs.Mistake.{message};
@@ -11,7 +11,7 @@ ghost use Rattle.sd_command_line.specs.Output.{AppendsAnswer, AppendsPartOfAnswe
 use crate::command_line::{Asked, read_command_line};
 use crate::mistake::{Mistake, message};
 use crate::perform::{Ended, perform};
-use sd_stream::{RunError, Watched, write_whole};
+use sd_lines::{RunError, Watched, write_whole};
 use std::alloc::Global;
 use std::io::{Read, Write};
 use std::sync::Wait;

@@ -1,3 +1,4 @@
 pub mod Cutting
 pub mod InOrder
 pub mod Steps
+mod Characters

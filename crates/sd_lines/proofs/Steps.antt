@@ -8,8 +8,8 @@ use Rattle.std.proofs.lemmas.Bool.Decides.{nat_tests}
 use Rattle.std.proofs.lemmas.List.{nil_from_length, take-append-le, take_all}
 use Rattle.std.proofs.lemmas.List.Elements.{All-append}
 use Rattle.std.proofs.Math.Seq.{take-append-add}
-use Rattle.sd_stream.specs.Streams.{AppendsBeginning}
-use Rattle.sd_stream.specs.declared.input.TheConstants.{MAX_INPUT_BYTES}
+use Rattle.sd_lines.specs.Streams.{AppendsBeginning}
+use Rattle.sd_lines.specs.declared.input.TheConstants.{MAX_INPUT_BYTES}
 use Rattle.sd_lines.specs.Answers.{Answering, AreAnswered, Prints, PrintsAndLeaves, of_form}
 use Rattle.sd_lines.specs.Lines.{HasNoEnd, IsLong, asked_of, end_byte, ended_line, lines_in, text_of}
 use Rattle.sd_lines.specs.Output.{AnswersEnded, AnswersPart, AppendsOutput}

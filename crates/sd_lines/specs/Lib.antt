@@ -2,3 +2,8 @@ pub mod Answers
 pub mod Lines
 pub mod Output
 pub mod Steps
+pub mod Decoder
+pub mod Error
+pub mod Streams
+pub mod Utf16
+pub mod Watched

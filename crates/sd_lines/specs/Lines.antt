@@ -3,8 +3,8 @@ use Rattle.std.specs.Prelude.{◌≡◌, ◌⊎◌, ℕ, ◌<◌, ◌==◌, nat_
 use Rattle.std.specs.Prelude.{[], ◌∷◌, ◌++◌, length, Option, Some, None}
 use Rattle.std.specs.List.{slice_split}
 use Rattle.std.specs.Str.Lines.{lines_of_parts, strip_carriage_return}
-use Rattle.sd_stream.specs.Decoder.{decoded}
-use Rattle.sd_stream.specs.declared.input.TheConstants.{MAX_INPUT_BYTES}
+use Rattle.sd_lines.specs.Decoder.{decoded}
+use Rattle.sd_lines.specs.declared.input.TheConstants.{MAX_INPUT_BYTES}
 use Rattle.sd_lines.specs.declared.ending.Ending.{Ending}
 use Rattle.sd_lines.specs.declared.ending.Ending.TheVariants.{Feed, Zero}
 use Rattle.sd_lines.specs.declared.form.Form.{Form}

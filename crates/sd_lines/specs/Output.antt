@@ -1,9 +1,9 @@
 -- What a run over an input leaves in a writer whose bytes are known, by what inputs print.
 use Rattle.std.specs.Prelude.{◌≡◌, ⊤, ◌⊎◌, ℕ, true, List, [], ◌++◌, Option, IfSome}
 use Rattle.std.specs.Io.KnownBytes.{Appends, Consumes, IsAtEnd, Keeps}
-use Rattle.sd_stream.specs.Streams.{AppendsBeginning}
-use Rattle.sd_stream.specs.declared.error.RunError.{RunError}
-use Rattle.sd_stream.specs.declared.error.RunError.TheVariants.{Read, TooLong, Write, Memory, Thread}
+use Rattle.sd_lines.specs.Streams.{AppendsBeginning}
+use Rattle.sd_lines.specs.declared.error.RunError.{RunError}
+use Rattle.sd_lines.specs.declared.error.RunError.TheVariants.{Read, TooLong, Write, Memory, Thread}
 use Rattle.sd_lines.specs.Lines.{HasNoEnd, IsEnded, IsLong, text_of}
 use Rattle.sd_lines.specs.declared.form.Form.{Form}
 

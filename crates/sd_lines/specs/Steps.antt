@@ -1,8 +1,8 @@
 -- What stands between two parts of an input. No public contract names it.
 use Rattle.std.specs.Prelude.{◌≡◌, ◌&&◌, nat_lt, Bool, ℕ, List, [], ◌++◌, length, take, Option}
 use Rattle.std.specs.Io.KnownBytes.{Appends, Consumes}
-use Rattle.sd_stream.specs.declared.error.RunError.{RunError}
-use Rattle.sd_stream.specs.declared.input.TheConstants.{MAX_INPUT_BYTES}
+use Rattle.sd_lines.specs.declared.error.RunError.{RunError}
+use Rattle.sd_lines.specs.declared.input.TheConstants.{MAX_INPUT_BYTES}
 use Rattle.sd_lines.specs.Answers.{Answering, AreAnswered, Prints, of_form}
 use Rattle.sd_lines.specs.Lines.{HasNoEnd, IsEnded, lines_in, text_of}
 use Rattle.sd_lines.specs.Output.{LeavesAnswers}

@@ -1,12 +1,12 @@
 //! What lines are, and when their answers are written.
 
 ghost use Rattle.std.specs.Prelude.{◌≡◌, ◌++◌, ◌-◌, ℕ, List, OnOk, length, option_map, take};
-ghost use Rattle.sd_stream.specs.Decoder.{text_after};
+ghost use Rattle.sd_lines.specs.Decoder.{text_after};
 ghost use Rattle.sd_lines.specs.Lines.{asked_of, text_of};
 ghost use Rattle.sd_lines.specs.Steps.{ends_run};
 
 use crate::ending::Ending;
-use sd_stream::{Decoder, MAX_INPUT_BYTES};
+use crate::{Decoder, MAX_INPUT_BYTES};
 use std::alloc::{AllocError, Global};
 
 /// The most bytes of a line that are kept: one more than the longest line and a carriage return have.

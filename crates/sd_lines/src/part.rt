@@ -1,13 +1,13 @@
 //! The lines that end in a part of an input.
 
 ghost use Rattle.std.specs.Prelude.{◌≡◌, ◌||◌, ◌++◌, ◌<◌, ℕ, List, [], false, Option, IfOk, IfErr, OnOk, length};
-ghost use Rattle.sd_stream.specs.Watched.{inner_of, has_failed};
-ghost use Rattle.sd_stream.specs.Streams.{is_read_error, is_write_error};
+ghost use Rattle.sd_lines.specs.Watched.{inner_of, has_failed};
+ghost use Rattle.sd_lines.specs.Streams.{is_read_error, is_write_error};
 ghost use Rattle.sd_lines.specs.Steps.{Continues, Stops, ends_run};
 
 use crate::answers::AnswersLines;
 use crate::form::{Form, keep};
-use sd_stream::{RunError, Watched, write_whole};
+use crate::{RunError, Watched, write_whole};
 use std::alloc::{AllocError, Global};
 use std::io::Write;
 

@@ -1,15 +1,15 @@
 //! The lines of one stream, and their answers in another.
 
 ghost use Rattle.std.specs.Prelude.{◌≡◌, ◌||◌, IfErr, OnOk};
-ghost use Rattle.sd_stream.specs.Watched.{inner_of, has_failed};
-ghost use Rattle.sd_stream.specs.Streams.{is_read_error, is_write_error};
+ghost use Rattle.sd_lines.specs.Watched.{inner_of, has_failed};
+ghost use Rattle.sd_lines.specs.Streams.{is_read_error, is_write_error};
 ghost use Rattle.sd_lines.specs.Answers.{Prints, PrintsAndLeaves};
 ghost use Rattle.sd_lines.specs.Output.{AppendsOutput, LeavesAnswers};
 
 use crate::answers::AnswersLines;
 use crate::form::Form;
 use crate::part::answer_parts;
-use sd_stream::{RunError, Watched, write_whole};
+use crate::{RunError, Watched, write_whole};
 use std::alloc::Global;
 use std::io::{Read, Write};
 

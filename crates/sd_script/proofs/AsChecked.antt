@@ -12,8 +12,8 @@ use Rattle.sd_tree.specs.Journal.{replay}
 use Rattle.sd_tree.specs.Names.{Names}
 use Rattle.sd_tree.specs.Plain.{dacl_at, row_at}
 use Rattle.sd_tree.specs.declared.node.Row.{Row}
-use Rattle.sd_desk.specs.Machine.{Machine}
-use Rattle.sd_desk.specs.declared.request.Request.TheVariants as requests
+use Rattle.sd_versions.specs.Machine.{Machine}
+use Rattle.sd_versions.specs.declared.request.Request.TheVariants as requests
 use Rattle.sd_answer.specs.Answer.{line, spelled}
 use Rattle.sd_script.specs.Laws.{BeginsAsCheck, DeletesAsChecked, IsGranted, by_node_line}
 use Rattle.sd_script.specs.Question.{outcome_of}

@@ -17,7 +17,7 @@ use Rattle.sd_tree.specs.declared.node.Row.{Row}
 use Rattle.sd_tree.proofs.Moved.{entry_there}
 use Rattle.sd_tree.proofs.Rows.{one_path, path_itself}
 use Rattle.sd_script.specs.Dump.{making, makings, wanted, IsAskedBy, AreAskedBy}
-use Rattle.sd_desk.specs.declared.request.Request.TheVariants.{Publish}
+use Rattle.sd_versions.specs.declared.request.Request.TheVariants.{Publish}
 use Rattle.sd_script.specs.declared.asked.Asked.{Asked}
 use Rattle.sd_script.specs.declared.asked.Asked.TheVariants.{Asking}
 use Rattle.sd_script.specs.declared.manner.Notation.{Notation}

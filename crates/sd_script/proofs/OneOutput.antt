@@ -13,13 +13,13 @@ use Rattle.sd_tree.specs.Names.{Names}
 use Rattle.sd_tree.specs.declared.edit.Edit.{Edit}
 use Rattle.sd_tree.specs.declared.opening.RootSpec.{RootSpec}
 use Rattle.sd_tree.specs.declared.refusal.EditRefusal.{EditRefusal}
-use Rattle.sd_desk.specs.Machine.{Machine, Steps, accepted, due, floor_of, with_edit, with_publish, with_floor, with_look}
+use Rattle.sd_versions.specs.Machine.{Machine, Steps, accepted, due, floor_of, with_edit, with_publish, with_floor, with_look}
 use Rattle.sd_versions.specs.Versions.{longer}
 use Rattle.sd_versions.specs.Starts.{IsReaderCount, IsStartError}
-use Rattle.sd_desk.specs.declared.request.Reply.{Reply}
-use Rattle.sd_desk.specs.declared.request.Reply.TheVariants as replies
-use Rattle.sd_desk.specs.declared.request.Request.{Request}
-use Rattle.sd_desk.specs.declared.request.Request.TheVariants as requests
+use Rattle.sd_versions.specs.declared.request.Reply.{Reply}
+use Rattle.sd_versions.specs.declared.request.Reply.TheVariants as replies
+use Rattle.sd_versions.specs.declared.request.Request.{Request}
+use Rattle.sd_versions.specs.declared.request.Request.TheVariants as requests
 use Rattle.sd_versions.specs.declared.start.StartError.{StartError}
 use Rattle.sd_versions.specs.declared.start.StartError.TheVariants as starts
 use Rattle.sd_answer.specs.Answer.{line}

@@ -21,7 +21,7 @@ use Rattle.sd_tree.specs.Plain.{dacl_at, row_at}
 use Rattle.sd_tree.specs.declared.node.Row.{Row}
 use Rattle.sd_tree.specs.declared.tree.CheckReply.TheVariants.{Verdict}
 use Rattle.sd_tree.proofs.Rows.{one_path}
-use Rattle.sd_desk.specs.Machine.{accepted}
+use Rattle.sd_versions.specs.Machine.{accepted}
 use Rattle.sd_analysis.specs.Base.{HasBase}
 use Rattle.sd_analysis.specs.Compare.{AreGains}
 use Rattle.sd_analysis.specs.Sufficient.{Parts}

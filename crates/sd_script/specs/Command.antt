@@ -13,8 +13,8 @@ use Rattle.sd_tree.specs.declared.node.NodeDacl.{NodeDacl}
 use Rattle.sd_tree.specs.declared.node.NodeKind.{NodeKind}
 use Rattle.sd_tree.specs.declared.node.NodeKind.TheVariants.{Container, Object}
 use Rattle.sd_tree.specs.declared.opening.RootSpec.{RootSpec}
-use Rattle.sd_desk.specs.declared.request.Request.{Request}
-use Rattle.sd_desk.specs.declared.request.Request.TheVariants as requests
+use Rattle.sd_versions.specs.declared.request.Request.{Request}
+use Rattle.sd_versions.specs.declared.request.Request.TheVariants as requests
 use Rattle.sd_script.specs.Addition.{addition, row_of}
 use Rattle.sd_script.specs.Argument.{number, path, sid, mask, token, base, node, dacl, imported}
 use Rattle.sd_script.specs.Fault.{Reading, Just, Then, UnlessMemory}

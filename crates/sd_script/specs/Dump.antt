@@ -14,8 +14,8 @@ use Rattle.sd_tree.specs.declared.node.NodeKind.{NodeKind}
 use Rattle.sd_tree.specs.declared.node.NodeKind.TheVariants.{Container, Object}
 use Rattle.sd_tree.specs.declared.node.Row.{Row}
 use Rattle.sd_tree.specs.declared.opening.RootSpec.{RootSpec}
-use Rattle.sd_desk.specs.Machine.{Machine}
-use Rattle.sd_desk.specs.declared.request.Request.TheVariants as requests
+use Rattle.sd_versions.specs.Machine.{Machine}
+use Rattle.sd_versions.specs.declared.request.Request.TheVariants as requests
 use Rattle.sd_script.specs.Addition.{addition}
 use Rattle.sd_answer.specs.Answer.{line, fault_line}
 use Rattle.sd_script.specs.Command.{line_asks}

@@ -9,9 +9,9 @@ use Rattle.sd_acl.specs.declared.ace.Ace.{Ace}
 use Rattle.sd_tree.specs.Answers.{descriptor_at}
 use Rattle.sd_tree.specs.Names.{Names}
 use Rattle.sd_tree.specs.Journal.{replay}
-use Rattle.sd_desk.specs.Machine.{Machine, accepted}
-use Rattle.sd_desk.specs.declared.request.Reply.{Reply}
-use Rattle.sd_desk.specs.declared.request.Reply.TheVariants.{Edited}
+use Rattle.sd_versions.specs.Machine.{Machine, accepted}
+use Rattle.sd_versions.specs.declared.request.Reply.{Reply}
+use Rattle.sd_versions.specs.declared.request.Reply.TheVariants.{Edited}
 use Rattle.sd_answer.specs.Answer.{line}
 use Rattle.sd_answer.specs.declared.answer.Spelling.{Spelling}
 use Rattle.sd_script.specs.Argument.{entries_in}

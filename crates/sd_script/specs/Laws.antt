@@ -8,8 +8,8 @@ use Rattle.sd_tree.specs.Answers.{answer, reply_in}
 use Rattle.sd_tree.specs.Names.{Names, is_within}
 use Rattle.sd_tree.specs.Plain.{row_at}
 use Rattle.sd_tree.specs.declared.node.Row.{Row}
-use Rattle.sd_desk.specs.Machine.{Machine, accepted}
-use Rattle.sd_desk.specs.declared.request.Request.TheVariants.{Check}
+use Rattle.sd_versions.specs.Machine.{Machine, accepted}
+use Rattle.sd_versions.specs.declared.request.Request.TheVariants.{Check}
 use Rattle.sd_answer.specs.Answer.{line, spelled}
 use Rattle.sd_answer.specs.declared.answer.Spelling.{Spelling}
 use Rattle.sd_script.specs.Command.{line_asks}

@@ -5,10 +5,10 @@ use Rattle.std.specs.Str.Lines.{lines}
 use Rattle.sd_tree.specs.Journal.{opening_within, root_refusal}
 use Rattle.sd_tree.specs.declared.opening.Opening.{Opening}
 use Rattle.sd_tree.specs.declared.opening.RootSpec.{RootSpec}
-use Rattle.sd_desk.specs.Machine.{Machine, Steps, started}
+use Rattle.sd_versions.specs.Machine.{Machine, Steps, started}
 use Rattle.sd_versions.specs.Starts.{IsReaderCount, IsStartError}
-use Rattle.sd_desk.specs.declared.request.Reply.{Reply}
-use Rattle.sd_desk.specs.declared.request.Request.TheVariants.{Edit}
+use Rattle.sd_versions.specs.declared.request.Reply.{Reply}
+use Rattle.sd_versions.specs.declared.request.Request.TheVariants.{Edit}
 use Rattle.sd_versions.specs.declared.start.StartError.{StartError}
 use Rattle.sd_lines.specs.Answers.{AreAnswered}
 use Rattle.sd_script.specs.Command.{line_asks}

@@ -3,7 +3,7 @@ use Rattle.std.specs.Prelude.{◌≡◌, ℕ, nat_lt, List, [], length, if◌the
 use Rattle.sd_tree.specs.Answers.{answer, descriptor_at}
 use Rattle.sd_tree.specs.Names.{Names}
 use Rattle.sd_tree.specs.Journal.{replay}
-use Rattle.sd_desk.specs.Machine.{Machine, with_look}
+use Rattle.sd_versions.specs.Machine.{Machine, with_look}
 use Rattle.sd_answer.specs.Answer.{line}
 use Rattle.sd_script.specs.Deletion.{delete_right, deletion_line, parent_grants}
 use Rattle.sd_script.specs.Listing.{nodes_text}

@@ -9,9 +9,9 @@ use Rattle.sd_tree.specs.Refusals.{number_of, name_of}
 use Rattle.sd_tree.specs.declared.refusal.EditRefusal.{EditRefusal}
 use Rattle.sd_tree.specs.declared.tree.CheckReply.{CheckReply}
 use Rattle.sd_tree.specs.declared.tree.CheckReply.TheVariants as checks
-use Rattle.sd_desk.specs.declared.request.Reply.{Reply}
-use Rattle.sd_desk.specs.declared.request.Reply.TheVariants.{Edited, Refused, Published, Told, Learned, Answered, Shown}
-use Rattle.sd_desk.specs.declared.request.Reply.TheVariants.{NoReader, NoNotice, Memory}
+use Rattle.sd_versions.specs.declared.request.Reply.{Reply}
+use Rattle.sd_versions.specs.declared.request.Reply.TheVariants.{Edited, Refused, Published, Told, Learned, Answered}
+use Rattle.sd_versions.specs.declared.request.Reply.TheVariants.{Shown, NoReader, NoNotice, Memory}
 use Rattle.sd_versions.specs.declared.start.StartError.{StartError}
 use Rattle.sd_versions.specs.declared.start.StartError.TheVariants as starts
 use Rattle.sd_answer.specs.Answer.{line, right_names_of, verdict_line}

@@ -9,7 +9,7 @@ use Rattle.sd_acl.specs.Descriptor.{DescriptorValue}
 use Rattle.sd_tree.specs.Answers.{descriptor_at, kind_at}
 use Rattle.sd_tree.specs.Names.{Names, is_within}
 use Rattle.sd_tree.specs.declared.node.Row.{Row}
-use Rattle.sd_desk.specs.Machine.{Machine, accepted}
+use Rattle.sd_versions.specs.Machine.{Machine, accepted}
 use Rattle.sd_analysis.specs.Compare.{AreGains}
 use Rattle.sd_analysis.specs.Sufficient.{Parts}
 use Rattle.sd_analysis.specs.declared.compare_report.Change.{Change}

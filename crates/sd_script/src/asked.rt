@@ -3,7 +3,7 @@ ghost use Rattle.std.specs.Prelude.{◌≡◌, ◌∷◌, [], Some, Ok};
 ghost use Rattle.sd_script.specs.Command.{Parses, asks, asks_delete, asks_groups, asks_taking, asks_who, deletes};
 ghost use Rattle.sd_script.specs.Command.{kind_named, posed, poses};
 ghost use Rattle.sd_script.specs.declared.asked.Asked.TheVariants.{Asking, Viewing};
-ghost use Rattle.sd_desk.specs.declared.request.Request.TheVariants as requests;
+ghost use Rattle.sd_versions.specs.declared.request.Request.TheVariants as requests;
 ghost use Rattle.sd_answer.specs.Word.{texts};
 
 use crate::argument::{Parser, number_in};
@@ -11,9 +11,9 @@ use crate::command::{Command, ScriptCommand};
 use crate::fault::LineStop;
 use crate::view::View;
 use sd_check::Token;
-use sd_desk::Request;
 use sd_sid::Mask;
 use sd_tree::{Edit, Entries, NodeKind, Path, RootSpec};
+use sd_versions::Request;
 
 /// What a line asks for.
 #[derive(Debug, Drop)]

@@ -6,7 +6,7 @@ ghost use Rattle.sd_script.specs.Argument.{entries_in, import_of, imported, impo
 ghost use Rattle.sd_script.specs.Command.{Parses, imports};
 ghost use Rattle.sd_script.specs.Fault.{UnlessMemory};
 ghost use Rattle.sd_script.specs.Importing.{IsImported, entries_by, imported_line};
-ghost use Rattle.sd_desk.specs.Machine.{Machine, accepted};
+ghost use Rattle.sd_versions.specs.Machine.{Machine, accepted};
 ghost use Rattle.sd_tree.specs.Answers.{descriptor_at};
 ghost use Rattle.sd_tree.specs.Journal.{replay};
 
@@ -17,9 +17,9 @@ use crate::fault::{LineFault, LineStop};
 use crate::reply::reply_line;
 use sd_acl::{Ace, Dacl, Descriptor, canonicalize};
 use sd_answer::Spelling;
-use sd_desk::Reply;
 use sd_review::same_entries;
 use sd_tree::{Edit, Entries, NodeDacl, NodeKind, Path, RootSpec, Tree};
+use sd_versions::Reply;
 use std::alloc::{AllocError, Global};
 
 /// What a descriptor gives a node, and all entries that the node had elsewhere.

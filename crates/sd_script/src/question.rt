@@ -13,9 +13,9 @@ use crate::reply::{reply_line, seen_line};
 use sd_acl::Descriptor;
 use sd_answer::why_text;
 use sd_check::Token;
-use sd_desk::{Desk, Reply, Request};
 use sd_sid::Mask;
 use sd_tree::Path;
+use sd_versions::{Desk, Reply, Request};
 use std::alloc::{AllocError, Global};
 
 /// What a reader asks about the node of a path.

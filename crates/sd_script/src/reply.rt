@@ -6,10 +6,9 @@ ghost use Rattle.sd_script.specs.Reply.{shown_sddl, start_error_line};
 
 use sd_acl::Descriptor;
 use sd_answer::{Spelling, verdict_line};
-use sd_desk::Reply;
 use sd_text::print_sddl_in;
 use sd_tree::{CheckReply, EditRefusal};
-use sd_versions::StartError;
+use sd_versions::{Reply, StartError};
 use std::alloc::{AllocError, Global};
 
 /// The line of a reply, a mask in this spelling. Out of memory has none: it is an error.

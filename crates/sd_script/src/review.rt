@@ -12,9 +12,9 @@ use crate::listing::{lacks_words, push_lines};
 use crate::manner::Notation;
 use crate::paths::path_word;
 use sd_answer::fault_line;
-use sd_desk::Desk;
 use sd_review::{Compared, Former, Review};
 use sd_tree::{NodeRef, Path};
+use sd_versions::Desk;
 use std::alloc::{AllocError, Global};
 
 /// The lines of the nodes at and below a path that the pending edits change ([MS-DTYP] 2.5.3.2), and the line of the

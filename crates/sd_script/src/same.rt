@@ -6,10 +6,10 @@ ghost use Rattle.sd_script.specs.Addition.{addition};
 ghost use Rattle.sd_script.specs.Dump.{making, root_of, wanted};
 
 use crate::asked::Asked;
-use sd_desk::Request;
 use sd_review::same_entries;
 use sd_sid::Sid;
 use sd_tree::{Edit, NodeDacl, NodeKind, NodeRef, Path, RootSpec};
+use sd_versions::Request;
 
 /// Whether this makes the node, whose tree is opened for so many readers; or is a publish, where there is none.
 pub(crate) fn is_wanted(asked: &Asked, readers: u64, node: &Option<NodeRef<'_>>) -> bool

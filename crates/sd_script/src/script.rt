@@ -19,8 +19,8 @@ use crate::reply::{counted_line, reply_line, start_error_line};
 use crate::session::Session;
 use crate::tally::Tally;
 use crate::view::view_text;
-use sd_desk::{Desk, Request};
 use sd_lines::answer_text;
+use sd_versions::{Desk, Request};
 use std::alloc::{AllocError, Global};
 
 /// The whole output of a script that is carried out in this manner, as it stands, and what is counted of its lines.

@@ -3,7 +3,7 @@ ghost use Rattle.std.specs.Prelude.{◌≡◌};
 ghost use Rattle.sd_script.specs.Output.{is_open, manner_of};
 
 use crate::manner::{Manner, Notation};
-use sd_desk::Desk;
+use sd_versions::Desk;
 
 /// What stands between two lines of a script.
 #[derive(Drop)]

@@ -1,8 +1,8 @@
 //! A script over streams.
 
 ghost use Rattle.std.specs.Prelude.{◌≡◌, ◌≢◌, ◌||◌, Err, IfErr, IfOk};
-ghost use Rattle.sd_stream.specs.Watched.{inner_of, has_failed};
-ghost use Rattle.sd_stream.specs.Streams.{is_read_error, is_write_error, ReadsPart};
+ghost use Rattle.sd_lines.specs.Watched.{inner_of, has_failed};
+ghost use Rattle.sd_lines.specs.Streams.{is_read_error, is_write_error, ReadsPart};
 ghost use Rattle.sd_script.specs.Output.{PrintsAndCounts};
 ghost use Rattle.sd_script.specs.Printed.{PrintsAndCountsServed, PrintsAs, PrintsServed};
 ghost use Rattle.sd_lines.specs.Output.{AppendsOutput, LeavesAnswers, LeavesOutput};
@@ -15,8 +15,7 @@ use crate::manner::Manner;
 use crate::script::script_output;
 use crate::tally::Tally;
 use sd_json::{Tagging, printed_as};
-use sd_lines::answer_lines;
-use sd_stream::{RunError, Watched, read_whole, write_whole};
+use sd_lines::{RunError, Watched, answer_lines, read_whole, write_whole};
 use std::alloc::Global;
 use std::io::{Read, Write};
 

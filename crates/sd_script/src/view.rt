@@ -7,9 +7,9 @@ use crate::manner::Notation;
 use crate::review::review_text;
 use crate::who::node_who_text;
 use sd_check::GroupState;
-use sd_desk::Desk;
 use sd_sid::{Mask, Sid};
 use sd_tree::Path;
+use sd_versions::Desk;
 use std::alloc::{AllocError, Global};
 use std::marker::Model;
 

@@ -8,7 +8,7 @@ use Rattle.std.specs.List.{flat_map}
 use mathlib.Core.List.{IsPrefix}
 use Rattle.sd_tree.specs.declared.edit.Edit.{Edit}
 use Rattle.sd_tree.specs.declared.opening.Opening.{Opening}
-use Rattle.sd_desk.specs.declared.request.Reply.TheVariants.{Answered}
+use Rattle.sd_versions.specs.declared.request.Reply.TheVariants.{Answered}
 use Rattle.sd_versions.specs.declared.answer.Answer.{Answer}
 use Rattle.sd_store.specs.Audits.{AreAnswers, HaveGrown, reply_by}
 use Rattle.sd_store.specs.Sights.{Sight}

@@ -2,7 +2,7 @@
 use Rattle.std.specs.Prelude.{ℕ, List, [], replicate, Option, Some, None}
 use Rattle.sd_tree.specs.declared.opening.Opening.{Opening}
 use Rattle.sd_tree.specs.declared.opening.RootSpec.{RootSpec}
-use Rattle.sd_desk.specs.Machine.{Machine, started}
+use Rattle.sd_versions.specs.Machine.{Machine, started}
 use Rattle.sd_store.specs.Sights.{StoreState}
 use Rattle.sd_store.specs.declared.query.Query.{Query}
 use Rattle.sd_script.specs.Output.{opening_in}

@@ -6,10 +6,10 @@ ghost use Rattle.sd_script.specs.declared.session.Session.TheVariants.{Opened};
 ghost use Rattle.sd_script_audit.specs.Audit.{end_of, last_publish};
 ghost use Rattle.sd_script_audit.specs.Parts.{machine_of};
 
-use sd_desk::Reply;
+use sd_lines::RunError;
 use sd_script::{Notation, counted_line, reply_line};
 use sd_store::{AuditError, Checker, Gate, Naming, Notice, Query, StoreWriter, audit};
-use sd_stream::RunError;
+use sd_versions::Reply;
 use std::alloc::{AllocError, Global};
 use std::sync::Wait;
 use std::thread::Threads;

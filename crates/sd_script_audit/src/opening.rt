@@ -6,10 +6,10 @@ ghost use Rattle.sd_script_audit.specs.Audit.{IsAnsweredInAudit, IsDoneInAudit, 
 ghost use Rattle.sd_script_audit.specs.Parts.{before_queries, without_queries};
 
 use crate::line::asked_or_told;
-use sd_desk::Desk;
 use sd_lines::AnswersLines;
 use sd_script::{Asked, Manner, Tally, counted_line, start_error_line};
 use sd_tree::RootSpec;
+use sd_versions::Desk;
 use std::alloc::{AllocError, Global};
 
 /// How these lines are answered.

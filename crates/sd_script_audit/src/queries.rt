@@ -1,18 +1,18 @@
 //! The lines of an audit after the one that opened its store: their answers, and the queries among them.
 
 ghost use Rattle.std.specs.Prelude.{◌≡◌, ℕ, false, IfOk, IfSome, string_bytes};
-ghost use Rattle.sd_desk.specs.Machine.{Steps};
-ghost use Rattle.sd_desk.specs.declared.request.Request.TheVariants as asked;
+ghost use Rattle.sd_versions.specs.Machine.{Steps};
+ghost use Rattle.sd_versions.specs.declared.request.Request.TheVariants as asked;
 ghost use Rattle.sd_script.specs.Output.{opens};
 ghost use Rattle.sd_script_audit.specs.Audit.{IsAnsweredInAudit, IsDoneInAudit, IsNextInAudit};
 ghost use Rattle.sd_script_audit.specs.Parts.{audited, machine_of, progress};
 
 use crate::line::{asked_or_told, only_in_scripts};
-use sd_desk::{Reply, Request};
 use sd_lines::AnswersLines;
 use sd_script::{Asked, Notation, Tally, import_line, reply_line};
 use sd_store::{EditError, Naming, PublishError, Query, StoreWriter};
 use sd_tree::Edit;
+use sd_versions::{Reply, Request};
 use std::alloc::{AllocError, Global};
 use std::marker::PhantomData;
 use std::sync::Wait;

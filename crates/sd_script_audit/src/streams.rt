@@ -1,8 +1,8 @@
 //! An audit over streams.
 
 ghost use Rattle.std.specs.Prelude.{◌≡◌, ◌||◌, Err, IfErr, IfOk};
-ghost use Rattle.sd_stream.specs.Watched.{inner_of, has_failed};
-ghost use Rattle.sd_stream.specs.Streams.{is_read_error, is_write_error, ReadsPart};
+ghost use Rattle.sd_lines.specs.Watched.{inner_of, has_failed};
+ghost use Rattle.sd_lines.specs.Streams.{is_read_error, is_write_error, ReadsPart};
 ghost use Rattle.sd_script_audit.specs.Audit.{PrintsAuditAndCounts};
 ghost use Rattle.sd_script.specs.Printed.{PrintsAs};
 ghost use Rattle.sd_script.specs.declared.tally.Tally.{Tally};
@@ -10,9 +10,9 @@ ghost use Rattle.sd_lines.specs.Output.{AppendsOutput, LeavesOutput};
 
 use crate::output::audit_output;
 use sd_json::{Tagging, printed_as};
+use sd_lines::{RunError, Watched, read_whole, write_whole};
 use sd_script::{Manner, Tally};
 use sd_store::Gate;
-use sd_stream::{RunError, Watched, read_whole, write_whole};
 use std::alloc::Global;
 use std::io::{Read, Write};
 use std::sync::Wait;

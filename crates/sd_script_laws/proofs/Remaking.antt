@@ -15,10 +15,10 @@ use Rattle.sd_tree.specs.declared.opening.Opening.{Opening}
 use Rattle.sd_tree.proofs.Closed.{closed_replay}
 use Rattle.sd_tree_renewal.specs.Renewal.{addition as added, addition_of, spec_of, IsShortest}
 use Rattle.sd_tree_renewal.proofs.Renewing.{a_container, first_entry, shortest_of_lawful}
-use Rattle.sd_desk.specs.Machine.{Machine}
+use Rattle.sd_versions.specs.Machine.{Machine}
 use Rattle.sd_versions.specs.Starts.{IsReaderCount}
-use Rattle.sd_desk.specs.declared.request.Request.TheVariants as requests
-use Rattle.sd_desk.specs.declared.request.Reply.TheVariants as replies
+use Rattle.sd_versions.specs.declared.request.Request.TheVariants as requests
+use Rattle.sd_versions.specs.declared.request.Reply.TheVariants as replies
 use Rattle.sd_answer.specs.Answer.{line}
 use Rattle.sd_script.specs.Addition.{addition}
 use Rattle.sd_script.specs.Dump.{makings, root_of, dump_text, IsAskedBy, AreAskedBy, IsReadBack}

@@ -2,7 +2,7 @@
 use Rattle.std.specs.Prelude.{◌≡◌, ◌≢◌, ℕ, false, List, [], ◌∷◌, length, None, codes}
 use Rattle.std.specs.Str.Lines.{lines}
 use Rattle.sd_tree.specs.Journal.{replay, root_refusal, IsLawful}
-use Rattle.sd_desk.specs.Machine.{Machine}
+use Rattle.sd_versions.specs.Machine.{Machine}
 use Rattle.sd_versions.specs.Starts.{IsReaderCount}
 use Rattle.sd_answer.specs.Answer.{fault_line}
 use Rattle.sd_script.specs.Expect.{expects}

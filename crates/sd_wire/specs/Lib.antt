@@ -6,3 +6,4 @@ pub mod Memory
 pub mod Parts
 pub mod Laws
 pub mod Odd
+pub mod Checked

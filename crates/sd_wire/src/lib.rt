@@ -2,13 +2,17 @@
 //!
 //! Parses untrusted bytes, and writes one form. A parse is Ok only with what the bytes hold, else it returns the first
 //! test that they fail. It allocates for no more entries than the bytes have room for, whatever the counts say.
+//! `check_bytes` is the access check straight over the bytes ([MS-DTYP] 2.5.3.2): one walk tests them and finds the
+//! verdict, without an allocation.
 //!
 //! ```text
 //! let descriptor = read_descriptor(alloc, bytes)?;
 //! let written = write_descriptor(alloc, &descriptor)?; // wire_len(&descriptor) bytes
+//! let verdict = check_bytes(bytes, &GenericMapping::file(), &token, Mask(0x0002_0000))?;
 //! ```
 #![tactic(auto)]
 
+mod check;
 mod descriptor;
 mod entry;
 mod fault;
@@ -20,6 +24,7 @@ mod odd;
 mod parts;
 mod trustee;
 
+pub use check::check_bytes;
 pub use descriptor::{read_descriptor, wire_len, write_descriptor};
 pub use entry::read_entry;
 pub use fault::{WireError, WireFault};

@@ -1,10 +1,10 @@
 //! Audits through a gate.
 
 use super::plain;
+use sd_lines::{RunError, Watched};
 use sd_script::Tally;
 use sd_script_audit::run_audit;
 use sd_store::Gate;
-use sd_stream::{RunError, Watched};
 use std::alloc::AllocGlobal;
 use std::sync::Wait;
 use std::sync::atomic::{AtomicU64, Ordering};

@@ -1,7 +1,7 @@
 //! The text of inputs of every encoding, in pieces of every length.
 ghost use Rattle.std.specs.Prelude.{◌<◌};
 
-use sd_stream::Decoder;
+use sd_lines::Decoder;
 use std::alloc::{AllocError, Global};
 use std::test::Fail;
 

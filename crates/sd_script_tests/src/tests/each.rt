@@ -1,6 +1,5 @@
 //! Inputs of every kind of line, that come in pieces of every length and break off at every byte.
-use sd_lines::*;
-use sd_stream::{RunError, Watched};
+use sd_lines::{RunError, Watched, *};
 use std::alloc::{AllocError, Global};
 use std::io;
 use std::io::{ErrorKind, Read, Write};

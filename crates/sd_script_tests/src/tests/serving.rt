@@ -1,7 +1,7 @@
 //! Scripts that come in pieces of every length, and that break off at every byte.
 use super::plain;
+use sd_lines::{RunError, Watched};
 use sd_script::serve;
-use sd_stream::{RunError, Watched};
 use std::alloc::{AllocError, Global};
 use std::io;
 use std::io::{ErrorKind, Read, Write};

@@ -1,5 +1,5 @@
 //! Streams that give and take one byte at a call, and that fail at each of their calls in turn.
-use sd_stream::*;
+use sd_lines::*;
 use std::alloc::Global;
 use std::io;
 use std::io::{ErrorKind, Read, Write};

@@ -1,10 +1,10 @@
 //! What is printed of nodes whose names no line of a script can give.
 
 use super::plain;
-use sd_desk::{Desk, Request};
 use sd_script::{Carried, Notation, PathSpelling, Session, answer_line};
 use sd_sid::{GenericMapping, Sid};
 use sd_tree::{Edit, Entries, NodeDacl, Path, RootSpec};
+use sd_versions::{Desk, Request};
 use std::process::Abort;
 
 /// A store with one object, at the path.

@@ -2,7 +2,7 @@ use Rattle.std.proofs.Common.{◌≡◌, ◌++◌, [], refl, sym, ◌∙◌, ap,
 use Rattle.std.proofs.lemmas.Bool.Decides.{nat_tests}
 use Rattle.std.proofs.lemmas.List.{nil_from_length}
 use Rattle.std.proofs.lemmas.Result.{err_from_is_err_and}
-use Rattle.sd_stream.specs.Watched.{inner_of}
+use Rattle.sd_lines.specs.Watched.{inner_of}
 use Rattle.sd_lines.proofs.Steps.{all_written, leaves_ended, leaves_long, leaves_part, taken_on}
 use Rattle.sd_lines.proofs.part.answer_parts.Goals as goal
 

@@ -1,5 +1,5 @@
 use Rattle.std.proofs.Common.{◌≡◌, false, ℕ, List, [], ◌++◌, length}
-use Rattle.sd_stream.specs.Watched.{inner_of, has_failed}
+use Rattle.sd_lines.specs.Watched.{inner_of, has_failed}
 use Rattle.sd_lines.specs.Steps.{Continues, ends_run}
 use Rattle.sd_lines.proofs.part.answer_parts.Given as goal
 

@@ -5,8 +5,8 @@ use Rattle.std.proofs.lemmas.Bool.Decides.{nat_tests}
 use Rattle.std.proofs.lemmas.List.{nil_from_length}
 use Rattle.std.proofs.lemmas.List.Elements.{All-append}
 use Rattle.std.proofs.lemmas.Result.{err_from_is_err_and}
-use Rattle.sd_stream.specs.Decoder.{text_after}
-use Rattle.sd_stream.specs.Watched.{inner_of}
+use Rattle.sd_lines.specs.Decoder.{text_after}
+use Rattle.sd_lines.specs.Watched.{inner_of}
 use Rattle.sd_lines.specs.Lines.{text_of}
 use Rattle.sd_lines.proofs.Cutting.{ends, none_above}
 use Rattle.sd_lines.proofs.Steps.{all_appended, leaves_ended, no_last, one_last, part_appended}

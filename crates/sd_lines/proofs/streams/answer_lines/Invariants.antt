@@ -1,7 +1,7 @@
 use Rattle.std.proofs.Common.{◌≡◌, false, ℕ, List, [], ◌++◌}
 use Rattle.std.specs.Io.KnownBytes.{Consumes}
-use Rattle.sd_stream.specs.Decoder.{text_after}
-use Rattle.sd_stream.specs.Watched.{inner_of, has_failed}
+use Rattle.sd_lines.specs.Decoder.{text_after}
+use Rattle.sd_lines.specs.Watched.{inner_of, has_failed}
 use Rattle.sd_lines.specs.Lines.{HasNoEnd, text_of}
 use Rattle.sd_lines.specs.Steps.{Answered, ends_run}
 use Rattle.sd_lines.proofs.streams.answer_lines.Given as goal

@@ -2,7 +2,7 @@ use Rattle.std.proofs.Common.{◌≡◌, ◌∙◌, List, ℕ, ap, length}
 use Rattle.sd_tree.specs.Journal.{TreeValue}
 use Rattle.sd_tree.specs.Names.{Names}
 use Rattle.sd_tree.specs.declared.edit.Edit.{Edit}
-use Rattle.sd_desk.specs.Machine.{Machine, accepted}
+use Rattle.sd_versions.specs.Machine.{Machine, accepted}
 use Rattle.sd_review.specs.Review.{Trees, stands_in}
 use Rattle.sd_review.proofs.OneStore.{one_store}
 use Rattle.sd_script.specs.Review.{IsReview, IsReviewOf, has_no_words, reviewed_line, trees_in}

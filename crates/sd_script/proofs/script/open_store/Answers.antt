@@ -3,7 +3,7 @@ use Rattle.std.proofs.Common.{◌≡◌, ℕ, None, false, inl, inr, refl, ap}
 use Rattle.std.specs.Prelude.{codes}
 use Rattle.sd_tree.specs.Journal.{root_refusal}
 use Rattle.sd_tree.specs.declared.opening.RootSpec.{RootSpec}
-use Rattle.sd_desk.specs.Machine.{Machine, started}
+use Rattle.sd_versions.specs.Machine.{Machine, started}
 use Rattle.sd_versions.specs.Starts.{IsReaderCount}
 use Rattle.sd_script.specs.Output.{IsMade, is_open, manner_of, opening_in}
 use Rattle.sd_script.specs.Reply.{counted_line}

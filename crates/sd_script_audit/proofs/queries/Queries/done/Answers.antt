@@ -3,9 +3,9 @@ use Rattle.std.specs.Prelude.{IfOk}
 use Rattle.sd_acl.specs.declared.ace.Ace.{Ace}
 use Rattle.sd_tree.specs.Names.{Names}
 use Rattle.sd_tree.specs.declared.edit.Edit.{Edit}
-use Rattle.sd_desk.specs.Machine.{Machine, Steps}
-use Rattle.sd_desk.specs.declared.request.Reply.{Reply}
-use Rattle.sd_desk.specs.declared.request.Request.TheVariants as requests
+use Rattle.sd_versions.specs.Machine.{Machine, Steps}
+use Rattle.sd_versions.specs.declared.request.Reply.{Reply}
+use Rattle.sd_versions.specs.declared.request.Request.TheVariants as requests
 use Rattle.sd_store.specs.declared.query.Query.{Query}
 use Rattle.sd_script.specs.Importing.{IsImported}
 use Rattle.sd_script.specs.declared.asked.Asked.TheVariants.{Importing}

@@ -1,3 +1,0 @@
-pub mod Keeping
-pub mod Lists
-pub mod Moves

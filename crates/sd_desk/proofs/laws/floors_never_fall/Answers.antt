@@ -1,5 +1,0 @@
-use Rattle.sd_desk.proofs.Moves.{floors_never_fall}
-use Rattle.sd_desk.proofs.laws.floors_never_fall.Goals as goal
-
-pub returns : goal.returns
-returns c = floors_never_fall

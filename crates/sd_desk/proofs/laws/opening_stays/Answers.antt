@@ -1,5 +1,0 @@
-use Rattle.sd_desk.proofs.Moves.{opening_stays}
-use Rattle.sd_desk.proofs.laws.opening_stays.Goals as goal
-
-pub returns : goal.returns
-returns c = opening_stays
