@@ -137,6 +137,7 @@ impl<J: Naming + Send + Sync, T: Threads + Wait + Sync> Queries<'_, J, T> {
         gate: &G,
         printed: &mut Vec<u8>,
     ) -> Result<(), RunError>
+        requires each { length checkers.old ≡ self.now.workers }
         requires some { (0 < length checkers.old) × (length checkers.old ≤ 64) }
         ensures audited { OnOk result ((added : List ℕ) × (printed.new.items ≡ printed.old.items ++ added)
             × AreAnsweredInAudit self.now.workers (audited self.now.notation J.opening self.now.workers
