@@ -1,7 +1,6 @@
 //! A test calls a store by helpers without contracts: the proof of the test then carries no journal along.
 
 mod audits;
-mod blocks;
 mod calls;
 mod client;
 mod may_read;

@@ -1,0 +1,5 @@
+//! Tests of lists in shared blocks, beside vectors.
+#![tactic(auto)]
+
+#[cfg(test)]
+mod tests;
