@@ -1,30 +1,22 @@
 -- What the arguments of an edit are parsed as.
-use Rattle.std.specs.Prelude.{◌≡◌, ◌⊎◌, ℕ, ◌<◌, Bool, false, List, [], length, Some, None, IsSome, Ok, Err, IsOkAnd}
+use Rattle.std.specs.Prelude.{◌≡◌, ◌⊎◌, ℕ, ◌<◌, false, List, length, Some, None, IsSome, Ok, Err, IsOkAnd}
 use Rattle.sd_sid.specs.Sid.{SidValue}
 use Rattle.sd_sid.specs.SidBytes.{sid_reading}
 use Rattle.sd_acl.specs.Descriptor.{DescriptorValue}
-use Rattle.sd_acl.specs.Dacl.{Dacl}
-use Rattle.sd_acl.specs.declared.descriptor.DaclOf.TheVariants as dacls
 use Rattle.sd_wire.specs.Memory.{TakesMemory}
 use Rattle.sd_wire.specs.Reading.{descriptor_read}
 use Rattle.sd_path.specs.Names.{Names, is_root}
 use Rattle.sd_path.specs.PathText.{path_of}
+use Rattle.sd_tree.specs.Descriptors.{own_dacl}
 use Rattle.sd_tree.specs.declared.edit.Edit.{Edit}
 use Rattle.sd_tree.specs.declared.edit.Edit.TheVariants.{AddContainer, AddObject, SetOwner, SetGroup, SetDacl, Remove}
 use Rattle.sd_tree.specs.declared.edit.Edit.TheVariants.{ProtectKeeping, Move}
 use Rattle.sd_tree.specs.declared.node.NodeDacl.{NodeDacl}
-use Rattle.sd_tree.specs.declared.node.NodeDacl.TheVariants.{Null, List as Entries}
 use Rattle.sd_c.specs.Written.{IsNotUtf8}
 use Rattle.sd_c.specs.declared.not_done.PathArgument.{PathArgument}
 use Rattle.sd_c.specs.declared.not_done.PathArgument.TheVariants as arguments
 use Rattle.sd_c.specs.declared.not_done.NotDone.{NotDone}
 use Rattle.sd_c.specs.declared.not_done.NotDone.TheVariants as reasons
-
--- the DACL that a descriptor gives a node: an absent one is an empty list that isn't protected
-abbrev pub own_dacl : Bool → Dacl → NodeDacl
-own_dacl protected dacls.Absent = Entries false []
-own_dacl protected dacls.Null = Null
-own_dacl protected (dacls.List entries) = Entries protected entries
 
 -- the bytes hold a descriptor with an owner and a group, which gives a node these
 abbrev pub IsNode : List ℕ → SidValue → SidValue → NodeDacl → Type 0

@@ -5,16 +5,16 @@ ghost use Rattle.sd_acl.specs.Descriptor.{descriptor_of};
 ghost use Rattle.sd_path.specs.PathText.{path_of};
 ghost use Rattle.sd_wire.specs.Reading.{descriptor_read};
 ghost use Rattle.sd_c.specs.Edits.{IsDacl, IsEdit, IsNoDacl, IsNoDescriptor, IsNoEdit, IsNoNode, IsNoPath, IsNoSid};
-ghost use Rattle.sd_c.specs.Edits.{IsNode, IsSid, own_dacl};
+ghost use Rattle.sd_c.specs.Edits.{IsNode, IsSid};
 
 use crate::not_done::{NotDone, PathArgument};
 use crate::text::utf8_of;
-use sd_acl::{Dacl, Descriptor};
+use sd_acl::Descriptor;
 use sd_path::{Path, PathError};
 use sd_sid::{Sid, read_sid};
-use sd_tree::{Edit, Entries, NodeDacl, RootSpec};
+use sd_tree::{Edit, NodeDacl, NodeKind, RootSpec};
 use sd_wire::{WireError, read_descriptor};
-use std::alloc::{AllocError, Global};
+use std::alloc::Global;
 
 /// The numbers of the edits.
 const ADD_CONTAINER: u32 = 1;
@@ -41,22 +41,12 @@ pub(crate) fn edit_of(alloc: Global, kind: u32, path: &[u8], value: &[u8]) -> Re
     let path = path_of(alloc, PathArgument::Path, path)?;
     match kind {
         ADD_CONTAINER => {
-            let RootSpec { owner, group, dacl } = node_of(alloc, value)?;
-            Ok(Edit::AddContainer {
-                path,
-                owner,
-                group,
-                dacl,
-            })
+            let node = node_of(alloc, value)?;
+            Ok(Edit::addition(NodeKind::Container, path, node))
         }
         ADD_OBJECT => {
-            let RootSpec { owner, group, dacl } = node_of(alloc, value)?;
-            Ok(Edit::AddObject {
-                path,
-                owner,
-                group,
-                dacl,
-            })
+            let node = node_of(alloc, value)?;
+            Ok(Edit::addition(NodeKind::Object, path, node))
         }
         SET_OWNER => Ok(Edit::SetOwner {
             path,
@@ -114,7 +104,7 @@ pub(crate) fn node_of(alloc: Global, bytes: &[u8]) -> Result<RootSpec, NotDone>
     let descriptor = descriptor_of(alloc, bytes)?;
     match (descriptor.owner, descriptor.group) {
         (Some(owner), Some(group)) => {
-            let dacl = own_dacl(alloc, &descriptor)?;
+            let dacl = NodeDacl::of_descriptor(alloc, &descriptor)?;
             Ok(RootSpec { owner, group, dacl })
         }
         _ => Err(NotDone::Parts),
@@ -128,7 +118,7 @@ fn dacl_of(alloc: Global, bytes: &[u8]) -> Result<NodeDacl, NotDone>
 {
     let descriptor = descriptor_of(alloc, bytes)?;
     match (descriptor.owner, descriptor.group) {
-        (None, None) => Ok(own_dacl(alloc, &descriptor)?),
+        (None, None) => Ok(NodeDacl::of_descriptor(alloc, &descriptor)?),
         _ => Err(NotDone::Parts),
     }
 }
@@ -141,22 +131,5 @@ fn descriptor_of(alloc: Global, bytes: &[u8]) -> Result<Descriptor, NotDone>
         Ok(descriptor) => Ok(descriptor),
         Err(WireError::Fault(fault)) => Err(NotDone::Descriptor(fault)),
         Err(WireError::Memory) => Err(NotDone::Memory),
-    }
-}
-
-/// The DACL that a descriptor gives a node.
-fn own_dacl(alloc: Global, descriptor: &Descriptor) -> Result<NodeDacl, AllocError>
-    ensures { IfOk result (λ given. given ≡ own_dacl descriptor.now.protected descriptor.now.dacl) }
-{
-    match &descriptor.dacl {
-        Dacl::Absent => Ok(NodeDacl::List {
-            protected: false,
-            entries: Entries::new(Vec::new(alloc)),
-        }),
-        Dacl::Null => Ok(NodeDacl::Null),
-        Dacl::List(list) => Ok(NodeDacl::List {
-            protected: descriptor.protected,
-            entries: Entries::new(Vec::from_slice(alloc, list.entries())?),
-        }),
     }
 }

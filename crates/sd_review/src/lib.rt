@@ -27,6 +27,5 @@ mod review;
 
 pub use compared::Compared;
 pub use comparing::{borrowed, looked_at};
-pub use equality::same_entries;
 pub use pending::Review;
 pub use review::Former;

@@ -1,5 +1,5 @@
 -- The arguments of a line, each parsed.
-use Rattle.std.specs.Prelude.{◌≡◌, ℕ, ◌<◌, ◌^◌, Bool, false, List, [], filter, Option, Some, None, Result, Ok, Err}
+use Rattle.std.specs.Prelude.{◌≡◌, ℕ, ◌<◌, ◌^◌, Bool, List, [], filter, Option, Some, None, Result, Ok, Err}
 use Rattle.std.specs.Str.Parse.{IsNumeral, digits_value}
 use Rattle.sd_sid.specs.Sid.{SidValue}
 use Rattle.sd_acl.specs.Canonical.{canonical_order, is_explicit}
@@ -11,9 +11,10 @@ use Rattle.sd_text.specs.Grammar.{Spells}
 use Rattle.sd_text.specs.Sid.{sid_text_in}
 use Rattle.sd_text.specs.declared.fault.TextFault.{TextFault}
 use Rattle.sd_check.specs.Token.{TokenValue}
+use Rattle.sd_tree.specs.Descriptors.{own_dacl}
 use Rattle.sd_tree.specs.Names.{Names}
 use Rattle.sd_tree.specs.declared.node.NodeDacl.{NodeDacl}
-use Rattle.sd_tree.specs.declared.node.NodeDacl.TheVariants.{Null, List as Entries}
+use Rattle.sd_tree.specs.declared.node.NodeDacl.TheVariants.{List as Entries}
 use Rattle.sd_tree.specs.declared.opening.RootSpec.{RootSpec}
 use Rattle.sd_script.specs.Fault.{Reading, SomeOr, Then}
 use Rattle.sd_script.specs.Paths.{IsPath}
@@ -56,13 +57,6 @@ abbrev pub descriptor : Notation → List ℕ → Reading DescriptorValue
 descriptor notation word (Ok d) = (left_out : Bool) × IsRead notation.aliases notation.without_sacl word d left_out
 descriptor notation word (Err told) = (fault : TextFault) × (place : ℕ)
     × IsUnreadAt notation.aliases notation.without_sacl word fault place × (told ≡ Sddl fault place)
-
--- the DACL that a descriptor gives a node: an absent one is an empty list that isn't protected, and of the words of a
--- list the one for its protection is kept
-abbrev pub own_dacl : Bool → Dacl → NodeDacl
-own_dacl protected dacls.Absent = Entries false []
-own_dacl protected dacls.Null = Null
-own_dacl protected (dacls.List entries) = Entries protected entries
 
 -- an owner, a group and a DACL, where both are there
 abbrev pub with_parts : Option SidValue → Option SidValue → NodeDacl → Result RootSpec LineFault

@@ -6,6 +6,7 @@ use Rattle.std.specs.Str.{IsUtf8}
 use Rattle.sd_sid.specs.Sid.{SidValue}
 use Rattle.sd_check.specs.Token.{TokenValue}
 use Rattle.sd_check.specs.declared.token.GroupState.{GroupState}
+use Rattle.sd_tree.specs.Additions.{addition_of, row_of}
 use Rattle.sd_tree.specs.Names.{Names}
 use Rattle.sd_tree.specs.declared.edit.Edit.{Edit}
 use Rattle.sd_tree.specs.declared.edit.Edit.TheVariants as edits
@@ -15,7 +16,6 @@ use Rattle.sd_tree.specs.declared.node.NodeKind.TheVariants.{Container, Object}
 use Rattle.sd_tree.specs.declared.opening.RootSpec.{RootSpec}
 use Rattle.sd_versions.specs.declared.request.Request.{Request}
 use Rattle.sd_versions.specs.declared.request.Request.TheVariants as requests
-use Rattle.sd_script.specs.Addition.{addition, row_of}
 use Rattle.sd_script.specs.Argument.{number, path, sid, mask, token, base, node, dacl, imported}
 use Rattle.sd_script.specs.Fault.{Reading, Just, Then, UnlessMemory}
 use Rattle.sd_script.specs.Lines.{words_of}
@@ -120,12 +120,12 @@ posed question reader at user asked words =
 
 -- a node of this kind, with the descriptor of a text
 abbrev pub adds : NodeKind → List ℕ → List ℕ → Arguments
-adds kind at sddl = Path at ▸ λ p. Node sddl ▸ λ n. edit (addition kind p (row_of kind n))
+adds kind at sddl = Path at ▸ λ p. Node sddl ▸ λ n. edit (addition_of kind p (row_of kind n))
 
 -- what a node that comes from elsewhere asks for
 abbrev pub imports : List ℕ → List ℕ → NodeKind → Arguments
 imports at sddl kind =
-    Path at ▸ λ p. Imported sddl ▸ λ i. Asks (Importing (addition kind p (row_of kind i.node)) p i.given)
+    Path at ▸ λ p. Imported sddl ▸ λ i. Asks (Importing (addition_of kind p (row_of kind i.node)) p i.given)
 
 -- a path, a mask and groups
 unfoldable pub asks_groups : List ℕ → List ℕ → List (List ℕ) → Arguments

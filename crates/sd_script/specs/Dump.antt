@@ -6,6 +6,7 @@ use Rattle.std.specs.List.{flat_map}
 use Rattle.std.specs.Fmt.{decimal}
 use Rattle.std.specs.FinMap.{entries}
 use Rattle.std.specs.Str.Lines.{lines}
+use Rattle.sd_tree.specs.Additions.{addition_of, root_of}
 use Rattle.sd_tree.specs.Names.{Names, is_root}
 use Rattle.sd_tree.specs.Plain.{PlainTree}
 use Rattle.sd_tree.specs.Descriptors.{own_descriptor_of_row}
@@ -13,10 +14,8 @@ use Rattle.sd_tree.specs.Journal.{replay}
 use Rattle.sd_tree.specs.declared.node.NodeKind.{NodeKind}
 use Rattle.sd_tree.specs.declared.node.NodeKind.TheVariants.{Container, Object}
 use Rattle.sd_tree.specs.declared.node.Row.{Row}
-use Rattle.sd_tree.specs.declared.opening.RootSpec.{RootSpec}
 use Rattle.sd_versions.specs.Machine.{Machine}
 use Rattle.sd_versions.specs.declared.request.Request.TheVariants as requests
-use Rattle.sd_script.specs.Addition.{addition}
 use Rattle.sd_answer.specs.Answer.{line, fault_line}
 use Rattle.sd_script.specs.Command.{line_asks}
 use Rattle.sd_script.specs.Lines.{is_silent}
@@ -28,13 +27,10 @@ use Rattle.sd_script.specs.declared.manner.Notation.{Notation}
 
 -- ---- what makes a node, and the line that asks for it
 
-abbrev pub root_of : Row → RootSpec
-root_of row = record { owner = row.owner; group = row.group; dacl = row.dacl }
-
 -- the root is made by an opening, for so many readers
 abbrev pub making : ℕ → Names → Row → Asked
 making readers [] row = Opening readers (root_of row)
-making readers (name ∷ names) row = Asking (requests.Edit (addition row.kind (name ∷ names) row))
+making readers (name ∷ names) row = Asking (requests.Edit (addition_of row.kind (name ∷ names) row))
 
 abbrev pub adding_word : NodeKind → List ℕ
 adding_word Container = codes "addc"

@@ -11,7 +11,6 @@ pub mod Ids
 pub mod Listing
 pub mod Deletion
 pub mod Dump
-pub mod Addition
 pub mod Paths
 pub mod Printed
 pub mod Importing

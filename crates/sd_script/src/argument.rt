@@ -1,8 +1,8 @@
 //! The arguments of a line, each parsed.
 ghost use Rattle.std.specs.Prelude.{◌≡◌, Err, IfErr, IfOk, Ok};
 ghost use Rattle.sd_acl.specs.Descriptor.{descriptor_of};
-ghost use Rattle.sd_script.specs.Argument.{base, dacl, descriptor, mask, node, number, own_dacl};
-ghost use Rattle.sd_script.specs.Argument.{path, sid, token};
+ghost use Rattle.sd_script.specs.Argument.{base, dacl, descriptor, mask, node, number, path};
+ghost use Rattle.sd_script.specs.Argument.{sid, token};
 ghost use Rattle.sd_script.specs.Fault.{UnlessMemory};
 ghost use Rattle.sd_answer.specs.Word.{texts};
 
@@ -10,13 +10,13 @@ use crate::fault::{LineFault, LineStop};
 use crate::manner::Notation;
 use crate::paths::path_in;
 use crate::view::Groups;
-use sd_acl::{Dacl, Descriptor};
+use sd_acl::Descriptor;
 use sd_answer::{TokenError, read_base, read_mask_in, read_sddl_argument, read_token};
 use sd_check::Token;
 use sd_sid::{Mask, Sid};
 use sd_text::{TextError, WithoutSacl, read_sid_text_in};
-use sd_tree::{Entries, NodeDacl, Path, RootSpec};
-use std::alloc::{AllocError, Global};
+use sd_tree::{NodeDacl, Path, RootSpec};
+use std::alloc::Global;
 
 /// A run of decimal digits with a value below 2^64.
 pub fn number_in(word: &str) -> Result<u64, LineFault>
@@ -114,7 +114,7 @@ impl Parser {
         let descriptor = self.descriptor(word)?;
         match (descriptor.owner, descriptor.group) {
             (Some(owner), Some(group)) => {
-                let dacl = own_dacl(self.alloc, &descriptor)?;
+                let dacl = NodeDacl::of_descriptor(self.alloc, &descriptor)?;
                 Ok(RootSpec { owner, group, dacl })
             }
             _ => Err(LineStop::Fault(LineFault::Parts)),
@@ -127,25 +127,8 @@ impl Parser {
     {
         let descriptor = self.descriptor(word)?;
         match (descriptor.owner, descriptor.group) {
-            (None, None) => Ok(own_dacl(self.alloc, &descriptor)?),
+            (None, None) => Ok(NodeDacl::of_descriptor(self.alloc, &descriptor)?),
             _ => Err(LineStop::Fault(LineFault::Parts)),
         }
-    }
-}
-
-/// The DACL that a descriptor gives a node.
-pub(crate) fn own_dacl(alloc: Global, descriptor: &Descriptor) -> Result<NodeDacl, AllocError>
-    ensures { IfOk result (λ given. given ≡ own_dacl descriptor.now.protected descriptor.now.dacl) }
-{
-    match &descriptor.dacl {
-        Dacl::Absent => Ok(NodeDacl::List {
-            protected: false,
-            entries: Entries::new(Vec::new(alloc)),
-        }),
-        Dacl::Null => Ok(NodeDacl::Null),
-        Dacl::List(list) => Ok(NodeDacl::List {
-            protected: descriptor.protected,
-            entries: Entries::new(Vec::from_slice(alloc, list.entries())?),
-        }),
     }
 }

@@ -1,6 +1,6 @@
 //! What a line asks for, and how a command's arguments are parsed.
 ghost use Rattle.std.specs.Prelude.{◌≡◌, ◌∷◌, [], Some, Ok};
-ghost use Rattle.sd_script.specs.Command.{Parses, asks, asks_delete, asks_groups, asks_taking, asks_who, deletes};
+ghost use Rattle.sd_script.specs.Command.{Parses, adds, asks, asks_delete, asks_groups, asks_taking, asks_who, deletes};
 ghost use Rattle.sd_script.specs.Command.{kind_named, posed, poses};
 ghost use Rattle.sd_script.specs.declared.asked.Asked.TheVariants.{Asking, Viewing};
 ghost use Rattle.sd_versions.specs.declared.request.Request.TheVariants as requests;
@@ -218,6 +218,15 @@ impl Parser {
         }
     }
 
+    /// A node of this kind with the descriptor of a text.
+    fn added(self, kind: NodeKind, path: &str, sddl: &str) -> Parsed
+        ensures { Parses self.notation (Some (adds kind path.now sddl.now)) result }
+    {
+        let path = self.path(path)?;
+        let node = self.node(sddl)?;
+        edit(Edit::addition(kind, path, node))
+    }
+
     /// On a kind, a path and a descriptor.
     fn on_three(self, name: ScriptCommand, kind: &str, path: &str, sddl: &str) -> Parsed
         ensures { Parses self.notation (asks_taking name (kind.now ∷ path.now ∷ sddl.now ∷ [])) result }
@@ -244,19 +253,13 @@ impl Parser {
         ensures { Parses self.notation
             (asks_taking name (reader.now ∷ path.now ∷ user.now ∷ mask.now ∷ texts words.now)) result }
     {
-        match name {
-            ScriptCommand::Check => self.posed(
-                TokenQuestion::Check,
-                reader,
-                path,
-                user,
-                mask,
-                words,
-            ),
-            ScriptCommand::Why => self.posed(TokenQuestion::Why, reader, path, user, mask, words),
-            ScriptCommand::Find => self.posed(TokenQuestion::Find, reader, path, user, mask, words),
-            _ => Ok(None),
-        }
+        let question = match name {
+            ScriptCommand::Check => TokenQuestion::Check,
+            ScriptCommand::Why => TokenQuestion::Why,
+            ScriptCommand::Find => TokenQuestion::Find,
+            _ => return Ok(None),
+        };
+        self.posed(question, reader, path, user, mask, words)
     }
 
     #[tactic(auto, unfolding(crate::specs::Command::posed))]
@@ -281,7 +284,7 @@ impl Parser {
     }
 }
 
-pub(crate) fn edit(edit: Edit) -> Parsed
+fn edit(edit: Edit) -> Parsed
     ensures { result ≡ Ok (Some (Asking (requests.Edit edit))) }
 {
     Ok(Some(Asked::Asking(Request::Edit(edit))))

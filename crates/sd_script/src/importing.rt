@@ -10,15 +10,13 @@ ghost use Rattle.sd_versions.specs.Machine.{Machine, accepted};
 ghost use Rattle.sd_tree.specs.Answers.{descriptor_at};
 ghost use Rattle.sd_tree.specs.Journal.{replay};
 
-use crate::addition::addition;
-use crate::argument::{Parser, own_dacl};
+use crate::argument::Parser;
 use crate::asked::{Asked, Parsed};
 use crate::fault::{LineFault, LineStop};
 use crate::reply::reply_line;
 use sd_acl::{Ace, Dacl, Descriptor, canonicalize};
 use sd_answer::Spelling;
-use sd_review::same_entries;
-use sd_tree::{Edit, Entries, NodeDacl, NodeKind, Path, RootSpec, Tree};
+use sd_tree::{Edit, Entries, NodeDacl, NodeKind, Path, RootSpec, Tree, same_entries};
 use sd_versions::Reply;
 use std::alloc::{AllocError, Global};
 
@@ -37,7 +35,7 @@ impl Parser {
         let path = self.path(path)?;
         let Import { node, given } = self.imported(sddl)?;
         let added = path.copy(self.alloc)?;
-        let edit = addition(kind, added, node);
+        let edit = Edit::addition(kind, added, node);
         Ok(Some(Asked::Importing { edit, path, given }))
     }
 
@@ -76,7 +74,7 @@ fn imported_dacl(alloc: Global, descriptor: &Descriptor) -> Result<NodeDacl, All
                 entries: Entries::new(canonicalize(alloc, &explicit)?),
             })
         }
-        _ => own_dacl(alloc, descriptor),
+        _ => NodeDacl::of_descriptor(alloc, descriptor),
     }
 }
 

@@ -17,7 +17,6 @@
 //! What parses a line and what prints a reply is public, for who carries out a script in another way.
 #![tactic(auto)]
 
-mod addition;
 mod argument;
 mod asked;
 mod carried;

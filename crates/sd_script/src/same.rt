@@ -1,14 +1,13 @@
 //! Whether what a line asks for is what makes a node, or a publish.
 ghost use Rattle.std.specs.Prelude.{◌≡◌, option_map};
 ghost use Rattle.std.specs.Bool.{Decides};
+ghost use Rattle.sd_tree.specs.Additions.{addition_of, root_of};
 ghost use Rattle.sd_tree.specs.Listing.{listed};
-ghost use Rattle.sd_script.specs.Addition.{addition};
-ghost use Rattle.sd_script.specs.Dump.{making, root_of, wanted};
+ghost use Rattle.sd_script.specs.Dump.{making, wanted};
 
 use crate::asked::Asked;
-use sd_review::same_entries;
 use sd_sid::Sid;
-use sd_tree::{Edit, NodeDacl, NodeKind, NodeRef, Path, RootSpec};
+use sd_tree::{Edit, NodeDacl, NodeKind, NodeRef, Path, RootSpec, same_entries};
 use sd_versions::Request;
 
 /// Whether this makes the node, whose tree is opened for so many readers; or is a publish, where there is none.
@@ -45,7 +44,7 @@ fn is_root_of(root: &RootSpec, node: &NodeRef<'_>) -> bool
 
 /// Whether the edit adds the node.
 fn is_addition(edit: &Edit, node: &NodeRef<'_>) -> bool
-    ensures { Decides result (edit.now ≡ addition (listed node.now).1.kind (listed node.now).0 (listed node.now).1) }
+    ensures { Decides result (edit.now ≡ addition_of (listed node.now).1.kind (listed node.now).0 (listed node.now).1) }
 {
     match (edit, node.kind) {
         (

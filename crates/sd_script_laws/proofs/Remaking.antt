@@ -4,24 +4,22 @@ use Rattle.std.specs.Prelude.{MatchBool, drop, codes, option_map}
 use Rattle.std.specs.Str.Lines.{lines}
 use Rattle.std.proofs.lemmas.List.{length-replicate}
 use Rattle.sd_sid.specs.Mapping.{MappingValue}
+use Rattle.sd_tree.specs.Additions.{addition_of, root_of}
 use Rattle.sd_tree.specs.Names.{Names}
 use Rattle.sd_tree.specs.Plain.{row_at}
 use Rattle.sd_tree.specs.Journal.{replay, refusal, root_refusal, IsLawful}
 use Rattle.sd_tree.specs.declared.edit.Edit.{Edit}
-use Rattle.sd_tree.specs.declared.node.NodeKind.{NodeKind}
-use Rattle.sd_tree.specs.declared.node.NodeKind.TheVariants.{Container, Object}
 use Rattle.sd_tree.specs.declared.node.Row.{Row}
 use Rattle.sd_tree.specs.declared.opening.Opening.{Opening}
 use Rattle.sd_tree.proofs.Closed.{closed_replay}
-use Rattle.sd_tree_renewal.specs.Renewal.{addition as added, addition_of, spec_of, IsShortest}
+use Rattle.sd_tree_renewal.specs.Renewal.{addition as added, IsShortest}
 use Rattle.sd_tree_renewal.proofs.Renewing.{a_container, first_entry, shortest_of_lawful}
 use Rattle.sd_versions.specs.Machine.{Machine}
 use Rattle.sd_versions.specs.Starts.{IsReaderCount}
 use Rattle.sd_versions.specs.declared.request.Request.TheVariants as requests
 use Rattle.sd_versions.specs.declared.request.Reply.TheVariants as replies
 use Rattle.sd_answer.specs.Answer.{line}
-use Rattle.sd_script.specs.Addition.{addition}
-use Rattle.sd_script.specs.Dump.{makings, root_of, dump_text, IsAskedBy, AreAskedBy, IsReadBack}
+use Rattle.sd_script.specs.Dump.{makings, dump_text, IsAskedBy, AreAskedBy, IsReadBack}
 use Rattle.sd_script.specs.Output.{is_open, manner_of, opening_in, IsAnswered, IsDone, IsTold, closing_of}
 use Rattle.sd_script.specs.Reply.{counted_line}
 use Rattle.sd_script.specs.declared.asked.Asked.{Asked}
@@ -79,10 +77,6 @@ next_fits : (o : Opening) (front : List Edit) (e : Edit) (back : List Edit) → 
 next_fits o front e back lawful =
     subst (λ edits. refusal o edits e ≡ None) (before_it front e back) (lawful (length front) e (at_its_place front e back))
 
-same_addition : (kind : NodeKind) (path : Names) (row : Row) → addition kind path row ≡ addition_of kind path row
-same_addition Container path row = refl
-same_addition Object path row = refl
-
 module _ (notation : Notation) (o : Opening) (n : ℕ) where
   -- an edit joins those that wait
   adds : (front : List Edit) (e : Edit) → refusal o front e ≡ None → IsDone (Opened notation (waiting o n front)) (Asking (requests.Edit e)) (line (codes "ok")) (Opened notation (waiting o n (front ++ e ∷ [])))
@@ -101,15 +95,13 @@ module _ (notation : Notation) (o : Opening) (n : ℕ) where
   nodes_reach front (([], row) ∷ nodes) (text ∷ texts) lawful are =
       absurd (let no = line_opens notation true text (Opens n (root_of row)) are.0.1 in cc (no))
   nodes_reach front ((name ∷ names, row) ∷ nodes) (text ∷ texts) lawful are =
-      let e : Edit = addition row.kind (name ∷ names) row in
-      let same = same_addition row.kind (name ∷ names) row in
-      let all = subst (λ x. IsLawful o (front ++ x ∷ map added nodes)) (sym same) lawful in
-      let more = subst (λ edits. IsLawful o edits) (sym (append_assoc front (e ∷ []) (map added nodes))) all in
+      let e : Edit = addition_of row.kind (name ∷ names) row in
+      let more = subst (λ edits. IsLawful o edits) (sym (append_assoc front (e ∷ []) (map added nodes))) lawful in
       let rest = nodes_reach (front ++ e ∷ []) nodes texts more are.1 in
       let whole : (front ++ e ∷ []) ++ map added nodes ≡ front ++ map added ((name ∷ names, row) ∷ nodes) =
-      append_assoc front (e ∷ []) (map added nodes) ∙ ap (λ x. front ++ x ∷ map added nodes) same in
+      append_assoc front (e ∷ []) (map added nodes) in
       goes_on (Opened notation (waiting o n front)) (Opened notation (waiting o n (front ++ e ∷ []))) (Opened notation (shown o n (front ++ map added ((name ∷ names, row) ∷ nodes)))) text _ texts
-      (Asking (requests.Edit e)) are.0 (adds front e (next_fits o front e (map added nodes) all))
+      (Asking (requests.Edit e)) are.0 (adds front e (next_fits o front e (map added nodes) lawful))
       (subst (λ edits. Reaches (Opened notation (waiting o n (front ++ e ∷ []))) texts (Opened notation (shown o n edits))) whole rest)
 
 -- ---- the whole tree
@@ -149,11 +141,11 @@ remade notation m text sound back =
     let first = first_entry t row held.1 in
     let o = opening_in (same_manner notation m) (root_of row) in
     let edits = map added first.0 in
-    let shortest : IsShortest t (spec_of row) edits = record {
-      root_is = ap (λ (x : Option Row). option_map spec_of x) (sym held.1);
+    let shortest : IsShortest t (root_of row) edits = record {
+      root_is = ap (λ (x : Option Row). option_map root_of x) (sym held.1);
       edits_are = ap (λ (es : List (Names × Row)). map added (drop 1 es)) first.1;
     } in
-    let makes = shortest_of_lawful m.opening m.published sound.accepted sound.lawful (spec_of row) edits shortest in
+    let makes = shortest_of_lawful m.opening m.published sound.accepted sound.lawful (root_of row) edits shortest in
     let are = subst (λ (es : List (Names × Row)). AreAskedBy notation false (lines text) (makings n es ++ Asking requests.Publish ∷ [])) (sym first.1) back in
     let reach = lines_reach (same_manner notation m) n row first.0 (lines text) sound.readers makes.accepted makes.lawful are in (
       shown o n edits,

@@ -1,13 +1,28 @@
--- Edits that would add nodes. No public contract says so.
+-- Edits that add nodes, and the rows that they add.
 use Rattle.std.specs.Prelude.{Bool, true, false, []}
 use Rattle.sd_path.specs.Names.{Names}
 use Rattle.sd_sid.specs.Sid.{SidValue}
 use Rattle.sd_tree.specs.declared.node.Row.{Row}
+use Rattle.sd_tree.specs.declared.node.NodeKind.{NodeKind}
 use Rattle.sd_tree.specs.declared.node.NodeKind.TheVariants.{Container, Object}
 use Rattle.sd_tree.specs.declared.node.NodeDacl.TheVariants.{Null}
 use Rattle.sd_tree.specs.declared.edit.Edit.{Edit}
 use Rattle.sd_tree.specs.declared.edit.Edit.TheVariants.{AddContainer, AddObject, SetOwner, SetGroup, SetDacl, Remove}
 use Rattle.sd_tree.specs.declared.edit.Edit.TheVariants.{ProtectKeeping, Move}
+use Rattle.sd_tree.specs.declared.opening.RootSpec.{RootSpec}
+
+-- the edit that adds a node, which isn't the root
+abbrev pub addition_of : NodeKind → Names → Row → Edit
+addition_of Container path row = AddContainer path row.owner row.group row.dacl
+addition_of Object path row = AddObject path row.owner row.group row.dacl
+
+-- a node of this kind with what a root has
+abbrev pub row_of : NodeKind → RootSpec → Row
+row_of kind node = record { kind = kind; owner = node.owner; group = node.group; dacl = node.dacl }
+
+-- a root with what a node has
+abbrev pub root_of : Row → RootSpec
+root_of row = record { owner = row.owner; group = row.group; dacl = row.dacl }
 
 -- an edit that adds a node, as contracts see it: the node's path and its row
 pub record AdditionValue : Type 0 where

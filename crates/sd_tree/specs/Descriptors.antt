@@ -1,9 +1,9 @@
 -- The descriptor of a node ([MS-DTYP] 2.4.6).
-use Rattle.std.specs.Prelude.{Bool, true, false, Option, Some, None, List}
+use Rattle.std.specs.Prelude.{Bool, true, false, Option, Some, None, List, []}
 use Rattle.sd_acl.specs.declared.ace.Ace.{Ace}
 use Rattle.sd_acl.specs.Descriptor.{DescriptorValue}
 use Rattle.sd_acl.specs.Dacl.{Dacl}
-use Rattle.sd_acl.specs.declared.descriptor.DaclOf.TheVariants.{Null, List as Entries}
+use Rattle.sd_acl.specs.declared.descriptor.DaclOf.TheVariants.{Absent, Null, List as Entries}
 use Rattle.sd_tree.specs.declared.node.NodeDacl.{NodeDacl}
 use Rattle.sd_tree.specs.declared.node.NodeDacl.TheVariants as own
 use Rattle.sd_tree.specs.declared.node.Row.{Row}
@@ -36,6 +36,12 @@ descriptor_of_row row (Some entries) = record {
 abbrev pub own_list : NodeDacl → Dacl
 own_list own.Null = Null
 own_list (own.List protected entries) = Entries entries
+
+-- the DACL that a descriptor gives a node: an absent one is an empty list that isn't protected
+abbrev pub own_dacl : Bool → Dacl → NodeDacl
+own_dacl protected Absent = own.List false []
+own_dacl protected Null = own.Null
+own_dacl protected (Entries entries) = own.List protected entries
 
 -- what was given to a node: its descriptor without what it inherits
 abbrev pub own_descriptor_of_row : Row → DescriptorValue

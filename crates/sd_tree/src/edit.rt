@@ -1,9 +1,11 @@
 //! Edits of a tree.
 
 ghost use Rattle.std.specs.Prelude.{◌≡◌, IfOk};
+ghost use Rattle.sd_tree.specs.Additions.{addition_of, row_of};
 ghost use Rattle.sd_tree.specs.View.{proposed};
 
-use crate::node::NodeDacl;
+use crate::node::{NodeDacl, NodeKind};
+use crate::opening::RootSpec;
 use crate::shared::Shared;
 use sd_path::Path;
 use sd_sid::Sid;
@@ -58,6 +60,27 @@ pub enum Edit {
 }
 
 impl Edit {
+    /// The one that adds a node of this kind, which has this of its own ([MS-DTYP] 2.4.6).
+    pub fn addition(kind: NodeKind, path: Path, node: RootSpec) -> Edit
+        ensures { result ≡ addition_of kind path (row_of kind node) }
+    {
+        let RootSpec { owner, group, dacl } = node;
+        match kind {
+            NodeKind::Container => Edit::AddContainer {
+                path,
+                owner,
+                group,
+                dacl,
+            },
+            NodeKind::Object => Edit::AddObject {
+                path,
+                owner,
+                group,
+                dacl,
+            },
+        }
+    }
+
     /// An equal edit.
     pub fn copy(&self, alloc: Global) -> Result<Edit, AllocError>
         ensures { IfOk result (λ edit. edit ≡ self.now) }

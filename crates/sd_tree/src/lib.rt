@@ -39,7 +39,7 @@ mod tree;
 mod tree_view;
 
 pub use edit::Edit;
-pub use entries::Entries;
+pub use entries::{Entries, same_entries};
 pub use journal::Journal;
 pub use limits::{Limits, LimitsError};
 pub use listing::NodeRef;

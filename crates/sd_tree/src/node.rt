@@ -1,6 +1,7 @@
 //! What stands at a path.
 
 ghost use Rattle.std.specs.Prelude.{◌≡◌, ◌++◌, ◌≤◌, None, Some, MatchOption, IfOk, IfErr};
+ghost use Rattle.sd_tree.specs.Descriptors.{own_dacl};
 ghost use Rattle.sd_tree.specs.Plans.{changed_row, is_of_trustee};
 ghost use Rattle.sd_tree.specs.Refusals.{dacl_size};
 ghost use Rattle.sd_tree.specs.Sizes.{IsSizeError};
@@ -10,7 +11,7 @@ use crate::addition::Addition;
 use crate::entries::Entries;
 use crate::refusal::{EditRefusal, TreeError};
 use crate::shared::Shared;
-use sd_acl::{ACL_HEADER_BYTES, Ace, MAX_ACL_BYTES};
+use sd_acl::{ACL_HEADER_BYTES, Ace, Dacl, Descriptor, MAX_ACL_BYTES};
 use sd_blocks::TryCopy;
 use sd_path::{Path, PathRef};
 use sd_sid::Sid;
@@ -36,6 +37,23 @@ pub enum NodeDacl {
 }
 
 impl NodeDacl {
+    /// The one that a descriptor gives a node ([MS-DTYP] 2.4.6): an absent DACL is an empty list that isn't protected.
+    pub fn of_descriptor(alloc: Global, descriptor: &Descriptor) -> Result<NodeDacl, AllocError>
+        ensures { IfOk result (λ given. given ≡ own_dacl descriptor.now.protected descriptor.now.dacl) }
+    {
+        match &descriptor.dacl {
+            Dacl::Absent => Ok(NodeDacl::List {
+                protected: false,
+                entries: Entries::new(Vec::new(alloc)),
+            }),
+            Dacl::Null => Ok(NodeDacl::Null),
+            Dacl::List(list) => Ok(NodeDacl::List {
+                protected: descriptor.protected,
+                entries: Entries::new(Vec::from_slice(alloc, list.entries())?),
+            }),
+        }
+    }
+
     /// An equal one.
     pub fn copy(&self, alloc: Global) -> Result<NodeDacl, AllocError>
         ensures { IfOk result (λ dacl. dacl ≡ self.now) }

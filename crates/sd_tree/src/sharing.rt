@@ -5,6 +5,7 @@ ghost use Rattle.std.specs.List.{list_any};
 ghost use Rattle.sd_tree.specs.Sharing.{names_creator, trustees_matter, AreAlike};
 ghost use Rattle.sd_tree.specs.Node.{inherits};
 
+use crate::entries::same_entries;
 use crate::inherit::{is_creator_group, is_creator_owner};
 use crate::node::{Node, NodeDacl, RowRef};
 use sd_acl::Ace;
@@ -53,32 +54,7 @@ pub(crate) fn have_one_dacl(one: &Node, other: &Node) -> bool
 {
     match (one.parts(), other.parts()) {
         (None, None) => true,
-        (Some(one), Some(other)) => { are_one_list(one.0, other.0) && are_one_list(one.1, other.1) }
+        (Some(one), Some(other)) => { same_entries(one.0, other.0) && same_entries(one.1, other.1) }
         _ => false,
     }
-}
-
-/// Whether both lists have the same entries in one order; `true` only where they have.
-fn are_one_list(one: &[Ace], other: &[Ace]) -> bool
-    ensures { result ≡ true → one.now ≡ other.now }
-{
-    if one.len() != other.len() {
-        return false;
-    }
-    for i in 0..one.len() {
-        if !are_one_entry(&one[i], &other[i]) {
-            return false;
-        }
-    }
-    true
-}
-
-/// Whether both entries are one; `true` only where they are.
-fn are_one_entry(one: &Ace, other: &Ace) -> bool
-    ensures { result ≡ true → one.now ≡ other.now }
-{
-    one.kind == other.kind
-        && one.flags == other.flags
-        && one.mask == other.mask
-        && one.sid.is(&other.sid)
 }

@@ -33,7 +33,8 @@ use Rattle.sd_tree.proofs.Lists.{by_last}
 use Rattle.sd_tree.proofs.Moved.{entry_there}
 use Rattle.sd_tree.proofs.Rows.{same_or_other, one_path}
 use Rattle.sd_tree_laws.proofs.OwnEntries.{AllSound, sound_replay}
-use Rattle.sd_tree_renewal.specs.Renewal.{addition_of, addition, spec_of, IsShortest, Makes}
+use Rattle.sd_tree.specs.Additions.{addition_of, root_of}
+use Rattle.sd_tree_renewal.specs.Renewal.{addition, IsShortest, Makes}
 use Rattle.sd_tree_renewal.proofs.Fronts.{Entry, below_trans, below_next, find_below, find_front, found_below, next_free, before_next, few_entries}
 use Rattle.sd_tree_renewal.proofs.Fewest.{journal_adds}
 use Rattle.sd_tree_renewal.proofs.Bounded.{AllShallow, IsFew, shallow_replay, few_replay, small_replay}
@@ -201,16 +202,16 @@ first_entry t root there = by_first (finite.entries t) (entries_sorted t) (sym (
         let none = find_below [] es (below_trans [] (name ∷ path) es refl (below_next (name ∷ path, row) es order)) in
         absurd cc
 
-opened_root : (limits : LimitsValue) (g : MappingValue) (row : Row) → row.kind ≡ Container → opened (opening_within g (spec_of row) limits) ≡ front (([], row) ∷ [])
+opened_root : (limits : LimitsValue) (g : MappingValue) (row : Row) → row.kind ≡ Container → opened (opening_within g (root_of row) limits) ≡ front (([], row) ∷ [])
 opened_root limits g row is = λ i. finite.insert finite.empty [] (record { kind = sym is i; owner = row.owner; group = row.group; dacl = row.dacl })
 
 made_by : (limits : LimitsValue) (g : MappingValue) (t : PlainTree) → IsWithinLimits limits g t → (root : Row) → root.kind ≡ Container → (rest : List Entry) → ([], root) ∷ rest ≡ finite.entries t
     → (xs ys : List Entry) → xs ++ ys ≡ rest
-    → IsLawful (opening_within g (spec_of root) limits) (map addition xs) × (replay (opening_within g (spec_of root) limits) (map addition xs) ≡ front (([], root) ∷ xs))
+    → IsLawful (opening_within g (root_of root) limits) (map addition xs) × (replay (opening_within g (root_of root) limits) (map addition xs) ≡ front (([], root) ∷ xs))
 made_by limits g t ok root is rest begins = by_last P (λ ys parts. (lawful_none o, replay-none o ∙ opened_root limits g root is)) more
   where
     o : Opening
-    o = opening_within g (spec_of root) limits
+    o = opening_within g (root_of root) limits
 
     P : List Entry → Type 0
     P xs = (ys : List Entry) → xs ++ ys ≡ rest → IsLawful o (map addition xs) × (replay o (map addition xs) ≡ front (([], root) ∷ xs))
@@ -237,11 +238,11 @@ front_is_tree : (t : PlainTree) → front (finite.entries t) ≡ t
 front_is_tree t = same_map names_cmp_total names_cmp_antisymmetric (front (finite.entries t)) t (λ q. get-from_entries names_cmp_total (finite.entries t) q ∙ sym (get-entries t q))
 
 root_accepted : (limits : LimitsValue) (g : MappingValue) (t : PlainTree) → IsWithinLimits limits g t → (root : Row) → root.kind ≡ Container → row_at t [] ≡ Some root → (rest : List Entry) → ([], root) ∷ rest ≡ finite.entries t
-    → root_refusal (opening_within g (spec_of root) limits) ≡ None
+    → root_refusal (opening_within g (root_of root) limits) ≡ None
 root_accepted limits g t ok root is there rest begins =
     let sound = ok.sound [] root there in
     let large = ap (has_large_dacl g) (opened_root limits g root is) ∙ small_front g t (([], root) ∷ []) rest ok.small begins in
-    all_pass (list_tests root.dacl ++ (has_large_dacl g (opened (opening_within g (spec_of root) limits)), AclTooLarge) ∷ []) (sound.explicit, (sound.ordered, (large, tt)))
+    all_pass (list_tests root.dacl ++ (has_large_dacl g (opened (opening_within g (root_of root) limits)), AclTooLarge) ∷ []) (sound.explicit, (sound.ordered, (large, tt)))
 
 shortest_makes : (limits : LimitsValue) (g : MappingValue) (t : PlainTree) → IsWithinLimits limits g t → (spec : RootSpec) (edits : List Edit) → IsShortest t spec edits → Makes (opening_within g spec limits) edits t
 shortest_makes limits g t ok spec edits is =
@@ -249,10 +250,10 @@ shortest_makes limits g t ok spec edits is =
     let root = held.0 in
     let first = first_entry t root held.1 in
     let rest = first.0 in
-    let same_spec : spec ≡ spec_of root = inside _ _ (is.root_is ∙ ap (option_map spec_of) held.1) in
+    let same_spec : spec ≡ root_of root = inside _ _ (is.root_is ∙ ap (option_map root_of) held.1) in
     let same_edits : edits ≡ map addition rest = is.edits_are ∙ ap (λ es. map addition (drop 1 es)) (sym first.1) in
     let all = made_by limits g t ok root held.2 rest first.1 rest [] (append-nil rest) in
-    let made : Makes (opening_within g (spec_of root) limits) (map addition rest) t = record {
+    let made : Makes (opening_within g (root_of root) limits) (map addition rest) t = record {
       accepted = root_accepted limits g t ok root held.2 held.1 rest first.1;
       lawful = all.0;
       made = all.1 ∙ ap front first.1 ∙ front_is_tree t;

@@ -12,7 +12,8 @@ use Rattle.sd_tree.specs.declared.node.Row.{Row}
 use Rattle.sd_tree.specs.declared.opening.Opening.{Opening}
 use Rattle.sd_tree.specs.declared.opening.RootSpec.{RootSpec}
 use Rattle.sd_tree.proofs.Closed.{closed_replay}
-use Rattle.sd_tree_renewal.specs.Renewal.{addition, spec_of}
+use Rattle.sd_tree_renewal.specs.Renewal.{addition}
+use Rattle.sd_tree.specs.Additions.{root_of}
 use Rattle.sd_tree_renewal.proofs.Fronts.{Entry}
 use Rattle.sd_tree_renewal.proofs.Renewing.{a_container, first_entry}
 
@@ -27,11 +28,11 @@ root_first o journal lawful found is =
     (held.0, is ∙ at_first (replay o journal) held.0 held.1, held.1)
 
 pub root_spec : (o : Opening) (journal : List Edit) → IsLawful o journal → (entry : Entry) → Some entry ≡ slice_get (finite.entries (replay o journal)) 0
-    → Some (spec_of entry.1) ≡ option_map spec_of (row_at (replay o journal) [])
+    → Some (root_of entry.1) ≡ option_map root_of (row_at (replay o journal) [])
 root_spec o journal lawful entry is =
     let first = root_first o journal lawful (Some entry) is in
     let same : entry ≡ ([], first.0) = inside _ _ first.1 in
-    ap (λ (e : Entry). Some (spec_of e.1)) same ∙ sym (ap (option_map spec_of) first.2)
+    ap (λ (e : Entry). Some (root_of e.1)) same ∙ sym (ap (option_map root_of) first.2)
   where
     inside : (a b : Entry) → Some a ≡ Some b → a ≡ b
     inside a b e = cc

@@ -3,32 +3,23 @@ use Rattle.std.specs.Prelude.{◌≡◌, ◌≢◌, ◌≤◌, ℕ, List, [], le
 use Rattle.std.specs.FinMap.{entries}
 use Rattle.sd_path.specs.Names.{Names}
 use Rattle.sd_check.specs.Token.{TokenValue}
+use Rattle.sd_tree.specs.Additions.{addition_of, root_of}
 use Rattle.sd_tree.specs.Plain.{PlainTree, row_at}
 use Rattle.sd_tree.specs.Answers.{kind_at, descriptor_at, answer}
 use Rattle.sd_tree.specs.Journal.{replay, refusal, root_refusal, IsLawful}
 use Rattle.sd_tree.specs.declared.node.Row.{Row}
-use Rattle.sd_tree.specs.declared.node.NodeKind.{NodeKind}
-use Rattle.sd_tree.specs.declared.node.NodeKind.TheVariants.{Container, Object}
 use Rattle.sd_tree.specs.declared.opening.Opening.{Opening}
 use Rattle.sd_tree.specs.declared.opening.RootSpec.{RootSpec}
 use Rattle.sd_tree.specs.declared.edit.Edit.{Edit}
-use Rattle.sd_tree.specs.declared.edit.Edit.TheVariants.{AddContainer, AddObject}
 use Rattle.sd_tree.specs.declared.refusal.EditRefusal.TheVariants.{JournalFull}
 
 -- the edit that adds a node
-abbrev pub addition_of : NodeKind → Names → Row → Edit
-addition_of Container path row = AddContainer path row.owner row.group row.dacl
-addition_of Object path row = AddObject path row.owner row.group row.dacl
-
 abbrev pub addition : Names × Row → Edit
 addition entry = addition_of entry.1.kind entry.0 entry.1
 
-abbrev pub spec_of : Row → RootSpec
-spec_of row = record { owner = row.owner; group = row.group; dacl = row.dacl }
-
 -- the root, and the edits that add all other nodes: the first entry is the root's, and a path precedes those below it
 pub record IsShortest (t : PlainTree) (root : RootSpec) (edits : List Edit) : Type 0 where
-  pub root_is : Some root ≡ option_map spec_of (row_at t [])
+  pub root_is : Some root ≡ option_map root_of (row_at t [])
   pub edits_are : edits ≡ map addition (drop 1 (entries t))
 
 -- an opening that is accepted, and edits that are accepted in turn, which make this tree

@@ -2,12 +2,13 @@
 
 ghost use Rattle.std.specs.Prelude.{◌≡◌, ◌<◌, length, map, drop, [], Some, IfOk, option_map, slice_get};
 ghost use Rattle.std.specs.FinMap.{entries};
+ghost use Rattle.sd_tree.specs.Additions.{root_of};
 ghost use Rattle.sd_tree.specs.Journal.{opening_within, replay};
 ghost use Rattle.sd_tree.specs.Listing.{listed};
 ghost use Rattle.sd_tree.specs.Plain.{row_at};
-ghost use Rattle.sd_tree_renewal.specs.Renewal.{addition, spec_of, IsShortest, Makes, NoJournalIsShorter};
+ghost use Rattle.sd_tree_renewal.specs.Renewal.{addition, IsShortest, Makes, NoJournalIsShorter};
 
-use sd_tree::{Edit, NodeKind, NodeRef, RootSpec, Tree};
+use sd_tree::{Edit, NodeRef, RootSpec, Tree};
 use std::alloc::{AllocError, Global};
 
 /// A root, and edits from the tree of that root alone.
@@ -36,7 +37,7 @@ pub fn shortest(tree: &Tree, alloc: Global) -> Result<Beginning, AllocError>
 /// The root as it is.
 fn root_spec(tree: &Tree, alloc: Global) -> Result<RootSpec, AllocError>
     ensures { IfOk result (λ root. Some root
-        ≡ option_map spec_of (row_at (replay tree.now.opening tree.now.journal) [])) }
+        ≡ option_map root_of (row_at (replay tree.now.opening tree.now.journal) [])) }
 {
     let _ = tree.len();
     match tree.node(0) {
@@ -47,7 +48,7 @@ fn root_spec(tree: &Tree, alloc: Global) -> Result<RootSpec, AllocError>
 
 /// The root that the node would be.
 fn spec(alloc: Global, node: &NodeRef<'_>) -> Result<RootSpec, AllocError>
-    ensures { IfOk result (λ root. root ≡ spec_of (listed node.now).1) }
+    ensures { IfOk result (λ root. root ≡ root_of (listed node.now).1) }
 {
     Ok(RootSpec {
         owner: node.owner,
@@ -85,22 +86,7 @@ fn addition(alloc: Global, node: &NodeRef<'_>) -> Result<Edit, AllocError>
     ensures { IfOk result (λ edit. edit ≡ addition (listed node.now)) }
 {
     let path = node.path.copy(alloc)?;
-    let (owner, group) = (node.owner, node.group);
-    let dacl = node.dacl.copy(alloc)?;
-    match node.kind {
-        NodeKind::Container => Ok(Edit::AddContainer {
-            path,
-            owner,
-            group,
-            dacl,
-        }),
-        NodeKind::Object => Ok(Edit::AddObject {
-            path,
-            owner,
-            group,
-            dacl,
-        }),
-    }
+    Ok(Edit::addition(node.kind, path, spec(alloc, node)?))
 }
 
 /// A law: no opening and journal that make a tree have fewer edits than `shortest` returns, since an edit adds at most

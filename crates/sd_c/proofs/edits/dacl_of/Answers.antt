@@ -1,11 +1,11 @@
 use Rattle.std.proofs.Common.{rules, inr, refl}
 use Rattle.std.proofs.lemmas.Result.{err_from_is_err_and}
 use Rattle.sd_acl.specs.Descriptor.{descriptor_of}
-use Rattle.sd_c.specs.Edits.{own_dacl}
+use Rattle.sd_tree.specs.Descriptors.{own_dacl}
 use Rattle.sd_c.proofs.edits.dacl_of.Goals as goal
 
-pub returns-in_err-own_dacl-in-None-None-clause-err : goal.returns-in_err-own_dacl-in-None-None-clause-err
-returns-in_err-own_dacl-in-None-None-clause-err c =
+pub returns-in_err-of_descriptor-in-None-None-clause-err : goal.returns-in_err-of_descriptor-in-None-None-clause-err
+returns-in_err-of_descriptor-in-None-None-clause-err c =
     let d = descriptor_of c.in_ok-descriptor.descriptor in
-    let p = err_from_is_err_and c.from_residual-in_err-own_dacl-in-None-None.result c.from_residual-in_err-own_dacl-in-None-None.ensures.1 in
+    let p = err_from_is_err_and c.from_residual-in_err-of_descriptor-in-None-None.result c.from_residual-in_err-of_descriptor-in-None-None.ensures.1 in
     rw (p.1, p.2) (inr (own_dacl d.protected d.dacl, (d, search rules, search rules, search rules, refl)))

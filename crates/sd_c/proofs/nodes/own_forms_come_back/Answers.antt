@@ -3,7 +3,7 @@ use Rattle.sd_tree.specs.Descriptors.{is_protected, own_descriptor_of_row, own_l
 use Rattle.sd_tree.specs.declared.node.NodeDacl.{NodeDacl}
 use Rattle.sd_tree.specs.declared.node.NodeDacl.TheVariants.{Null, List as Entries}
 use Rattle.sd_wire.proofs.WireIsHeld.{descriptors_come_back}
-use Rattle.sd_c.specs.Edits.{own_dacl}
+use Rattle.sd_tree.specs.Descriptors.{own_dacl}
 use Rattle.sd_c.proofs.nodes.own_forms_come_back.Goals as goal
 
 gives_again : (dacl : NodeDacl) → dacl ≡ own_dacl (is_protected dacl) (own_list dacl)
