@@ -1,6 +1,5 @@
 pub mod Words
 pub mod OneToken
-pub mod Joins
 pub mod NoLines
 mod RightNames
 pub mod Cuts

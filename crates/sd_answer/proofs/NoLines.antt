@@ -12,6 +12,7 @@ use Rattle.sd_sid.specs.Mask.{holds}
 use Rattle.sd_analysis.specs.Compare.{HasABit}
 use Rattle.sd_analysis.specs.Sufficient.{Parts}
 use Rattle.sd_analysis.specs.declared.compare_report.Change.{Change}
+use Rattle.sd_answer.specs.Answer.{spelled}
 use Rattle.sd_answer.specs.Compare.{change_line, changes_text, gains_and_losses}
 use Rattle.sd_answer.specs.Lines.{LineValue, bits_line, is_lowest, lines_at, lines_below}
 use Rattle.sd_answer.specs.declared.answer.Spelling.{Spelling}
@@ -38,10 +39,6 @@ pub parts_empty : {A : Type 0} (xs ys : List A) → xs ++ ys ≡ [] → (xs ≡ 
 parts_empty [] ys none = (refl, none)
 parts_empty (x ∷ xs) ys none = absurd (cc (none))
 
-pub ended : (xs : List ℕ) (b : ℕ) → xs ++ b ∷ [] ≡ [] → ⊥
-ended [] b none = cc (none)
-ended (x ∷ xs) b none = cc (none)
-
 none_at : (spelling : Spelling) (head : List ℕ) (lines : List LineValue) (n c : ℕ) → c < n → lines_below spelling head lines n ≡ [] → lines_at spelling head lines c ≡ []
 unfolding lines_below
 none_at spelling head lines zero c low none = absurd (omega (arith, low))
@@ -61,7 +58,8 @@ no_changes spelling head old new (c ∷ changes) bits none =
     let lines = map (change_line old new) changes in
     let there = none_at spelling head (one ∷ lines) 32 lowest.0 lowest.1.0 none in
     let first = parts_empty (if is_lowest one.0 lowest.0 then bits_line spelling head one else []) (lines_at spelling head lines lowest.0) there in
-    absurd (ended _ _ (sym (ap (λ (b : Bool). if b then bits_line spelling head one else []) lowest.1.1) ∙ first.0))
+    let none : bits_line spelling head one ≡ [] = sym (ap (λ (b : Bool). if b then bits_line spelling head one else []) lowest.1.1) ∙ first.0 in
+    absurd (cc ((parts_empty (head ++ spelled spelling one.0 ++ one.1) (10 ∷ []) none).1))
 
 -- where no line is printed of gains and losses, there are none
 pub no_gain_no_loss : (spelling : Spelling) (head : List ℕ) (old new : Parts) (gained lost : List Change)

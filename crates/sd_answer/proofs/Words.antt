@@ -7,14 +7,12 @@ use Rattle.std.specs.Str.{bytes_eq}
 use lib.Pointwise.{bytes_decides}
 use Rattle.std.proofs.lemmas.List.{take_more}
 use Rattle.std.proofs.lemmas.Bool.{false≢true}
-use Rattle.sd_sid.specs.Sid.{SidValue}
 use Rattle.sd_text.specs.Grammar.{Grammar, Spells}
 use Rattle.sd_text.specs.Fault.{StandsIn}
 use Rattle.sd_text.proofs.Engine.{no_fault}
 use Rattle.sd_text.specs.declared.fault.TextError.{TextError}
 use Rattle.sd_text.specs.declared.fault.TextError.TheVariants.{Fault, Memory}
-use Rattle.sd_text.specs.declared.alias.Aliases.{Aliases}
-use Rattle.sd_answer.specs.Word.{AreEach, Ended, IsFirstNone, IsSidBefore, Or, texts}
+use Rattle.sd_answer.specs.Word.{AreEach, IsFirstNone, Or, texts}
 
 -- a text whose fault is told spells nothing
 pub not_spelled : {A : Type 0} (grammar : Grammar A) (text : List ℕ) (e : TextError)
@@ -26,14 +24,10 @@ not_spelled grammar text Memory stands told a spelled = told refl
 pub apart : (xs ys : List ℕ) → bytes_eq xs ys ≡ false → xs ≡ ys → ⊥
 apart xs ys h e = false≢true (sym h ∙ (bytes_decides xs ys).1 e)
 
--- what neither reading gives, and a text without a SID before the ending
+-- what neither reading gives
 pub neither : {A : Type 0} (First Second : A → Type 0) → ((one : A) → First one → ⊥) → ((one : A) → Second one → ⊥) → (one : A) → Or First Second one → ⊥
 neither First Second first second one (inl is) = first one is
 neither First Second first second one (inr is) = second one is.1
-
-pub not_ended : {A : Type 0} (known : Aliases) (text ending : List ℕ) (made : SidValue → A) → ((sid : SidValue) → IsSidBefore known text ending sid → ⊥)
-    → (one : A) → Ended known text ending made one → ⊥
-not_ended known text ending made none one is = none is.0 is.1
 
 -- a test of lent texts
 pub list_any-texts : (test : List ℕ → Bool) (lent : List (Bor (List ℕ))) → list_any (λ (text : Bor (List ℕ)). test text.now) lent ≡ list_any test (texts lent)

@@ -1,9 +1,9 @@
 -- Lines of bits: those of which the same is said are in one, and the lines are in the order of their lowest bits.
-use Rattle.std.specs.Prelude.{ℕ, zero, suc, Bool, ◌==◌, ◌||◌, if◌then◌else◌}
-use Rattle.std.specs.Prelude.{List, [], ◌∷◌, ◌++◌, map, codes, string_bytes}
+use Rattle.std.specs.Prelude.{ℕ, zero, suc, Bool, ◌==◌, ◌||◌, if◌then◌else◌, Option, Some, None}
+use Rattle.std.specs.Prelude.{List, [], ◌∷◌, ◌++◌, map, get_or, slice_set, codes, string_bytes}
 use Rattle.std.specs.Int.{trailing_zeros}
 use Rattle.std.specs.Int.Width.{w32}
-use Rattle.std.specs.List.{flat_map}
+use Rattle.std.specs.List.{flat_map, position}
 use Rattle.std.specs.Str.{bytes_eq}
 use Rattle.sd_sid.specs.Mask.{holds, mask_of}
 use Rattle.sd_sid.specs.Sid.{SidValue}
@@ -25,11 +25,14 @@ values lines = map value_of lines
 abbrev pub union : ℕ → ℕ → ℕ
 union mask other = mask_of (λ b. holds mask b || holds other b) 32
 
--- with more bits: they join those of which the same is said, or have a line of their own
-abbrev pub joined : List LineValue → ℕ → List ℕ → List LineValue
-joined [] mask said = (mask, said) ∷ []
-joined (one ∷ lines) mask said =
-    if bytes_eq one.1 said then (union one.0 mask, one.1) ∷ lines else one ∷ joined lines mask said
+-- with more bits: they join the line at this place, or have one of their own
+abbrev pub joined_at : Option ℕ → List LineValue → ℕ → List ℕ → List LineValue
+joined_at None lines mask said = lines ++ (mask, said) ∷ []
+joined_at (Some i) lines mask said = slice_set lines i (union (get_or lines i (mask, said)).0 mask, said)
+
+-- they join those of which the same is said, if there are any
+unfoldable pub joined : List LineValue → ℕ → List ℕ → List LineValue
+joined lines mask said = joined_at (position (λ (one : LineValue). bytes_eq one.1 said) lines) lines mask said
 
 -- the bit is the lowest of the mask
 abbrev pub is_lowest : ℕ → ℕ → Bool

@@ -1,7 +1,6 @@
 -- The names of masks, by kind of object ([MS-DTYP] 2.4.3): one table for masks that are printed and parsed.
 use Rattle.std.specs.Prelude.{ℕ, Bool, true, false, ◌&&◌, if◌then◌else◌, List, [], ◌∷◌, ◌++◌, Option, Some, None}
 use Rattle.std.specs.Prelude.{bytes_eq, codes}
-use Rattle.std.specs.Option.{option_or}
 use Rattle.std.specs.Borrow.{Bor}
 use Rattle.sd_text.specs.Grammar.{Name}
 use Rattle.sd_text.specs.MaskNames.{named_from}
@@ -86,17 +85,16 @@ is_same_kind Service Service = true
 is_same_kind Process Process = true
 is_same_kind kind other = false
 
--- whether a name is one for objects of this kind; of no kind only that of every object is
-abbrev pub is_of : Option ObjectKind → Option ObjectKind → Bool
-is_of kind None = true
-is_of None (Some other) = false
-is_of (Some kind) (Some other) = is_same_kind kind other
-
--- whether it is one for objects of this kind alone
+-- whether a name is one for objects of this kind alone
 abbrev pub is_own : Option ObjectKind → Option ObjectKind → Bool
 is_own kind None = false
 is_own None (Some other) = false
 is_own (Some kind) (Some other) = is_same_kind kind other
+
+-- whether it is one for objects of this kind; of no kind only that of every object is
+abbrev pub is_of : Option ObjectKind → Option ObjectKind → Bool
+is_of kind None = true
+is_of kind of = is_own kind of
 
 abbrev pub names_of : Option ObjectKind → List NamedBits → List (Name ℕ)
 names_of kind [] = []
@@ -115,9 +113,7 @@ bits_among (named ∷ rest) kind word =
 
 -- the mask that the word names
 abbrev pub mask_named : Option ObjectKind → List ℕ → Option ℕ
-mask_named kind word =
-    option_or (option_or (bits_among long_names kind word) (bits_among short_names kind word))
-    (bits_among rights kind word)
+mask_named kind word = bits_among (long_names ++ short_names ++ rights) kind word
 
 -- a row of a table of the code
 abbrev pub named_bits : Bor (List ℕ) × ℕ × Option ObjectKind → NamedBits

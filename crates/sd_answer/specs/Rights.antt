@@ -1,7 +1,6 @@
 -- The line of `rights`: a mask, the permission that it is, and the names of its rights, as winnt.h and winsvc.h have
 -- them.
 use Rattle.std.specs.Prelude.{ℕ, ◌&&◌, ◌==◌, if◌then◌else◌, List, [], ◌∷◌, ◌++◌, Option, Some, None, codes}
-use Rattle.std.specs.Option.{option_or}
 use Rattle.sd_text.specs.MaskNames.{named_from}
 use Rattle.sd_answer.specs.Answer.{line, mask_digits}
 use Rattle.sd_answer.specs.Names.{NamedBits, is_own, long_names, names_of, rights, short_names}
@@ -20,7 +19,7 @@ permission_among (named ∷ rest) kind mask =
 
 -- as Windows lists it, or else as it is printed under `--names`
 abbrev pub permission_named : Option ObjectKind → ℕ → Option (List ℕ)
-permission_named kind mask = option_or (permission_among long_names kind mask) (permission_among short_names kind mask)
+permission_named kind mask = permission_among (long_names ++ short_names) kind mask
 
 abbrev pub permission_text : Option (List ℕ) → List ℕ
 permission_text None = []

@@ -60,14 +60,11 @@ IsFirstNone Is [] place = ⊥
 IsFirstNone {A} Is (text ∷ texts) zero = (one : A) → Is text one → ⊥
 IsFirstNone {A} Is (text ∷ texts) (suc place) = ((one : A) × Is text one) × IsFirstNone Is texts place
 
--- the texts are these words; the one at the place is the first that is none
-abbrev pub AreWords : Aliases → List (List ℕ) → List Word → Type 0
-AreWords known = AreEach (IsWord known)
-
+-- the text at the place is the first that is no word
 abbrev pub IsFirstNoWord : Aliases → List (List ℕ) → ℕ → Type 0
 IsFirstNoWord known = IsFirstNone (IsWord known)
 
--- the same of groups
+-- the texts are these groups; the one at the place is the first that is none
 abbrev pub AreGroups : Aliases → List (List ℕ) → List (SidValue × GroupState) → Type 0
 AreGroups known = AreEach (IsGroup known)
 
@@ -97,4 +94,5 @@ token_of user words =
 
 -- the token of a user and of the words that the texts are
 abbrev pub IsToken : Aliases → SidValue → List (List ℕ) → TokenValue → Type 0
-IsToken known user texts token = (words : List Word) × AreWords known texts words × (token ≡ token_of user words)
+IsToken known user texts token =
+    (words : List Word) × AreEach (IsWord known) texts words × (token ≡ token_of user words)

@@ -22,11 +22,9 @@ pub fn read_sddl_argument(
     if without_sacl {
         return read_sddl_without_sacl(alloc, known, text);
     }
-    match read_sddl_in(alloc, known, text) {
-        Ok(descriptor) => Ok(WithoutSacl {
-            descriptor,
-            left_out: false,
-        }),
-        Err(error) => Err(error),
-    }
+    let descriptor = read_sddl_in(alloc, known, text)?;
+    Ok(WithoutSacl {
+        descriptor,
+        left_out: false,
+    })
 }

@@ -23,12 +23,13 @@ pub(crate) struct BitsLine {
 pub(crate) fn join(lines: &mut Vec<BitsLine>, mask: Mask, said: String) -> Result<(), AllocError>
     ensures { OnOk result (values lines.new.items ≡ joined (values lines.old.items) mask (string_bytes said)) }
 {
-    if let Some(place) = place_of(lines, said.as_str()) {
-        let mask = lines[place].mask.union(mask);
-        lines[place].mask = mask;
-        return Ok(());
+    match place_of(lines, said.as_str()) {
+        Some(place) => {
+            let mask = lines[place].mask.union(mask);
+            lines[place] = BitsLine { mask, said };
+        }
+        None => lines.push(BitsLine { mask, said })?,
     }
-    lines.push(BitsLine { mask, said })?;
     Ok(())
 }
 

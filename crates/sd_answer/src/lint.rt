@@ -139,9 +139,10 @@ pub fn first_misplaced(before: &[Ace], entry: &Ace) -> Option<usize>
     ensures first { result ≡ position (is_misplaced entry.now) before.now }
     ensures low { IfSome result (λ place. place < 2 ^ 63) }
 {
-    before
-        .iter()
-        .position(|earlier| is_misplaced(entry, earlier))
+    before.iter().position(|earlier| {
+        !entry.is_inherited()
+            && (earlier.is_inherited() || (earlier.kind.is_allow() && !entry.kind.is_allow()))
+    })
 }
 
 /// The first entry that this one repeats.
@@ -149,27 +150,12 @@ fn first_repeated(before: &[Ace], entry: &Ace) -> Option<usize>
     ensures first { result ≡ position (is_repeated entry.now) before.now }
     ensures low { IfSome result (λ place. place < 2 ^ 63) }
 {
-    before
-        .iter()
-        .position(|earlier| is_repeated(entry, earlier))
-}
-
-/// Whether canonical order wants the later one before the earlier one ([MS-DTYP] 2.4.5).
-fn is_misplaced(later: &Ace, earlier: &Ace) -> bool
-    ensures { result ≡ is_misplaced later.now earlier.now }
-{
-    !later.is_inherited()
-        && (earlier.is_inherited() || (earlier.kind.is_allow() && !later.kind.is_allow()))
-}
-
-/// Whether both entries say the same.
-fn is_repeated(later: &Ace, earlier: &Ace) -> bool
-    ensures { result ≡ is_repeated later.now earlier.now }
-{
-    later.kind.is_allow() == earlier.kind.is_allow()
-        && later.flags.bits() == earlier.flags.bits()
-        && later.mask.bits() == earlier.mask.bits()
-        && earlier.sid.is(&later.sid)
+    before.iter().position(|earlier| {
+        entry.kind.is_allow() == earlier.kind.is_allow()
+            && entry.flags.bits() == earlier.flags.bits()
+            && entry.mask.bits() == earlier.mask.bits()
+            && earlier.sid.is(&entry.sid)
+    })
 }
 
 /// Whether the entry waits to be inherited, and nothing inherits it ([MS-DTYP] 2.4.4.1).

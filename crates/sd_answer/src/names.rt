@@ -1,9 +1,9 @@
 //! The names of masks, by kind of object ([MS-DTYP] 2.4.3): one table for masks that are printed and parsed.
-ghost use Rattle.std.specs.Prelude.{◌≡◌, ◌++◌, ◌&&◌, [], IfOk, OnOk, List, map, option_map, string_bytes};
+ghost use Rattle.std.specs.Prelude.{◌≡◌, ◌++◌, ◌&&◌, [], IfOk, OnOk, map, option_map, string_bytes};
 ghost use Rattle.sd_text.specs.MaskNames.{is_due, named_from, with_rest, with_word};
-ghost use Rattle.sd_answer.specs.Names.{bits_among, is_of, is_own, is_same_kind, long_names, mask_named, mask_names};
-ghost use Rattle.sd_answer.specs.Names.{NamedBits, named_bits, names_of, rights, short_names};
-ghost use Rattle.sd_answer.specs.Rights.{permission_among, permission_named};
+ghost use Rattle.sd_answer.specs.Names.{bits_among, is_of, long_names, mask_named, mask_names, named_bits};
+ghost use Rattle.sd_answer.specs.Names.{names_of, rights, short_names};
+ghost use Rattle.sd_answer.specs.Rights.{permission_among};
 
 use sd_sid::Mask;
 use std::alloc::{AllocError, Global};
@@ -29,9 +29,10 @@ const SERVICE: Option<ObjectKind> = Some(ObjectKind::Service);
 
 const PROCESS: Option<ObjectKind> = Some(ObjectKind::Process);
 
-/// What Windows lists as the permissions of a file, and masks that winnt.h names, where SDDL has a shorter name or
-/// names that are these bits together.
-static LONG_NAMES: [NamedBits; 8] = [
+/// All names. The bounds of their parts are below.
+static NAMES: [NamedBits; 78] = [
+    // What Windows lists as the permissions of a file, and masks that winnt.h names, where SDDL has a shorter name or
+    // names that are these bits together.
     ("Full control", 0x001F_01FF, FILE),
     ("Read & execute", 0x0012_00A9, FILE),
     ("Read", 0x0012_0089, FILE),
@@ -40,11 +41,8 @@ static LONG_NAMES: [NamedBits; 8] = [
     ("KEY_ALL_ACCESS", 0x000F_003F, KEY),
     ("KEY_READ", 0x0002_0019, KEY),
     ("KEY_WRITE", 0x0002_0006, KEY),
-];
-
-/// The names of SDDL for masks of a kind and for rights of every object ([MS-DTYP] 2.5.1.1, ace-rights), and names of
-/// one word for masks that it has none for, the greatest mask first. `KX` has the mask of `KR`.
-static SHORT_NAMES: [NamedBits; 19] = [
+    // The names of SDDL for masks of a kind and for rights of every object ([MS-DTYP] 2.5.1.1, ace-rights), and names
+    // of one word for masks that it has none for, the greatest mask first. `KX` has the mask of `KR`.
     ("GR", 0x8000_0000, None),
     ("GW", 0x4000_0000, None),
     ("GX", 0x2000_0000, None),
@@ -64,10 +62,7 @@ static SHORT_NAMES: [NamedBits; 19] = [
     ("KW", 0x0002_0006, KEY),
     ("RC", 0x0002_0000, None),
     ("SD", 0x0001_0000, None),
-];
-
-/// The rights, one bit each, by the names of winnt.h and winsvc.h.
-static RIGHTS: [NamedBits; 51] = [
+    // The rights, one bit each, by the names of winnt.h and winsvc.h.
     ("FILE_READ_DATA", 0x1, FILE),
     ("FILE_WRITE_DATA", 0x2, FILE),
     ("FILE_APPEND_DATA", 0x4, FILE),
@@ -121,25 +116,39 @@ static RIGHTS: [NamedBits; 51] = [
     ("GENERIC_READ", 0x8000_0000, None),
 ];
 
-#[tactic(auto, unfolding(crate::specs::Names::long_names))]
-fn long_names() -> &'static [NamedBits]
-    ensures { map named_bits result.now ≡ long_names }
+/// Where the names begin by which masks are printed.
+const PRINTED: usize = 8;
+
+/// Where the rights begin.
+const RIGHTS: usize = 27;
+
+#[tactic(auto, unfolding(crate::specs::Names::long_names, crate::specs::Names::short_names, crate::specs::Names::rights))]
+fn all_names() -> &'static [NamedBits]
+    ensures { map named_bits result.now ≡ long_names ++ short_names ++ rights }
 {
-    &LONG_NAMES
+    &NAMES
 }
 
-#[tactic(auto, unfolding(crate::specs::Names::short_names))]
-fn short_names() -> &'static [NamedBits]
-    ensures { map named_bits result.now ≡ short_names }
+/// The names of permissions: as Windows lists them, and then as masks are printed.
+#[tactic(auto, unfolding(crate::specs::Names::long_names, crate::specs::Names::short_names))]
+pub(crate) fn permissions() -> &'static [NamedBits]
+    ensures { map named_bits result.now ≡ long_names ++ short_names }
 {
-    &SHORT_NAMES
+    &NAMES[..RIGHTS]
+}
+
+#[tactic(auto, unfolding(crate::specs::Names::short_names, crate::specs::Names::rights))]
+fn printed_names() -> &'static [NamedBits]
+    ensures { map named_bits result.now ≡ short_names ++ rights }
+{
+    &NAMES[PRINTED..]
 }
 
 #[tactic(auto, unfolding(crate::specs::Names::rights))]
-fn rights() -> &'static [NamedBits]
+pub(crate) fn rights() -> &'static [NamedBits]
     ensures { map named_bits result.now ≡ rights }
 {
-    &RIGHTS
+    &NAMES[RIGHTS..]
 }
 
 /// A mask by the names of its kind of object, as `FR+WD`: those whose bits are all the mask's, the greatest first and
@@ -152,68 +161,42 @@ pub(crate) fn mask_names(
 ) -> Result<String, AllocError>
     ensures { IfOk result (λ text. string_bytes text ≡ mask_names kind mask) }
 {
-    names_before_rights(alloc, short_names(), kind, mask)
+    names_among(alloc, printed_names(), kind, mask)
 }
 
-/// A mask by the names of these rows and then by its rights, as `FILE_READ_DATA+DELETE`. Bits without a name follow as
-/// a number.
-pub(crate) fn names_before_rights(
+/// A mask by the names of these rows, as `FILE_READ_DATA+DELETE`. Bits without a name follow as a number.
+#[tactic(auto, unfolding(sd_text::specs::MaskNames::named_from))]
+pub(crate) fn names_among(
     alloc: Global,
     rows: &[NamedBits],
     kind: Option<ObjectKind>,
     mask: Mask,
 ) -> Result<String, AllocError>
-    ensures { IfOk result (λ text. string_bytes text
-        ≡ named_from (names_of kind (map named_bits rows.now ++ rights)) mask 0 []) }
+    ensures { IfOk result (λ text. string_bytes text ≡ named_from (names_of kind (map named_bits rows.now)) mask 0 []) }
 {
     let mut text = String::new(alloc);
-    let named = push_names(&mut text, 0, rows, kind, mask)?;
-    let named = push_names(&mut text, named, rights(), kind, mask)?;
-    push_rest(alloc, &mut text, mask.minus(Mask(named)))?;
-    Ok(text)
-}
-
-/// Appends the names of these rows that are due, where names before them have some bits already. Returns the bits of
-/// all.
-#[tactic(auto, using(crate::proofs::RightNames::named_end))]
-fn push_names(
-    text: &mut String,
-    before: u32,
-    rows: &[NamedBits],
-    kind: Option<ObjectKind>,
-    mask: Mask,
-) -> Result<u32, AllocError>
-    ensures { IfOk result (λ named. (more : List NamedBits)
-        → named_from (names_of kind (map named_bits rows.now ++ more)) mask before (string_bytes text.old)
-        ≡ named_from (names_of kind more) mask named (string_bytes text.new)) }
-{
-    let mut named = before;
+    let mut named = 0;
     for (name, bits, of) in rows {
         if is_due(kind, mask, named, *bits, *of) {
-            push_word(text, name)?;
+            push_word(&mut text, name)?;
             named |= *bits;
         }
     }
-    Ok(named)
+    push_rest(&mut text, mask.minus(Mask(named)))?;
+    Ok(text)
 }
 
-/// The name that the kind has for just this mask: as Windows lists it, or else as it is printed.
-pub(crate) fn permission_named(kind: Option<ObjectKind>, mask: Mask) -> Option<&'static str>
-    ensures { option_map (λ name. name.now) result ≡ permission_named kind mask }
-{
-    match permission_among(long_names(), kind, mask.bits()) {
-        Some(name) => Some(name),
-        None => permission_among(short_names(), kind, mask.bits()),
-    }
-}
-
-/// The first of the kind's own names whose bits are just this mask.
-fn permission_among(rows: &[NamedBits], kind: Option<ObjectKind>, mask: u32) -> Option<&'static str>
+/// The first of the kind's own names among these whose bits are just this mask.
+pub(crate) fn permission_among(
+    rows: &[NamedBits],
+    kind: Option<ObjectKind>,
+    mask: u32,
+) -> Option<&'static str>
     ensures { option_map (λ name. name.now) result ≡ permission_among (map named_bits rows.now) kind mask }
 {
     match rows {
         [] => None,
-        [row, _rows @ ..] if is_own(kind, row.2) && row.1 == mask => Some(row.0),
+        [row, _rows @ ..] if row.2.is_some() && row.2 == kind && row.1 == mask => Some(row.0),
         [_row, rows @ ..] => permission_among(rows, kind, mask),
     }
 }
@@ -222,9 +205,7 @@ fn permission_among(rows: &[NamedBits], kind: Option<ObjectKind>, mask: u32) -> 
 pub(crate) fn mask_named(kind: Option<ObjectKind>, word: &str) -> Option<u32>
     ensures { result ≡ mask_named kind word.now }
 {
-    let long = bits_among(long_names(), kind, word);
-    let short = bits_among(short_names(), kind, word);
-    long.or(short).or(bits_among(rights(), kind, word))
+    bits_among(all_names(), kind, word)
 }
 
 /// The bits of the first of these names that the word is.
@@ -242,29 +223,7 @@ fn bits_among(rows: &[NamedBits], kind: Option<ObjectKind>, word: &str) -> Optio
 fn is_of(kind: Option<ObjectKind>, of: Option<ObjectKind>) -> bool
     ensures { result ≡ is_of kind of }
 {
-    of.is_none() || is_own(kind, of)
-}
-
-/// Whether a name is one for objects of this kind alone.
-fn is_own(kind: Option<ObjectKind>, of: Option<ObjectKind>) -> bool
-    ensures { result ≡ is_own kind of }
-{
-    match (kind, of) {
-        (Some(kind), Some(other)) => is_same_kind(kind, other),
-        _ => false,
-    }
-}
-
-fn is_same_kind(kind: ObjectKind, other: ObjectKind) -> bool
-    ensures { result ≡ is_same_kind kind other }
-{
-    matches!(
-        (kind, other),
-        (ObjectKind::File, ObjectKind::File)
-            | (ObjectKind::Key, ObjectKind::Key)
-            | (ObjectKind::Service, ObjectKind::Service)
-            | (ObjectKind::Process, ObjectKind::Process)
-    )
+    of.is_none() || of == kind
 }
 
 /// Whether a name is one for objects of this kind whose bits are all the mask's, and names before it don't have them
@@ -292,13 +251,12 @@ fn push_word(text: &mut String, word: &str) -> Result<(), AllocError>
 }
 
 /// Appends the bits that no name has, or the number 0 if the text is empty.
-fn push_rest(alloc: Global, text: &mut String, rest: Mask) -> Result<(), AllocError>
+fn push_rest(text: &mut String, rest: Mask) -> Result<(), AllocError>
     ensures { OnOk result (string_bytes text.new ≡ with_rest (string_bytes text.old) rest) }
 {
     if rest.is_empty() && !text.is_empty() {
         return Ok(());
     }
-    let bits = rest.bits();
-    let number = format!(in alloc; "0x{bits:x}")?;
-    push_word(text, number.as_str())
+    push_word(text, "0x")?;
+    write!(text, "{:x}", rest.bits())
 }

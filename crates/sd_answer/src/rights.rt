@@ -2,7 +2,7 @@
 ghost use Rattle.std.specs.Prelude.{◌≡◌, IfOk, string_bytes};
 ghost use Rattle.sd_answer.specs.Rights.{rights_line};
 
-use crate::names::{ObjectKind, names_before_rights, permission_named};
+use crate::names::{ObjectKind, names_among, permission_among, permissions, rights};
 use sd_sid::Mask;
 use std::alloc::{AllocError, Global};
 
@@ -16,9 +16,9 @@ pub fn rights_line(
 ) -> Result<String, AllocError>
     ensures { IfOk result (λ text. string_bytes text ≡ rights_line kind mask) }
 {
-    let names = names_before_rights(alloc, &[], kind, mask)?;
+    let names = names_among(alloc, rights(), kind, mask)?;
     let (bits, names) = (mask.bits(), names.as_str());
-    match permission_named(kind, mask) {
+    match permission_among(permissions(), kind, mask.bits()) {
         Some(name) => {
             let text = format!(in alloc; "0x{bits:x} {name}: {names}\n")?;
             Ok(text)

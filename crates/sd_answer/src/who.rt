@@ -1,5 +1,5 @@
 //! The rights that `who` is asked about, and its lines: rights, and whom they are granted to.
-ghost use Rattle.std.specs.Prelude.{◌≡◌, IfOk, OnOk, string_bytes, take};
+ghost use Rattle.std.specs.Prelude.{◌≡◌, IfOk, OnOk, string_bytes};
 ghost use Rattle.sd_answer.specs.Lines.{values};
 ghost use Rattle.sd_answer.specs.Who.{alternative_text, holder_text, rights_asked, unless_text, who_text, with_access};
 
@@ -65,16 +65,10 @@ fn alternative_text(
     ensures { IfOk result (λ text. string_bytes text ≡ alternative_text denied.now alternative.now) }
 {
     let holder = holder_text(alloc, &alternative.holder)?;
-    let unless = unless_text(alloc, first(denied, alternative.unless))?;
+    let denied = denied.get(..alternative.unless).unwrap_or(denied);
+    let unless = unless_text(alloc, denied)?;
     let (holder, unless) = (holder.as_str(), unless.as_str());
     format!(in alloc; " to {holder}{unless}")
-}
-
-/// The first n SIDs, or all of them.
-fn first(sids: &[Sid], n: usize) -> &[Sid]
-    ensures { result.now ≡ take n sids.now }
-{
-    if n < sids.len() { &sids[..n] } else { sids }
 }
 
 fn holder_text(alloc: Global, holder: &Holder) -> Result<String, AllocError>

@@ -1,36 +1,34 @@
-use Rattle.std.proofs.Common.{◌≡◌, ◌∷◌, [], Some, None, set, get_or, string_bytes, sym, ◌∙◌, ap}
-use Rattle.std.specs.List.{position}
-use Rattle.std.proofs.lemmas.List.{get_or_default, map-append, map-set}
+use Rattle.std.proofs.Common.{◌≡◌, ◌∷◌, [], ℕ, Bool, List, map, set, string_bytes, ap, refl, ◌∙◌, sym}
+use Rattle.std.specs.List.{position, position_or_len}
+use Rattle.std.specs.Str.{bytes_eq}
+use Rattle.std.proofs.lemmas.List.{get_or-map, length-map, map-append, map-set}
 use Rattle.std.proofs.lemmas.List.Quantifiers.{position-Some}
 use Rattle.sd_answer.specs.declared.lines.BitsLine.{BitsLine}
-use Rattle.sd_answer.specs.Lines.{union, value_of, values}
-use Rattle.sd_answer.proofs.Joins.{joined_at, joined_last, none_at, says}
+use Rattle.sd_answer.specs.Lines.{LineValue, joined, joined_at, union, value_of, values}
 use Rattle.sd_answer.proofs.lines.join.Goals as goal
+
+position_or_len-map : {X Y : Type 0} (p : Y → Bool) (f : X → Y) (xs : List X) → position_or_len p (map f xs) ≡ position_or_len (λ x. p (f x)) xs
+position_or_len-map p f [] = refl
+position_or_len-map p f (x ∷ xs) = rw (position_or_len-map p f xs) refl
+
+joined_is : (lines : List BitsLine) (mask : ℕ) (said : List ℕ)
+    → joined (values lines) mask said
+    ≡ joined_at (position (λ (one : BitsLine). bytes_eq (string_bytes one.said) said) lines) (values lines) mask said
+unfolding joined
+joined_is lines mask said = rw (length-map lines value_of, position_or_len-map (λ (one : LineValue). bytes_eq one.1 said) value_of lines) refl
 
 pub returns-in-Some : goal.returns-in-Some
 returns-in-Some c =
     let lines = c.args.lines.now.items in
-    let i = c.in-Some.place in
-    let d = c.index.result.now in
-    let said = string_bytes c.args.said in
-    let found : position (says said) lines ≡ Some i =
-    sym (c.in-Some.ensures ∙ ap (λ text. position (says text) c.deref.result.now) c.as_str.ensures.value ∙ ap (position (says said)) c.deref.ensures.value) in
-    let at = position-Some (says said) lines i d found in
-    let mask : c.union-mask.result ≡ union (get_or lines i d).mask c.args.mask =
-    c.union-mask.ensures ∙ ap (λ (one : BitsLine). union one.mask c.args.mask) c.index.ensures in
-    let same = ap (λ (one : BitsLine). string_bytes one.said) (c.index_mut.ensures.value ∙ get_or_default lines i c.index_mut.result.now d at.0) in
-    map-set value_of lines i (record { mask = c.union-mask.result; said = c.index_mut.result.now.said })
-    ∙ ap (λ m. set (values lines) i (m, string_bytes c.index_mut.result.now.said)) mask
-    ∙ ap (λ text. set (values lines) i (union (get_or lines i d).mask c.args.mask, text)) same
-    ∙ sym (joined_at lines c.args.mask said i d at.0 at.1 at.2)
+    let found = rw (c.as_str.ensures.value, c.deref.ensures.value) at c.in-Some.ensures in
+    let low = (position-Some _ lines c.in-Some.place c.index.result.now (sym found)).0 in
+    let one = get_or-map value_of lines c.in-Some.place c.index.result.now (c.args.mask, string_bytes c.args.said) low in
+    let mask = c.union-mask.ensures ∙ ap (λ (one : BitsLine). union one.mask c.args.mask) c.index.ensures in
+    map-set value_of lines c.in-Some.place (record { mask = c.union-mask.result; said = c.args.said })
+    ∙ ap (λ m. set (values lines) c.in-Some.place (m, string_bytes c.args.said)) mask
+    ∙ rw (joined_is lines, ← found, one) refl
 
-pub returns : goal.returns
-returns c =
-    let lines = c.args.lines.now.items in
-    let said = string_bytes c.args.said in
-    let new : BitsLine = record { mask = c.args.mask; said = c.args.said } in
-    let none : position (says said) lines ≡ None =
-    sym (c.in_default.ensures ∙ ap (λ text. position (says text) c.deref.result.now) c.as_str.ensures.value ∙ ap (position (says said)) c.deref.ensures.value) in
-    ap values c.in_ok-push.ensures.items
-    ∙ map-append value_of lines (new ∷ [])
-    ∙ sym (joined_last lines c.args.mask said new (none_at (says said) lines new none))
+pub returns-in_ok-push-in-None : goal.returns-in_ok-push-in-None
+returns-in_ok-push-in-None c =
+    let none = rw (c.as_str.ensures.value, c.deref.ensures.value) at c.in-None.ensures in
+    rw (c.in_ok-push-in-None.ensures.items, joined_is c.args.lines.now.items, ← none, map-append) refl

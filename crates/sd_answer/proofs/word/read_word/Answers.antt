@@ -1,6 +1,6 @@
 use Rattle.std.proofs.Common.{inr, refl, ◌∙◌, sym}
 use Rattle.std.specs.Prelude.{codes}
-use Rattle.sd_answer.proofs.Words.{apart, neither, not_ended}
+use Rattle.sd_answer.proofs.Words.{apart, neither}
 use Rattle.sd_answer.proofs.word.read_word.Goals as goal
 
 pub returns-clause-word : goal.returns-clause-word
@@ -16,4 +16,4 @@ pub returns-in_err-sid-clause-none : goal.returns-in_err-sid-clause-none
 returns-in_err-sid-clause-none c = rw c.from_residual.ensures (neither _ _
     (λ one is. apart c.args.text.now (codes "+security") (sym c.eq.ensures ∙ c.if-eq.false) is.0) (neither _ _
     (λ one is. apart c.args.text.now (codes "+take") (sym c.eq-2.ensures ∙ c.if-eq-2.false) is.0) (neither _ _
-    (λ one is. c.in_default.ensures.none is.0 is.1) (not_ended _ _ _ _ c.in_err-sid.ensures.none))))
+    (λ one is. c.in_default.ensures.none is.0 is.1) (λ one is. c.in_err-sid.ensures.none is.0 is.1))))
