@@ -9,4 +9,5 @@ pub mod Descriptor
 pub mod Names
 pub mod Rights
 pub mod Mask
+pub mod Parts
 pub mod Laws

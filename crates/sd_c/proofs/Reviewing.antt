@@ -9,7 +9,7 @@ use Rattle.sd_answer.specs.Compare.{gains_and_losses}
 use Rattle.sd_answer.specs.declared.answer.Spelling.TheVariants.{Number}
 use Rattle.sd_review.specs.Compared.{IsOfBoth, IsRight}
 use Rattle.sd_review.proofs.RightOnes.{right_one}
-use Rattle.sd_review.specs.Parts.{parts_in}
+use Rattle.sd_answer.specs.Parts.{parts_in}
 use Rattle.sd_review.specs.Review.{Trees}
 use Rattle.sd_review.specs.declared.compared.Compared.{Compared}
 use Rattle.sd_c.specs.Analysis.{bits_of}

@@ -11,7 +11,7 @@ use Rattle.sd_analysis.specs.Compare.{AreGains, is_reported}
 use Rattle.sd_analysis.specs.Who.{AllBeyond, HasEachOnce, IsMost, IsWho}
 use Rattle.sd_analysis.specs.declared.compare_report.Change.{Change}
 use Rattle.sd_analysis.specs.declared.who_has.Access.{Access}
-use Rattle.sd_review.specs.Parts.{parts_in}
+use Rattle.sd_answer.specs.Parts.{parts_in}
 use Rattle.sd_answer.specs.Compare.{compare_text}
 use Rattle.sd_answer.specs.Who.{rights_asked, who_text}
 use Rattle.sd_answer.specs.declared.answer.Spelling.TheVariants.{Number}

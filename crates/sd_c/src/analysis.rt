@@ -13,9 +13,8 @@ use crate::request::{groups_of, mapping_of};
 use crate::stop::{NotRead, Stop};
 use sd_acl::Descriptor;
 use sd_analysis::{Base, Change, compare, who};
-use sd_answer::{Spelling, compare_text, rights_asked, who_text};
+use sd_answer::{Spelling, borrowed, compare_text, looked_at, rights_asked, who_text};
 use sd_check::GroupState;
-use sd_review::{borrowed, looked_at};
 use sd_sid::{GenericMapping, Mask, Sid};
 use std::alloc::{AllocError, Global};
 

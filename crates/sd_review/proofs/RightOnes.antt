@@ -6,7 +6,7 @@ use Rattle.sd_analysis.specs.Compare.{AreGains}
 use Rattle.sd_analysis.specs.Sufficient.{Parts}
 use Rattle.sd_analysis.specs.declared.compare_report.Change.{Change}
 use Rattle.sd_review.specs.Compared.{IsOf, IsRight}
-use Rattle.sd_review.specs.Parts.{parts_in}
+use Rattle.sd_answer.specs.Parts.{parts_in}
 use Rattle.sd_review.specs.declared.compared.Compared.{Compared}
 
 pub right_one : (g : MappingValue) (before after : Parts) (c : Compared) → IsOf g before after c → IsRight g c

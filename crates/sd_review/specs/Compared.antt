@@ -6,7 +6,7 @@ use Rattle.sd_path.specs.Names.{Names}
 use Rattle.sd_tree.specs.Answers.{descriptor_at}
 use Rattle.sd_analysis.specs.Compare.{AreGains}
 use Rattle.sd_analysis.specs.Sufficient.{Parts}
-use Rattle.sd_review.specs.Parts.{parts_in}
+use Rattle.sd_answer.specs.Parts.{parts_in}
 use Rattle.sd_review.specs.Review.{Trees}
 use Rattle.sd_review.specs.declared.compared.Compared.{Compared}
 

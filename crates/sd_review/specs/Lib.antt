@@ -1,5 +1,4 @@
 pub mod Compared
 pub mod Lines
 pub mod Origin
-pub mod Parts
 pub mod Review

@@ -4,18 +4,16 @@ ghost use Rattle.std.specs.Option.{ForSome};
 ghost use Rattle.sd_acl.specs.Descriptor.{descriptor_of};
 ghost use Rattle.sd_analysis.specs.Compare.{AreGains};
 ghost use Rattle.sd_analysis.specs.Sufficient.{parts_of};
-ghost use Rattle.sd_check.specs.Check.{dacl_entries, entries_of};
 ghost use Rattle.sd_answer.specs.Compare.{gains_and_losses};
+ghost use Rattle.sd_answer.specs.Parts.{parts_in};
 ghost use Rattle.sd_review.specs.Compared.{HasParts, IsOf, IsOfBoth, IsRight};
 ghost use Rattle.sd_review.specs.Lines.{lines};
-ghost use Rattle.sd_review.specs.Parts.{parts_in};
 
 use crate::compared::Compared;
 use crate::equality::is_alike;
-use sd_acl::{Dacl, Descriptor};
+use sd_acl::Descriptor;
 use sd_analysis::{Base, Comparison, DescriptorRef, compare};
-use sd_answer::{Spelling, gains_and_losses};
-use sd_check::DaclRef;
+use sd_answer::{Spelling, gains_and_losses, looked_at};
 use sd_sid::GenericMapping;
 use std::alloc::{AllocError, Global};
 
@@ -116,25 +114,4 @@ fn lines_between<'x>(
         (parts_of new.now) comparison.now.gained.items comparison.now.lost.items) }
 {
     gains_and_losses(alloc, spelling, head, old, new, comparison)
-}
-
-/// A descriptor, as far as a check looks at it ([MS-DTYP] 2.5.3.2): its owner and its DACL.
-pub fn looked_at(descriptor: &Descriptor) -> DescriptorRef<'_>
-    ensures { parts_of result ≡ parts_in (descriptor_of descriptor.now) }
-{
-    DescriptorRef {
-        owner: descriptor.owner,
-        dacl: borrowed(&descriptor.dacl),
-    }
-}
-
-/// The DACL ([MS-DTYP] 2.4.5), borrowed for an analysis.
-pub fn borrowed(dacl: &Dacl) -> DaclRef<'_>
-    ensures { entries_of result ≡ dacl_entries dacl.now }
-{
-    match dacl {
-        Dacl::Absent => DaclRef::Absent,
-        Dacl::Null => DaclRef::Null,
-        Dacl::List(list) => DaclRef::List(list.entries()),
-    }
 }

@@ -1,8 +1,8 @@
 //! Whether two descriptors are the same to a check.
 ghost use Rattle.std.specs.Prelude.{◌≡◌, true};
 ghost use Rattle.sd_acl.specs.Descriptor.{descriptor_of};
+ghost use Rattle.sd_answer.specs.Parts.{parts_in};
 ghost use Rattle.sd_check.specs.Check.{dacl_entries};
-ghost use Rattle.sd_review.specs.Parts.{parts_in};
 
 use sd_acl::{Dacl, Descriptor};
 use sd_sid::Sid;

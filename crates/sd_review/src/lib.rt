@@ -26,6 +26,5 @@ mod pending;
 mod review;
 
 pub use compared::Compared;
-pub use comparing::{borrowed, looked_at};
 pub use pending::Review;
 pub use review::Former;

@@ -29,7 +29,7 @@ use Rattle.sd_answer.specs.declared.answer.Spelling.{Spelling}
 use Rattle.sd_answer.proofs.NoLines.{no_gain_no_loss, parts_empty}
 use Rattle.sd_script.specs.Laws.{SilentNodeIsUnchanged, SilentReviewChangesNothing}
 use Rattle.sd_script.specs.Paths.{path_word}
-use Rattle.sd_review.specs.Parts.{parts_in}
+use Rattle.sd_answer.specs.Parts.{parts_in}
 use Rattle.sd_review.specs.Origin.{origin}
 use Rattle.sd_review.specs.Review.{Trees, former, former_by_edits, stands_in}
 use Rattle.sd_script.specs.Review.{ArePrinted, IsChangeText, IsCompared, IsNodeReview, IsNodeText, IsReviewOf, gone_line, has_no_words, reviewed_line, trees_in}

@@ -13,7 +13,7 @@ use Rattle.sd_versions.specs.Machine.{Machine, accepted}
 use Rattle.sd_analysis.specs.Compare.{AreGains}
 use Rattle.sd_analysis.specs.Sufficient.{Parts}
 use Rattle.sd_analysis.specs.declared.compare_report.Change.{Change}
-use Rattle.sd_review.specs.Parts.{parts_in}
+use Rattle.sd_answer.specs.Parts.{parts_in}
 use Rattle.sd_review.specs.Review.{Trees, former, stands_in, trees_after}
 use Rattle.sd_review.specs.declared.review.Former.{Former}
 use Rattle.sd_review.specs.declared.review.Former.TheVariants.{Same, Moved, New}

@@ -6,8 +6,7 @@ ghost use Rattle.sd_script.specs.Who.{IsWhoText, or_empty};
 
 use crate::view::Groups;
 use sd_analysis::{Base, who};
-use sd_answer::{Spelling, rights_asked, who_text};
-use sd_review::borrowed;
+use sd_answer::{Spelling, borrowed, rights_asked, who_text};
 use sd_sid::Mask;
 use sd_tree::{Path, Tree};
 use std::alloc::{AllocError, Global};

@@ -4,7 +4,7 @@ use Rattle.sd_acl.specs.Descriptor.{DescriptorValue}
 use Rattle.sd_tree.specs.Answers.{descriptor_at}
 use Rattle.sd_review.specs.Compared.{IsOfBoth}
 use Rattle.sd_review.specs.Lines.{lines}
-use Rattle.sd_review.specs.Parts.{parts_in}
+use Rattle.sd_answer.specs.Parts.{parts_in}
 use Rattle.sd_review.specs.Review.{trees_of}
 use Rattle.sd_review.specs.declared.compared.Compared.{Compared}
 use Rattle.sd_review.proofs.RightOnes.{right_one}

@@ -1,0 +1,31 @@
+//! A descriptor and a DACL, as far as a check looks at them.
+ghost use Rattle.std.specs.Prelude.{◌≡◌};
+ghost use Rattle.sd_acl.specs.Descriptor.{descriptor_of};
+ghost use Rattle.sd_analysis.specs.Sufficient.{parts_of};
+ghost use Rattle.sd_answer.specs.Parts.{parts_in};
+ghost use Rattle.sd_check.specs.Check.{dacl_entries, entries_of};
+
+use sd_acl::{Dacl, Descriptor};
+use sd_analysis::DescriptorRef;
+use sd_check::DaclRef;
+
+/// A descriptor, as far as a check looks at it ([MS-DTYP] 2.5.3.2): its owner and its DACL.
+pub fn looked_at(descriptor: &Descriptor) -> DescriptorRef<'_>
+    ensures { parts_of result ≡ parts_in (descriptor_of descriptor.now) }
+{
+    DescriptorRef {
+        owner: descriptor.owner,
+        dacl: borrowed(&descriptor.dacl),
+    }
+}
+
+/// The DACL ([MS-DTYP] 2.4.5), borrowed for an analysis.
+pub fn borrowed(dacl: &Dacl) -> DaclRef<'_>
+    ensures { entries_of result ≡ dacl_entries dacl.now }
+{
+    match dacl {
+        Dacl::Absent => DaclRef::Absent,
+        Dacl::Null => DaclRef::Null,
+        Dacl::List(list) => DaclRef::List(list.entries()),
+    }
+}
