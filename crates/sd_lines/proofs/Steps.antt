@@ -3,7 +3,7 @@ use Rattle.std.proofs.Common.{◌≡◌, ℕ, ◌+◌, ◌-◌, ◌<◌, ◌≤�
 use Rattle.std.specs.Prelude.{◌==◌, slice_index}
 use Rattle.std.specs.Io.KnownBytes.{Appends, Consumes, IsAtEnd}
 use Rattle.std.proofs.KnownBytes.{Appends-trans, Consumes-all}
-use Rattle.std.proofs.lemmas.Bool.{cases_lt}
+use Rattle.std.proofs.lemmas.Bool.{and_parts, cases_lt}
 use Rattle.std.proofs.lemmas.Bool.Decides.{nat_tests}
 use Rattle.std.proofs.lemmas.List.{nil_from_length, take-append-le, take_all}
 use Rattle.std.proofs.lemmas.List.Elements.{All-append}
@@ -34,13 +34,6 @@ kept_more most begun part line is = rw is (by_length (cases_lt most (length begu
       let room : length begun + (most - length begun) ≡ most = omega arith in
       rw (take_all most begun within) (sym (rw room at (take-append-add begun part (most - length begun))))
 
-stops_off : (stops : Bool) (n : ℕ) → MAX_INPUT_BYTES < n → (stops && ltb MAX_INPUT_BYTES n) ≡ false → stops ≡ false
-stops_off true n long is = absurd (grind (arith, nat_tests))
-stops_off false n long is = refl
-
-asked_none : (form : Form) (l : List ℕ) → form.stops_at_long ≡ false → MAX_INPUT_BYTES < length l → asked_of form l ≡ None
-asked_none form l goes_on long = rw goes_on (grind (arith, nat_tests))
-
 one_less : (ending : Ending) (l : List ℕ) → length l ≤ length (ended_line ending l) + 1
 one_less Feed l = by_return (slice_index l (length l - 1) == 13) where
   by_return : (has_return : Bool) → length l ≤ length (cond has_return (take (length l - 1) l) l) + 1
@@ -55,8 +48,9 @@ asked_kept most form begun of enough shorter goes_on = by_length (cases_lt most 
   by_length : (most < length begun) ⊎ (length begun ≤ most) → asked_of form (of (take most begun)) ≡ asked_of form (of begun)
   by_length (inl over) =
       let full : length (take most begun) ≡ most = omega (arith, length-take most begun) in
-      let off : form.stops_at_long ≡ false = stops_off form.stops_at_long _ (omega arith) goes_on in
-      asked_none form (of (take most begun)) off (omega (arith, shorter (take most begun))) ∙ sym (asked_none form (of begun) off (omega (arith, shorter begun)))
+      let one = shorter (take most begun) in
+      let two = shorter begun in
+      grind (arith, nat_tests)
   by_length (inr within) = rw (take_all most begun within) refl
 
 pub beginning_after : (a b c : Option (List ℕ)) (before text : List ℕ)
@@ -162,13 +156,9 @@ module _ {State : Type 0} {form : Form} {Answer : Answering State} {old : State}
   pub leaves_long : unwritten ≡ [] → ends_run form line ≡ true
       → (form.stops_at_long ≡ true) × AnswersEnded (Prints form Answer old) form (IsLong form.ending) input left start now
   leaves_long none is_long =
-      let long = by_tests form.stops_at_long (length (take KEPT_BYTES a.begun)) (rw (a.kept) at is_long) in (
-        long.0,
-        leaves_ended none (a.begun, rest, refl, a.unended, omega (arith, length-take KEPT_BYTES a.begun, long.1)),
-      ) where
-        by_tests : (stops : Bool) (n : ℕ) → (stops && ltb MAX_INPUT_BYTES n) ≡ true → (stops ≡ true) × (MAX_INPUT_BYTES < n)
-        by_tests true n is = (refl, grind (arith, nat_tests))
-        by_tests false n is = absurd (cc is)
+      let long = and_parts form.stops_at_long (ltb MAX_INPUT_BYTES (length line)) is_long in
+      let more : MAX_INPUT_BYTES < length line = let test = long.1 in grind (arith, nat_tests) in
+      (long.0, leaves_ended none (a.begun, rest, refl, a.unended, omega (arith, length-take KEPT_BYTES a.begun, ap length a.kept)))
 
   module _ (after : Option (List ℕ)) where
     -- by a write that failed, of the answers to this text
