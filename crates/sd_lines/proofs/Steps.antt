@@ -35,10 +35,7 @@ kept_more most begun part line is = rw is (by_length (cases_lt most (length begu
       rw (take_all most begun within) (sym (rw room at (take-append-add begun part (most - length begun))))
 
 one_less : (ending : Ending) (l : List ℕ) → length l ≤ length (ended_line ending l) + 1
-one_less Feed l = by_return (slice_index l (length l - 1) == 13) where
-  by_return : (has_return : Bool) → length l ≤ length (cond has_return (take (length l - 1) l) l) + 1
-  by_return true = omega (arith, length-take (length l - 1) l)
-  by_return false = omega arith
+one_less Feed l = let cut = length-take (length l - 1) l in grind (arith, nat_tests)
 one_less Zero l = omega arith
 
 -- what is asked of a line is asked of what is kept of it
