@@ -1,6 +1,5 @@
 -- Lines that are answered as they end, and what is left where a run ends.
-use Rattle.std.proofs.Common.{◌≡◌, ℕ, ◌+◌, ◌-◌, ◌<◌, ◌≤◌, ◌&&◌, Bool, true, false, cond, ltb, lit<, List, [], ◌∷◌, ◌++◌, length, take, ◌⊎◌, Option, None, refl, sym, ◌∙◌, ap, append_assoc, append-nil, length-take, arith, inl, inr}
-use Rattle.std.specs.Prelude.{◌==◌, slice_index}
+use Rattle.std.proofs.Common.{◌≡◌, ℕ, ◌+◌, ◌-◌, ◌<◌, ◌≤◌, true, false, ltb, lit<, List, [], ◌∷◌, ◌++◌, length, take, ◌⊎◌, Option, refl, sym, ◌∙◌, ap, append_assoc, append-nil, length-take, arith, inl, inr}
 use Rattle.std.specs.Io.KnownBytes.{Appends, Consumes, IsAtEnd}
 use Rattle.std.proofs.KnownBytes.{Appends-trans, Consumes-all}
 use Rattle.std.proofs.lemmas.Bool.{and_parts, cases_lt}

@@ -1,5 +1,5 @@
 -- The text of an input, in UTF-8: the bytes of UTF-8, or of UTF-16 after a byte order mark.
-use Rattle.std.specs.Prelude.{◌≡◌, ℕ, ◌==◌, ◌&&◌, ◌≤◌, All, if◌then◌else◌, List, [], ◌∷◌, ◌++◌}
+use Rattle.std.specs.Prelude.{◌≡◌, ℕ, ◌==◌, ◌&&◌, ◌≤◌, All, if◌then◌else◌, List, ◌∷◌, ◌++◌}
 use Rattle.sd_lines.specs.Utf16.{utf16_text}
 use Rattle.sd_lines.specs.declared.decoder.Coding.{Coding}
 use Rattle.sd_lines.specs.declared.decoder.Coding.TheVariants.{Unknown, Utf8, Utf16}

@@ -1,4 +1,4 @@
-use Rattle.std.proofs.Common.{◌≡◌, false, ◌<◌, [], ◌++◌, length, take, refl, sym, ◌∙◌, ap, append_assoc, append-nil, arith, rules}
+use Rattle.std.proofs.Common.{◌≡◌, false, [], ◌++◌, take, refl, sym, ◌∙◌, ap, append_assoc, append-nil, arith, rules}
 use Rattle.std.specs.Io.KnownBytes.{IsAtEnd}
 use Rattle.std.proofs.KnownBytes.{Consumes-kept, Consumes-trans}
 use Rattle.std.proofs.lemmas.Bool.Decides.{nat_tests}
