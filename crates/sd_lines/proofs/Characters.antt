@@ -8,7 +8,7 @@ use Rattle.std.proofs.lemmas.Bool.{and_parts}
 use Rattle.std.proofs.lemmas.Bool.Decides.{nat_tests}
 use Rattle.std.proofs.lemmas.List.{take_all}
 use Rattle.std.proofs.lemmas.Str.{utf16_chars-nil, utf16_chars_lone, utf16_chars_pair}
-use Rattle.sd_lines.specs.Utf16.{char_text, over_in, unfinished, unit, units_in, utf16_text}
+use Rattle.sd_lines.specs.Utf16.{char_text, over_in, unfinished, unit, utf16_text}
 use Rattle.sd_lines.specs.declared.utf16.ByteOrder.{ByteOrder}
 
 -- ---- at least two bytes
@@ -21,49 +21,28 @@ two_bytes (a ∷ b ∷ rest) some = ap (λ l. a ∷ b ∷ l) (sym (take_all (len
 
 -- ---- the first character
 
-abbrev AreSurrogates : ℕ → ℕ → Type 0
-AreSurrogates u v = (0xD800 ≤ u) × (u < 0xDC00) × (0xDC00 ≤ v) × (v < 0xE000)
+within : (low high u : ℕ) → (leb low u && ltb u high) ≡ true → (low ≤ u) × (u < high)
+within low high u is = let both = and_parts (leb low u) (ltb u high) is in (grind (arith, nat_tests), grind (arith, nat_tests))
 
-within_false : (low high u : ℕ) → (leb low u && ltb u high) ≡ false → low ≤ u → u < high → ⊥
-within_false low high u is one two = grind (arith, nat_tests)
+no_pair : (u v : ℕ) → (is_high_surrogate u && is_low_surrogate v) ≡ false → 0xD800 ≤ u → u < 0xDC00 → 0xDC00 ≤ v → v < 0xE000 → ⊥
+no_pair u v tests one two three four = grind (arith, nat_tests)
 
-within_true : (low high u : ℕ) → (leb low u && ltb u high) ≡ true → (low ≤ u) × (u < high)
-within_true low high u is = let both = and_parts (leb low u) (ltb u high) is in (grind (arith, nat_tests), grind (arith, nat_tests))
+pub no_char : (u : ℕ) → is_high_surrogate u ≡ true → lone_unit_char u ≡ None
+no_char u high = let range = within 0xD800 0xDC00 u high in grind (arith, nat_tests)
 
-text_lone : (order : ByteOrder) (a b : ℕ) (rest : List ℕ) → (AreSurrogates (unit order a b) (get_or (units_in order rest) 0 0) → ⊥)
-    → utf16_text order (a ∷ b ∷ rest) ≡ char_text (lone_unit_char (unit order a b)) ++ utf16_text order rest
-text_lone order a b rest apart =
-    rw (utf16_chars_lone (unit order a b) (units_in order rest) apart)
-    (append_assoc (char_text (lone_unit_char (unit order a b))) (flat_map char_text (utf16_chars (units_in order rest))) (over_in rest))
+pub lone : (u : ℕ) (us over : List ℕ) → (is_high_surrogate u && is_low_surrogate (get_or us 0 0)) ≡ false
+    → flat_map char_text (utf16_chars (u ∷ us)) ++ over ≡ char_text (lone_unit_char u) ++ (flat_map char_text (utf16_chars us) ++ over)
+lone u us over tests =
+    rw (utf16_chars_lone u us (λ pair. no_pair u _ tests pair.0 pair.1 pair.2 pair.3))
+    (append_assoc (char_text (lone_unit_char u)) (flat_map char_text (utf16_chars us)) over)
 
-pub not_high : (order : ByteOrder) (a b : ℕ) (bytes rest more : List ℕ) → bytes ≡ a ∷ b ∷ rest
-    → is_high_surrogate (unit order a b) ≡ false
-    → utf16_text order (bytes ++ more) ≡ char_text (lone_unit_char (unit order a b)) ++ utf16_text order (rest ++ more)
-not_high order a b bytes rest more is high =
-    rw is (text_lone order a b (rest ++ more) (λ pair. within_false 0xD800 0xDC00 _ high pair.0 pair.1))
-
-no_char : (u : ℕ) → is_high_surrogate u ≡ true → lone_unit_char u ≡ None
-no_char u high = between u (within_true 0xD800 0xDC00 u high) where
-  between : (u : ℕ) → (0xD800 ≤ u) × (u < 0xDC00) → lone_unit_char u ≡ None
-  between u range = grind (arith, nat_tests)
-
-pub no_low : (order : ByteOrder) (a b c d : ℕ) (bytes after rest more : List ℕ) → bytes ≡ a ∷ b ∷ after → after ≡ c ∷ d ∷ rest
-    → is_high_surrogate (unit order a b) ≡ true → is_low_surrogate (unit order c d) ≡ false
-    → utf16_text order (bytes ++ more) ≡ char_text None ++ utf16_text order (after ++ more)
-no_low order a b c d bytes after rest more is more_is high low =
-    let lone = no_char (unit order a b) high in
-    rw (is, more_is) (rw lone at (text_lone order a b (c ∷ d ∷ rest ++ more) (λ pair. within_false 0xDC00 0xE000 _ low pair.2 pair.3)))
-
-pub pair : (order : ByteOrder) (a b c d : ℕ) (bytes after rest more : List ℕ) → bytes ≡ a ∷ b ∷ after → after ≡ c ∷ d ∷ rest
-    → is_high_surrogate (unit order a b) ≡ true → is_low_surrogate (unit order c d) ≡ true
-    → utf16_text order (bytes ++ more)
-    ≡ char_text (Some (surrogate_pair_char (unit order a b) (unit order c d))) ++ utf16_text order (rest ++ more)
-pair order a b c d bytes after rest more is more_is high low =
-    let one = within_true 0xD800 0xDC00 _ high in
-    let two = within_true 0xDC00 0xE000 _ low in
-    rw (is, more_is, utf16_chars_pair (unit order a b) (unit order c d) (units_in order (rest ++ more)) (one.0, one.1, two.0, two.1))
-    (append_assoc (char_text (Some (surrogate_pair_char (unit order a b) (unit order c d))))
-    (flat_map char_text (utf16_chars (units_in order (rest ++ more)))) (over_in (rest ++ more)))
+pub pair : (u v : ℕ) (us over : List ℕ) → is_high_surrogate u ≡ true → is_low_surrogate v ≡ true
+    → flat_map char_text (utf16_chars (u ∷ v ∷ us)) ++ over ≡ char_text (Some (surrogate_pair_char u v)) ++ (flat_map char_text (utf16_chars us) ++ over)
+pair u v us over high low =
+    let one = within 0xD800 0xDC00 u high in
+    let two = within 0xDC00 0xE000 v low in
+    rw (utf16_chars_pair u v us (one.0, one.1, two.0, two.1))
+    (append_assoc (char_text (Some (surrogate_pair_char u v))) (flat_map char_text (utf16_chars us)) over)
 
 -- ---- a unit as a character
 
@@ -84,10 +63,8 @@ too_short order [] short = rw utf16_chars-nil refl
 too_short order (a ∷ []) short = rw utf16_chars-nil refl
 too_short order (a ∷ b ∷ rest) short = absurd (omega arith)
 
-pub too_short_pair : (order : ByteOrder) (a b : ℕ) (bytes after : List ℕ) → bytes ≡ a ∷ b ∷ after → length after < 2
-    → is_high_surrogate (unit order a b) ≡ true → utf16_text order bytes ≡ unfinished bytes
-too_short_pair order a b bytes [] is short high =
-    rw is (rw (no_char (unit order a b) high, utf16_chars-nil) at (text_lone order a b [] (λ pair. omega (arith, pair.2))))
-too_short_pair order a b bytes (c ∷ []) is short high =
-    rw is (rw (no_char (unit order a b) high, utf16_chars-nil) at (text_lone order a b (c ∷ []) (λ pair. omega (arith, pair.2))))
-too_short_pair order a b bytes (c ∷ d ∷ rest) is short high = absurd (omega arith)
+pub too_short_pair : (order : ByteOrder) (a b : ℕ) (after : List ℕ) → length after < 2
+    → is_high_surrogate (unit order a b) ≡ true → utf16_text order (a ∷ b ∷ after) ≡ unfinished (a ∷ b ∷ after)
+too_short_pair order a b [] short high = rw (no_char (unit order a b) high, utf16_chars-nil) at (lone (unit order a b) [] [] (rw high refl))
+too_short_pair order a b (c ∷ []) short high = rw (no_char (unit order a b) high, utf16_chars-nil) at (lone (unit order a b) [] (over_in (c ∷ [])) (rw high refl))
+too_short_pair order a b (c ∷ d ∷ rest) short high = absurd (omega arith)

@@ -1,12 +1,11 @@
 -- Where a line ends, and what the lines of a text are that begins with a whole one.
-use Rattle.std.proofs.Common.{◌≡◌, ℕ, ◌+◌, ◌<◌, ◌≤◌, Bool, true, false, not, cond, eqb, ltb, Some, None, List, [], ◌∷◌, ◌++◌, length, take, drop, get_or, refl, ◌∙◌, ap, arith, length-take}
-use Rattle.std.specs.Prelude.{All}
+use Rattle.std.proofs.Common.{◌≡◌, ℕ, ◌+◌, ◌<◌, ◌≤◌, Bool, true, false, cond, eqb, ltb, Option, Some, None, List, [], ◌∷◌, ◌++◌, length, take, drop, get_or, refl, ◌∙◌, ap, arith, length-take}
+use Rattle.std.specs.Prelude.{All, unwrap_or}
 use Rattle.std.specs.List.{slice_split, position_or_len}
-use Rattle.std.proofs.lemmas.Bool.{not-true}
 use Rattle.std.proofs.lemmas.Bool.Decides.{nat_tests}
 use Rattle.std.proofs.lemmas.List.{drop_more, get_or-take}
 use Rattle.std.proofs.lemmas.List.Splits.{slice_split_at, slice_split_none, length-slice_split}
-use Rattle.std.proofs.lemmas.List.Sums.{prefix_len_passes, prefix_len_stops}
+use Rattle.std.proofs.lemmas.List.Sums.{fails_before_first, passes_at_first}
 use Rattle.sd_lines.specs.Lines.{HasNoEnd, end_byte, ended_line, lines_between, lines_in}
 use Rattle.sd_lines.specs.declared.ending.Ending.{Ending}
 use Rattle.sd_lines.specs.declared.ending.Ending.TheVariants.{Feed, Zero}
@@ -14,32 +13,24 @@ use Rattle.sd_lines.specs.declared.ending.Ending.TheVariants.{Feed, Zero}
 abbrev pub ends : Ending → ℕ → Bool
 ends ending b = eqb b (end_byte ending)
 
--- ---- the place that a search tells
-
-pub place_some : (b : Bool) (n i : ℕ) → Some i ≡ cond b (Some n) None → i ≡ n
-place_some true n i is = cc
-place_some false n i is = cc
-
-pub place_none : (n m : ℕ) → None ≡ cond (ltb n m) (Some n) None → m ≤ n
-place_none n m is = grind (arith, nat_tests)
-
 -- ---- where the first end stands
 
-is_end : (e b : ℕ) → not (eqb b e) ≡ false → b ≡ e
-is_end e b is = grind (arith, nat_tests)
+-- the place that a search finds, or else the end
+pub place_or_end : (place : Option ℕ) (n most : ℕ) → place ≡ cond (ltb n most) (Some n) None → n ≤ most → unwrap_or place most ≡ n
+place_or_end None n most is within = grind (arith, nat_tests)
+place_or_end (Some i) n most is within = grind (arith, nat_tests)
 
 pub end_at : (ending : Ending) (xs : List ℕ) → position_or_len (ends ending) xs < length xs
     → drop (position_or_len (ends ending) xs) xs ≡ end_byte ending ∷ drop 1 (drop (position_or_len (ends ending) xs) xs)
 end_at ending xs low =
     let n = position_or_len (ends ending) xs in
-    let first : get_or xs n 0 ≡ end_byte ending = is_end (end_byte ending) _ (prefix_len_stops (λ x. not (ends ending x)) xs 0 low) in
+    let first : get_or xs n 0 ≡ end_byte ending = let is = passes_at_first (ends ending) xs 0 low in grind (arith, nat_tests) in
     rw (drop_more xs n 0 low) (ap (λ y. y ∷ drop (n + 1) xs) first)
 
 pub none_before : (ending : Ending) (xs : List ℕ) → HasNoEnd ending (take (position_or_len (ends ending) xs) xs)
 none_before ending xs k d low =
-    let n = position_or_len (ends ending) xs in
-    let within : k < n = omega (arith, length-take n xs) in
-    rw (get_or-take n xs k d within) (not-true (ends ending (get_or xs k d)) (prefix_len_passes (λ x. not (ends ending x)) xs k d within))
+    let within : k < position_or_len (ends ending) xs = omega (arith, length-take (position_or_len (ends ending) xs) xs) in
+    rw (get_or-take _ xs k d within) (fails_before_first (ends ending) xs k d within)
 
 -- bytes that aren't ASCII end no line
 pub none_above : (ending : Ending) (bytes : List ℕ) → All (λ b. 128 ≤ b) bytes → HasNoEnd ending bytes
@@ -68,18 +59,12 @@ lines_cut ending line rest none =
     ap (lines_between ending) (slice_split_at (ends ending) line (end_byte ending) rest none (is_its_end ending))
     ∙ before_others ending line (slice_split (ends ending) rest) (omega (arith, length-slice_split (ends ending) rest))
 
-by_length : (w : List ℕ) (b : Bool) → eqb (length w) 0 ≡ b → 0 < length w → cond b [] (w ∷ []) ≡ w ∷ []
-by_length w true is some = absurd (grind (arith, nat_tests))
-by_length w false is some = refl
-
-last_part : (ending : Ending) (w : List ℕ) → 0 < length w → lines_between ending (w ∷ []) ≡ w ∷ []
-last_part Feed w some = by_length w (eqb (length w) 0) refl some
-last_part Zero w some = by_length w (eqb (length w) 0) refl some
-
 -- one that hasn't
 pub lines_last : (ending : Ending) (line : List ℕ) → HasNoEnd ending line → 0 < length line → lines_in ending line ≡ line ∷ []
-lines_last ending line none some =
-    ap (lines_between ending) (slice_split_none (ends ending) line none) ∙ last_part ending line some
+lines_last ending line none some = ap (lines_between ending) (slice_split_none (ends ending) line none) ∙ last_part ending line some where
+  last_part : (ending : Ending) (w : List ℕ) → 0 < length w → lines_between ending (w ∷ []) ≡ w ∷ []
+  last_part Feed w some = grind (arith, nat_tests)
+  last_part Zero w some = grind (arith, nat_tests)
 
 pub no_lines : (ending : Ending) → lines_in ending [] ≡ []
 no_lines Feed = refl

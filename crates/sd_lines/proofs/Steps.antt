@@ -1,9 +1,8 @@
 -- Lines that are answered as they end, and what is left where a run ends.
-use Rattle.std.proofs.Common.{◌≡◌, ℕ, ◌+◌, ◌-◌, ◌<◌, ◌≤◌, ◌&&◌, Bool, true, false, cond, ltb, lit<, List, [], ◌∷◌, ◌++◌, length, take, ◌⊎◌, Option, None, refl, sym, ◌∙◌, ap, append_assoc, append-nil, length-take, arith, inl, inr}
-use Rattle.std.specs.Prelude.{◌==◌, slice_index}
+use Rattle.std.proofs.Common.{◌≡◌, ℕ, ◌+◌, ◌-◌, ◌<◌, ◌≤◌, true, false, ltb, lit<, List, [], ◌∷◌, ◌++◌, length, take, ◌⊎◌, Option, refl, sym, ◌∙◌, ap, append_assoc, append-nil, length-take, arith, inl, inr}
 use Rattle.std.specs.Io.KnownBytes.{Appends, Consumes, IsAtEnd}
 use Rattle.std.proofs.KnownBytes.{Appends-trans, Consumes-all}
-use Rattle.std.proofs.lemmas.Bool.{cases_lt}
+use Rattle.std.proofs.lemmas.Bool.{and_parts, cases_lt}
 use Rattle.std.proofs.lemmas.Bool.Decides.{nat_tests}
 use Rattle.std.proofs.lemmas.List.{nil_from_length, take-append-le, take_all}
 use Rattle.std.proofs.lemmas.List.Elements.{All-append}
@@ -11,7 +10,7 @@ use Rattle.std.proofs.Math.Seq.{take-append-add}
 use Rattle.sd_lines.specs.Streams.{AppendsBeginning}
 use Rattle.sd_lines.specs.declared.input.TheConstants.{MAX_INPUT_BYTES}
 use Rattle.sd_lines.specs.Answers.{Answering, AreAnswered, Prints, PrintsAndLeaves, of_form}
-use Rattle.sd_lines.specs.Lines.{HasNoEnd, IsLong, asked_of, end_byte, ended_line, lines_in, text_of}
+use Rattle.sd_lines.specs.Lines.{HasNoEnd, IsEnded, IsLong, asked_of, end_byte, ended_line, lines_in, text_of}
 use Rattle.sd_lines.specs.Output.{AnswersEnded, AnswersPart, AppendsOutput}
 use Rattle.sd_lines.specs.Steps.{Answered, ends_run}
 use Rattle.sd_lines.specs.declared.ending.Ending.{Ending}
@@ -34,18 +33,8 @@ kept_more most begun part line is = rw is (by_length (cases_lt most (length begu
       let room : length begun + (most - length begun) ≡ most = omega arith in
       rw (take_all most begun within) (sym (rw room at (take-append-add begun part (most - length begun))))
 
-stops_off : (stops : Bool) (n : ℕ) → MAX_INPUT_BYTES < n → (stops && ltb MAX_INPUT_BYTES n) ≡ false → stops ≡ false
-stops_off true n long is = absurd (grind (arith, nat_tests))
-stops_off false n long is = refl
-
-asked_none : (form : Form) (l : List ℕ) → form.stops_at_long ≡ false → MAX_INPUT_BYTES < length l → asked_of form l ≡ None
-asked_none form l goes_on long = rw goes_on (grind (arith, nat_tests))
-
 one_less : (ending : Ending) (l : List ℕ) → length l ≤ length (ended_line ending l) + 1
-one_less Feed l = by_return (slice_index l (length l - 1) == 13) where
-  by_return : (has_return : Bool) → length l ≤ length (cond has_return (take (length l - 1) l) l) + 1
-  by_return true = omega (arith, length-take (length l - 1) l)
-  by_return false = omega arith
+one_less Feed l = let cut = length-take (length l - 1) l in grind (arith, nat_tests)
 one_less Zero l = omega arith
 
 -- what is asked of a line is asked of what is kept of it
@@ -55,8 +44,9 @@ asked_kept most form begun of enough shorter goes_on = by_length (cases_lt most 
   by_length : (most < length begun) ⊎ (length begun ≤ most) → asked_of form (of (take most begun)) ≡ asked_of form (of begun)
   by_length (inl over) =
       let full : length (take most begun) ≡ most = omega (arith, length-take most begun) in
-      let off : form.stops_at_long ≡ false = stops_off form.stops_at_long _ (omega arith) goes_on in
-      asked_none form (of (take most begun)) off (omega (arith, shorter (take most begun))) ∙ sym (asked_none form (of begun) off (omega (arith, shorter begun)))
+      let one = shorter (take most begun) in
+      let two = shorter begun in
+      grind (arith, nat_tests)
   by_length (inr within) = rw (take_all most begun within) refl
 
 pub beginning_after : (a b c : Option (List ℕ)) (before text : List ℕ)
@@ -68,22 +58,16 @@ beginning_after a b c before text first second = record {
   appended = Appends-trans a b c before second.done first second.appended;
 }
 
--- of the bytes that are left more are taken
-pub taken_on : (text taken more left bytes rest tail : List ℕ) → bytes ≡ taken ++ rest → rest ≡ more ++ left
-    → (text ++ bytes) ++ tail ≡ ((text ++ taken) ++ more) ++ (left ++ tail)
-taken_on text taken more left bytes rest tail first second = rw (first, second) (simp append_assoc)
-
 module _ {State : Type 0} {form : Form} {Answer : Answering State} {old : State} {start : Option (List ℕ)}
-    {text line unwritten : List ℕ} {new : State} {now : Option (List ℕ)} (a : Answered form Answer old start text new line unwritten now) where
+    {text line unwritten rest : List ℕ} {new : State} {now : Option (List ℕ)} (a : Answered form Answer old start text new line unwritten now rest) where
   -- a part of a line
-  pub part_kept : (part next : List ℕ) → HasNoEnd form.ending part
-      → next ≡ line ++ take (KEPT_BYTES - length line) part
-      → Answered form Answer old start (text ++ part) new next unwritten now
-  part_kept part next none grown = record {
+  pub part_kept : (part left next : List ℕ) → rest ≡ part ++ left → HasNoEnd form.ending part → next ≡ line ++ take (KEPT_BYTES - length line) part
+      → Answered form Answer old start text new next unwritten now left
+  part_kept part left next cut none grown = record {
     ended = a.ended;
     begun = a.begun ++ part;
     written = a.written;
-    parts = ap (λ l. l ++ part) a.parts ∙ append_assoc a.ended a.begun part;
+    parts = a.parts ∙ rw cut (simp append_assoc);
     whole = a.whole;
     unended = All-append (λ b. ends form.ending b ≡ false) a.begun part a.unended none;
     kept = grown ∙ kept_more KEPT_BYTES a.begun part line a.kept;
@@ -91,39 +75,30 @@ module _ {State : Type 0} {form : Form} {Answer : Answering State} {old : State}
     advances = a.advances;
   }
 
-  -- one that ends, and the answer to its line
-  pub line_answered : (part next printed : List ℕ) (later : State) → HasNoEnd form.ending part
-      → next ≡ line ++ take (KEPT_BYTES - length line) part
-      → ends_run form next ≡ false → Answer new (asked_of form (ended_line form.ending next)) printed later
-      → Answered form Answer old start (text ++ part ++ end_byte form.ending ∷ []) later [] (unwritten ++ printed) now
-  line_answered part next printed later none grown goes_on answer =
-      let whole = a.begun ++ part in
-      let unended : HasNoEnd form.ending whole = All-append (λ b. ends form.ending b ≡ false) a.begun part a.unended none in
+  -- its end, and the answer to the line
+  pub line_answered : (left printed : List ℕ) (later : State) → rest ≡ end_byte form.ending ∷ left
+      → ends_run form line ≡ false → Answer new (asked_of form (ended_line form.ending line)) printed later
+      → Answered form Answer old start text later [] (unwritten ++ printed) now left
+  line_answered left printed later cut goes_on answer =
       let end = end_byte form.ending in
-      let kept : next ≡ take KEPT_BYTES whole = grown ∙ kept_more KEPT_BYTES a.begun part line a.kept in
-      let asked = rw (asked_kept KEPT_BYTES form whole (ended_line form.ending) (lit< tt) (one_less form.ending) (rw kept at goes_on)) at (rw kept at answer) in
+      let asked = rw (asked_kept KEPT_BYTES form a.begun (ended_line form.ending) (lit< tt) (one_less form.ending) (rw (a.kept) at goes_on)) at (rw (a.kept) at answer) in
       record {
-        ended = a.ended ++ whole ++ end ∷ [];
+        ended = a.ended ++ (a.begun ++ end ∷ []);
         begun = [];
         written = a.written;
-        parts = rw (append-nil _) (ap (λ l. l ++ end ∷ []) (ap (λ l. l ++ part) a.parts ∙ append_assoc a.ended a.begun part));
-        whole = inr (a.ended ++ whole, refl);
+        parts = a.parts ∙ rw cut (simp append_assoc);
+        whole = inr (a.ended ++ a.begun, sym (append_assoc a.ended a.begun (end ∷ [])));
         unended = λ k d low. absurd (omega (arith, low));
         kept = refl;
         appended = a.appended;
-        advances = λ rest back last answered.
-            rw (
-              append_assoc (a.ended ++ whole) (end ∷ []) rest,
-              append_assoc a.ended whole (end ∷ rest),
-              ← append_assoc a.written unwritten printed,
-              append_assoc (a.written ++ unwritten) printed back,
-            )
-            (a.advances (whole ++ end ∷ rest) (printed ++ back) last
-            (rw (lines_cut form.ending whole rest unended) (printed, later, back, asked, answered, refl)));
+        advances = λ more back last answered.
+            rw (append_assoc a.ended (a.begun ++ end ∷ []) more, append_assoc a.begun (end ∷ []) more, append_assoc unwritten printed back)
+            (a.advances (a.begun ++ end ∷ more) (printed ++ back) last
+            (rw (lines_cut form.ending a.begun more a.unended) (printed, later, back, asked, answered, refl)));
       }
 
   -- the answers are written
-  pub all_written : (after : Option (List ℕ)) → Appends now after unwritten → Answered form Answer old start text new line [] after
+  pub all_written : (after : Option (List ℕ)) → Appends now after unwritten → Answered form Answer old start text new line [] after rest
   all_written after wrote = record {
     ended = a.ended;
     begun = a.begun;
@@ -133,97 +108,88 @@ module _ {State : Type 0} {form : Form} {Answer : Answering State} {old : State}
     unended = a.unended;
     kept = a.kept;
     appended = Appends-trans start now after a.written unwritten a.appended wrote;
-    advances = rw (append-nil (a.written ++ unwritten)) a.advances;
+    advances = λ more back last answered. rw (append_assoc a.written unwritten back) (a.advances more back last answered);
   }
 
-  -- ---- what is left
+  -- the last line, where it lacks its end
 
+  pub no_last : rest ≡ [] → line ≡ [] → AreAnswered (of_form form Answer) new (lines_in form.ending (a.begun ++ rest)) [] new
+  no_last end none =
+      let nothing : a.begun ≡ [] = nil_from_length a.begun (omega (arith, length-take KEPT_BYTES a.begun, ap length (sym a.kept ∙ none))) in
+      rw (nothing, end, no_lines form.ending) (refl, refl)
+
+  pub one_last : (printed : List ℕ) (last : State) → rest ≡ [] → 0 < length line → ends_run form line ≡ false → Answer new (asked_of form line) printed last
+      → AreAnswered (of_form form Answer) new (lines_in form.ending (a.begun ++ rest)) printed last
+  one_last printed last end some goes_on answer =
+      let asked = rw (asked_kept KEPT_BYTES form a.begun (λ l. l) (lit< tt) (λ l. omega arith) (rw (a.kept) at goes_on)) at (rw (a.kept) at answer) in
+      rw (end, append-nil a.begun, lines_last form.ending a.begun a.unended (omega (arith, length-take KEPT_BYTES a.begun, ap length a.kept)))
+      (printed, last, [], asked, (refl, refl), sym (append-nil printed))
+
+-- ---- what is left
+
+module _ {State : Type 0} {form : Form} {Answer : Answering State} {old : State} {start : Option (List ℕ)}
+    {line unwritten rest : List ℕ} {new : State} {now : Option (List ℕ)} (read : List ℕ)
+    (a : Answered form Answer old start (text_of form read) new line unwritten now rest) (input left : Option (List ℕ)) (consumed : Consumes input left read) where
   ended_answered : AreAnswered (of_form form Answer) old (lines_in form.ending a.ended) (a.written ++ unwritten) new
   ended_answered =
-      rw (append-nil a.ended, append-nil (a.written ++ unwritten)) at (a.advances [] [] new (rw (no_lines form.ending) (refl, refl)))
+      rw (append-nil a.ended, append-nil unwritten) at (a.advances [] [] new (rw (no_lines form.ending) (refl, refl)))
 
-  pub leaves_ended : {Behind : List ℕ → Type 0} (input left : Option (List ℕ)) (read tail : List ℕ) → unwritten ≡ []
-      → Consumes input left read → text_of form read ≡ text ++ tail → Behind (a.begun ++ tail)
-      → AnswersEnded (Prints form Answer old) form Behind input left start now
-  leaves_ended input left read tail none consumed decodes behind = record {
+  pub leaves_ended : {Behind : List ℕ → Type 0} → unwritten ≡ [] → Behind (a.begun ++ rest) → AnswersEnded (Prints form Answer old) form Behind input left start now
+  leaves_ended none behind = record {
     read = read;
     ended = a.ended;
-    behind = a.begun ++ tail;
+    behind = a.begun ++ rest;
     printed = a.written;
     consumed = consumed;
-    parts = decodes ∙ ap (λ l. l ++ tail) a.parts ∙ append_assoc a.ended a.begun tail;
+    parts = a.parts;
     whole = a.whole;
     rest = behind;
     output = (new, rw (none, append-nil a.written) at ended_answered);
     appended = a.appended;
   }
 
-  -- a line that ends the run
-  pub leaves_long : (input left : Option (List ℕ)) (read tail : List ℕ) → unwritten ≡ [] → ends_run form line ≡ true
-      → Consumes input left read → text_of form read ≡ text ++ tail
+  -- by a line that ends the run
+  pub leaves_long : unwritten ≡ [] → ends_run form line ≡ true
       → (form.stops_at_long ≡ true) × AnswersEnded (Prints form Answer old) form (IsLong form.ending) input left start now
-  leaves_long input left read tail none is_long consumed decodes =
-      let long = by_tests form.stops_at_long (length (take KEPT_BYTES a.begun)) (rw (a.kept) at is_long) in (
-        long.0,
-        leaves_ended input left read tail none consumed decodes
-            (a.begun, tail, refl, a.unended, omega (arith, length-take KEPT_BYTES a.begun, long.1)),
-      ) where
-        by_tests : (stops : Bool) (n : ℕ) → (stops && ltb MAX_INPUT_BYTES n) ≡ true → (stops ≡ true) × (MAX_INPUT_BYTES < n)
-        by_tests true n is = (refl, grind (arith, nat_tests))
-        by_tests false n is = absurd (cc is)
+  leaves_long none is_long =
+      let long = and_parts form.stops_at_long (ltb MAX_INPUT_BYTES (length line)) is_long in
+      let more : MAX_INPUT_BYTES < length line = let test = long.1 in grind (arith, nat_tests) in
+      (long.0, leaves_ended none (a.begun, rest, refl, a.unended, omega (arith, length-take KEPT_BYTES a.begun, ap length a.kept)))
 
-  pub leaves_part : (after input left : Option (List ℕ)) (read tail : List ℕ) → AppendsBeginning now after unwritten
-      → Consumes input left read → text_of form read ≡ text ++ tail
-      → AnswersPart (Prints form Answer old) form input left start after
-  leaves_part after input left read tail beginning consumed decodes = record {
-    read = read;
-    text = a.ended;
-    behind = a.begun ++ tail;
-    printed = a.written ++ unwritten;
-    consumed = consumed;
-    parts = decodes ∙ ap (λ l. l ++ tail) a.parts ∙ append_assoc a.ended a.begun tail;
-    whole = inl a.whole;
-    output = (new, ended_answered);
-    beginning = beginning_after start now after a.written unwritten a.appended beginning;
-  }
-
-  -- ---- the last line, where it lacks its end
-
-  pub no_last : line ≡ [] → AreAnswered (of_form form Answer) new (lines_in form.ending a.begun) [] new
-  no_last none =
-      let nothing : a.begun ≡ [] = nil_from_length a.begun (omega (arith, length-take KEPT_BYTES a.begun, ap length (sym a.kept ∙ none))) in
-      rw (nothing, no_lines form.ending) (refl, refl)
-
-  pub one_last : (printed : List ℕ) (last : State) → 0 < length line → ends_run form line ≡ false → Answer new (asked_of form line) printed last
-      → AreAnswered (of_form form Answer) new (lines_in form.ending a.begun) printed last
-  one_last printed last some goes_on answer =
-      let asked = rw (asked_kept KEPT_BYTES form a.begun (λ l. l) (lit< tt) (λ l. omega arith) (rw (a.kept) at goes_on)) at (rw (a.kept) at answer) in
-      rw (lines_last form.ending a.begun a.unended (omega (arith, length-take KEPT_BYTES a.begun, ap length a.kept)))
-      (printed, last, [], asked, (refl, refl), sym (append-nil printed))
-
-  module _ (printed : List ℕ) (last : State) (answered : AreAnswered (of_form form Answer) new (lines_in form.ending a.begun) printed last)
-      (after input left : Option (List ℕ)) (read : List ℕ) (none : unwritten ≡ []) (consumed : Consumes input left read) (end : IsAtEnd left)
-      (decodes : text_of form read ≡ text) where
-    all_answered : PrintsAndLeaves form Answer old read (a.written ++ printed) last
-    all_answered = rw (decodes ∙ a.parts) (rw (none, append-nil a.written) at (a.advances a.begun printed last answered))
-
-    pub all_appended : Appends now after printed
-        → AppendsOutput (λ text printed. PrintsAndLeaves form Answer old text printed last) input start after
-    all_appended wrote = record {
-      printed = a.written ++ printed;
-      output = (read, Consumes-all input left read [] read consumed end refl, all_answered);
-      appended = Appends-trans start now after a.written printed a.appended wrote;
-    }
-
-    pub part_appended : AppendsBeginning now after printed → AnswersPart (Prints form Answer old) form input left start after
-    part_appended wrote = record {
+  module _ (after : Option (List ℕ)) where
+    -- by a write that failed, of the answers to this text
+    part_left : (text behind printed : List ℕ) (last : State) → text_of form read ≡ text ++ behind
+        → IsEnded form.ending text ⊎ (IsAtEnd left × (behind ≡ [])) → AreAnswered (of_form form Answer) old (lines_in form.ending text) (a.written ++ printed) last
+        → AppendsBeginning now after printed → AnswersPart (Prints form Answer old) form input left start after
+    part_left text behind printed last parts whole answered beginning = record {
       read = read;
-      text = text_of form read;
-      behind = [];
+      text = text;
+      behind = behind;
       printed = a.written ++ printed;
       consumed = consumed;
-      parts = sym (append-nil (text_of form read));
-      whole = inr (end, refl);
-      output = (last, all_answered);
-      beginning = beginning_after start now after a.written printed a.appended wrote;
+      parts = parts;
+      whole = whole;
+      output = (last, answered);
+      beginning = beginning_after start now after a.written printed a.appended beginning;
     }
+
+    pub leaves_part : AppendsBeginning now after unwritten → AnswersPart (Prints form Answer old) form input left start after
+    leaves_part wrote = part_left a.ended (a.begun ++ rest) unwritten new a.parts (inl a.whole) ended_answered wrote
+
+    -- at the end of the input, where these are the last answers
+    module _ (printed : List ℕ) (last : State) (answered : AreAnswered (of_form form Answer) new (lines_in form.ending (a.begun ++ rest)) printed last)
+        (end : IsAtEnd left) where
+      all_answered : PrintsAndLeaves form Answer old read (a.written ++ (unwritten ++ printed)) last
+      all_answered = rw (a.parts) (a.advances (a.begun ++ rest) printed last answered)
+
+      pub all_appended : Appends now after (unwritten ++ printed)
+          → AppendsOutput (λ text printed. PrintsAndLeaves form Answer old text printed last) input start after
+      all_appended wrote = record {
+        printed = a.written ++ (unwritten ++ printed);
+        output = (read, Consumes-all input left read [] read consumed end refl, all_answered);
+        appended = Appends-trans start now after a.written (unwritten ++ printed) a.appended wrote;
+      }
+
+      pub part_appended : AppendsBeginning now after (unwritten ++ printed) → AnswersPart (Prints form Answer old) form input left start after
+      part_appended wrote =
+          part_left (text_of form read) [] (unwritten ++ printed) last (sym (append-nil (text_of form read))) (inr (end, refl)) all_answered wrote

@@ -15,9 +15,8 @@ unit Big first second = 256 * first + second
 
 -- the units that the bytes are, without a byte over
 abbrev pub units_in : ByteOrder → List ℕ → List ℕ
-units_in order [] = []
-units_in order (a ∷ []) = []
 units_in order (a ∷ b ∷ rest) = unit order a b ∷ units_in order rest
+units_in order bytes = []
 
 -- a byte over is no character
 abbrev pub over_in : List ℕ → List ℕ
@@ -36,6 +35,5 @@ utf16_text order bytes = flat_map char_text (utf16_chars (units_in order bytes))
 -- the same of bytes that end before a character does
 abbrev pub unfinished : List ℕ → List ℕ
 unfinished [] = []
-unfinished (a ∷ []) = NO_CHARACTER ∷ []
-unfinished (a ∷ b ∷ []) = NO_CHARACTER ∷ []
-unfinished (a ∷ b ∷ rest) = NO_CHARACTER ∷ NO_CHARACTER ∷ []
+unfinished (a ∷ b ∷ c ∷ rest) = NO_CHARACTER ∷ NO_CHARACTER ∷ []
+unfinished bytes = NO_CHARACTER ∷ []

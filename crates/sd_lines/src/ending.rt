@@ -30,10 +30,10 @@ impl Ending {
         ensures within { result ≤ length bytes.now }
     {
         let end = self.byte();
-        match bytes.iter().position(|byte| *byte == end) {
-            Some(place) => place,
-            None => bytes.len(),
-        }
+        bytes
+            .iter()
+            .position(|byte| *byte == end)
+            .unwrap_or(bytes.len())
     }
 
     /// The bytes before the first end of a line, and those from there on; none if no line ends in the bytes.

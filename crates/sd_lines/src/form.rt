@@ -43,11 +43,7 @@ impl Form {
     pub(crate) fn asked(self, line: &[u8]) -> Option<&[u8]>
         ensures { option_map (λ bytes. bytes.now) result ≡ asked_of self line.now }
     {
-        if self.stops_at_long || line.len() <= MAX_INPUT_BYTES {
-            Some(line)
-        } else {
-            None
-        }
+        (self.stops_at_long || line.len() <= MAX_INPUT_BYTES).then_some(line)
     }
 
     /// Whether a line is too long, and that ends the run.

@@ -27,8 +27,5 @@ pub fn write_whole<W: Write>(writer: &mut Watched<W>, text: &[u8]) -> Result<(),
             Ok(taken) => rest = &rest[taken..],
         }
     }
-    match writer.flush() {
-        Ok(()) => Ok(()),
-        Err(_) => Err(RunError::Write),
-    }
+    writer.flush().map_err(|_| RunError::Write)
 }

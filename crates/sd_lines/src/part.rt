@@ -1,6 +1,6 @@
 //! The lines that end in a part of an input.
 
-ghost use Rattle.std.specs.Prelude.{◌≡◌, ◌||◌, ◌++◌, ◌<◌, ℕ, List, [], false, Option, IfOk, IfErr, OnOk, length};
+ghost use Rattle.std.specs.Prelude.{◌≡◌, ◌||◌, ◌<◌, ℕ, List, [], false, Option, IfOk, IfErr, OnOk, length};
 ghost use Rattle.sd_lines.specs.Watched.{inner_of, has_failed};
 ghost use Rattle.sd_lines.specs.Streams.{is_read_error, is_write_error};
 ghost use Rattle.sd_lines.specs.Steps.{Continues, Stops, ends_run};
@@ -23,11 +23,11 @@ pub(crate) fn answer_parts<A: AnswersLines, W: Write>(
     writer: &mut Watched<W>,
 ) -> Result<(), RunError>
     requires { ends_run form line.old.items ≡ false }
-    ensures ok { OnOk result (Continues form (A.answers answers.now) bytes.now
-        state.old line.old.items [] (W.contents (inner_of writer.old))
-        state.new line.new.items [] (W.contents (inner_of writer.new))) }
-    ensures err { IfErr result (Stops form (A.answers answers.now) bytes.now
-        state.old line.old.items (W.contents (inner_of writer.old)) (W.contents (inner_of writer.new))) }
+    ensures ok { OnOk result (Continues form (A.answers answers.now)
+        state.old line.old.items [] (W.contents (inner_of writer.old)) bytes.now
+        state.new line.new.items [] (W.contents (inner_of writer.new)) []) }
+    ensures err { IfErr result (Stops form (A.answers answers.now)
+        state.old line.old.items (W.contents (inner_of writer.old)) bytes.now (W.contents (inner_of writer.new))) }
     ensures only { is_read_error result ≡ false }
     ensures goes_on { OnOk result (ends_run form line.new.items ≡ false) }
     ensures failed { has_failed writer.new ≡ (has_failed writer.old || is_write_error result) }
@@ -54,9 +54,9 @@ fn append_answers<'a, A: AnswersLines>(
     bytes: &'a [u8],
     text: &mut Vec<u8>,
 ) -> Result<&'a [u8], AllocError>
-    ensures takes { IfOk result (λ left. (taken : List ℕ) × (bytes.now ≡ taken ++ left.now)
-        × ((now : Option (List ℕ)) → Continues form (A.answers answers.now) taken
-        state.old line.old.items text.old.items now state.new line.new.items text.new.items now)) }
+    ensures takes { IfOk result (λ left. (now : Option (List ℕ)) → Continues form (A.answers answers.now)
+        state.old line.old.items text.old.items now bytes.now
+        state.new line.new.items text.new.items now left.now) }
     ensures less { IfOk result (λ left. ends_run form line.new.items ≡ false → 0 < length bytes.now
         → length left.now < length bytes.now) }
 {

@@ -1,10 +1,11 @@
 //! The lines of one stream, and their answers in another.
 
-ghost use Rattle.std.specs.Prelude.{◌≡◌, ◌||◌, IfErr, OnOk};
+ghost use Rattle.std.specs.Prelude.{◌≡◌, ◌||◌, false, IfErr, OnOk};
 ghost use Rattle.sd_lines.specs.Watched.{inner_of, has_failed};
 ghost use Rattle.sd_lines.specs.Streams.{is_read_error, is_write_error};
 ghost use Rattle.sd_lines.specs.Answers.{Prints, PrintsAndLeaves};
 ghost use Rattle.sd_lines.specs.Output.{AppendsOutput, LeavesAnswers};
+ghost use Rattle.sd_lines.specs.Steps.{EndsWith, ends_run};
 
 use crate::answers::AnswersLines;
 use crate::form::Form;
@@ -54,16 +55,9 @@ pub fn answer_lines<A: AnswersLines, R: Read, W: Write>(
             Err(_) => return Err(RunError::Read),
             Ok(0) => {
                 decoder.end(&mut decoded)?;
-                answer_parts(
+                return answer_end(
                     alloc, answers, state, form, &mut line, &decoded, &mut text, writer,
-                )?;
-                if line.is_empty() {
-                    return Ok(());
-                }
-                text.clear();
-                answers.answer(alloc, state, form.asked(&line), &mut text)?;
-                write_whole(writer, &text)?;
-                return Ok(());
+                );
             }
             Ok(count) => {
                 decoder.decode(alloc, &buffer[..count], &mut decoded)?;
@@ -75,4 +69,38 @@ pub fn answer_lines<A: AnswersLines, R: Read, W: Write>(
     }
     // (no run gets here)
     Err(RunError::Memory)
+}
+
+/// Writes the answers to the lines in the bytes with which an input ends. The last line may lack its end.
+fn answer_end<A: AnswersLines, W: Write>(
+    alloc: Global,
+    answers: &A,
+    state: &mut A::State,
+    form: Form,
+    line: &mut Vec<u8>,
+    bytes: &[u8],
+    text: &mut Vec<u8>,
+    writer: &mut Watched<W>,
+) -> Result<(), RunError>
+    requires { ends_run form line.old.items ≡ false }
+    ensures ok { OnOk result (EndsWith form (A.answers answers.now)
+        state.old line.old.items (W.contents (inner_of writer.old)) bytes.now
+        (λ old start input left. AppendsOutput
+        (λ text printed. PrintsAndLeaves form (A.answers answers.now) old text printed state.new)
+        input start (W.contents (inner_of writer.new)))) }
+    ensures err { IfErr result (λ error. EndsWith form (A.answers answers.now)
+        state.old line.old.items (W.contents (inner_of writer.old)) bytes.now
+        (λ old start input left. LeavesAnswers form (Prints form (A.answers answers.now) old)
+        input left start (W.contents (inner_of writer.new)) error)) }
+    ensures only { is_read_error result ≡ false }
+    ensures failed { has_failed writer.new ≡ (has_failed writer.old || is_write_error result) }
+{
+    answer_parts(alloc, answers, state, form, line, bytes, text, writer)?;
+    if line.is_empty() {
+        return Ok(());
+    }
+    text.clear();
+    answers.answer(alloc, state, form.asked(line), text)?;
+    write_whole(writer, text)?;
+    Ok(())
 }

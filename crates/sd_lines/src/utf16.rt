@@ -1,6 +1,6 @@
 //! UTF-16 as bytes, character by character (RFC 2781).
 
-ghost use Rattle.std.specs.Prelude.{◌≡◌, ◌<◌, ◌≤◌, ◌++◌, ℕ, List, true, IfOk, IfNone, IfSome, OnOk, length};
+ghost use Rattle.std.specs.Prelude.{◌≡◌, ◌<◌, ◌≤◌, ◌^◌, ◌∷◌, ◌++◌, ℕ, List, true, IfOk, IfNone, IfSome, OnOk, length};
 ghost use Rattle.std.specs.Char.Utf16.{is_high_surrogate, is_low_surrogate, surrogate_pair_char};
 ghost use Rattle.sd_lines.specs.Utf16.{char_text, unfinished, unit, utf16_text};
 
@@ -28,6 +28,20 @@ impl ByteOrder {
         }
     }
 
+    /// The first unit of the bytes and the bytes after it. `None`: there are fewer than two.
+    fn first_unit(self, bytes: &[u8]) -> Option<(u16, &[u8])>
+        ensures some { IfSome result (λ first. (a : ℕ) × (b : ℕ)
+            × (first.0 ≡ unit self a b) × (bytes.now ≡ a ∷ b ∷ first.1.now)) }
+        ensures fits { IfSome result (λ first. first.0 < 2 ^ 16) }
+        ensures less { IfSome result (λ first. length first.1.now < length bytes.now) }
+        ensures none { IfNone result (length bytes.now < 2) }
+    {
+        match bytes {
+            [first, second, after @ ..] => Some((self.unit(*first, *second), after)),
+            _ => None,
+        }
+    }
+
     /// The first character of the bytes and the bytes after it; no character at a surrogate without its partner.
     /// `None`: the bytes end before it does.
     fn first_char(self, bytes: &[u8]) -> Option<(Option<char>, &[u8])>
@@ -36,17 +50,11 @@ impl ByteOrder {
         ensures less { IfSome result (λ first. length first.1.now < length bytes.now) }
         ensures none { IfNone result (utf16_text self bytes.now ≡ unfinished bytes.now) }
     {
-        let [first, second, after @ ..] = bytes else {
-            return None;
-        };
-        let high = self.unit(*first, *second);
+        let (high, after) = self.first_unit(bytes)?;
         if !is_high_surrogate(high) {
             return Some((char::from_u32(u32::from(high)), after));
         }
-        let [first, second, after_pair @ ..] = after else {
-            return None;
-        };
-        let low = self.unit(*first, *second);
+        let (low, after_pair) = self.first_unit(after)?;
         if is_low_surrogate(low) {
             Some((char::from_u32(pair_code(high, low)), after_pair))
         } else {

@@ -54,9 +54,7 @@ impl<R: Read> Read for Watched<R> {
         ensures failed { has_failed self.new ≡ (has_failed self.old || is_err result) }
     {
         let answer = self.inner.read(buf);
-        if answer.is_err() {
-            self.failed = true;
-        }
+        self.failed |= answer.is_err();
         answer
     }
 }
@@ -71,13 +69,10 @@ impl<W: Write> Write for Watched<W> {
         ensures failed { has_failed self.new ≡ (has_failed self.old || is_lost result buf.now) }
     {
         let answer = self.inner.write(buf);
-        let is_lost = match answer {
+        self.failed |= match answer {
             Ok(taken) => taken == 0 && !buf.is_empty(),
             Err(_) => true,
         };
-        if is_lost {
-            self.failed = true;
-        }
         answer
     }
 
@@ -86,9 +81,7 @@ impl<W: Write> Write for Watched<W> {
         ensures failed { has_failed self.new ≡ (has_failed self.old || is_err result) }
     {
         let answer = self.inner.flush();
-        if answer.is_err() {
-            self.failed = true;
-        }
+        self.failed |= answer.is_err();
         answer
     }
 }

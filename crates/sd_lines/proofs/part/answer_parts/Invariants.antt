@@ -1,15 +1,13 @@
-use Rattle.std.proofs.Common.{◌≡◌, false, ℕ, List, [], ◌++◌, length}
+use Rattle.std.proofs.Common.{◌≡◌, false, [], length}
 use Rattle.sd_lines.specs.Watched.{inner_of, has_failed}
 use Rattle.sd_lines.specs.Steps.{Continues, ends_run}
 use Rattle.sd_lines.proofs.part.answer_parts.Given as goal
 
 abbrev pub invariant-loop-rest : goal.invariant-loop-rest
 invariant-loop-rest g l = record {
-  taken : List ℕ;
-  parts : l.initial.rest ≡ taken ++ l.rest;
-  continues : Continues l.form (g.A.AnswersLines.answers l.answers) taken
-      l.initial.state l.initial.line.items [] (g.W.Write.contents (inner_of l.initial.writer))
-      l.state l.line.items [] (g.W.Write.contents (inner_of l.writer));
+  continues : Continues l.form (g.A.AnswersLines.answers l.answers)
+      l.initial.state l.initial.line.items [] (g.W.Write.contents (inner_of l.initial.writer)) l.initial.rest
+      l.state l.line.items [] (g.W.Write.contents (inner_of l.writer)) l.rest;
   goes_on : ends_run l.form l.line.items ≡ false;
   unfailed : has_failed l.writer ≡ has_failed l.initial.writer;
 }

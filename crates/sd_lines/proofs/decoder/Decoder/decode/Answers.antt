@@ -1,13 +1,12 @@
 use Rattle.std.proofs.Common.{◌≡◌, ℕ, List, ◌++◌, refl, append_assoc, ◌∙◌}
 use Rattle.sd_lines.specs.Decoder.{text_by, text_in}
 use Rattle.sd_lines.specs.declared.decoder.Coding.{Coding}
-use Rattle.sd_lines.specs.declared.decoder.Coding.TheVariants.{Unknown, Utf8, Utf16}
+use Rattle.sd_lines.specs.declared.decoder.Coding.TheVariants.{Utf8}
 use Rattle.sd_lines.proofs.decoder.Decoder.decode.Goals as goal
 
 held_text : (coding : Coding) (held more : List ℕ) → (coding ≡ Utf8 → ⊥) → text_in coding held more ≡ text_by coding (held ++ more)
-held_text Unknown held more other = refl
 held_text Utf8 held more other = absurd (other refl)
-held_text (Utf16 order) held more other = refl
+held_text coding held more other = refl
 
 pub returns : goal.returns
 returns c =

@@ -1,10 +1,7 @@
-use Rattle.std.proofs.Common.{sym, take-append-drop, length-drop, arith}
+use Rattle.std.proofs.Common.{length-drop, arith}
 use Rattle.std.proofs.lemmas.List.{take_rest}
 use Rattle.sd_lines.proofs.Cutting.{end_at, none_before}
 use Rattle.sd_lines.proofs.ending.Ending.split.Goals as goal
-
-pub returns-clause-parts : goal.returns-clause-parts
-returns-clause-parts c = rw (take_rest c.args.bytes.now c.place-end.result) (sym (take-append-drop c.place-end.result c.args.bytes.now))
 
 pub returns-clause-none : goal.returns-clause-none
 returns-clause-none c = rw c.place-end.ensures.place (none_before c.args.self c.args.bytes.now)
