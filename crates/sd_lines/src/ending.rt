@@ -58,7 +58,7 @@ impl Ending {
 }
 
 /// The first line of a text, and the text after it.
-pub fn first_line(ending: Ending, text: &[u8]) -> (&[u8], &[u8])
+pub(crate) fn first_line(ending: Ending, text: &[u8]) -> (&[u8], &[u8])
     requires { 0 < length text.now }
     ensures lines { lines_in ending text.now ≡ result.0.now ∷ lines_in ending result.1.now }
     ensures less { length result.1.now < length text.now }
@@ -72,7 +72,7 @@ pub fn first_line(ending: Ending, text: &[u8]) -> (&[u8], &[u8])
 }
 
 /// A line without one carriage return at its end.
-fn without_return(line: &[u8]) -> &[u8]
+pub fn without_return(line: &[u8]) -> &[u8]
     ensures { result.now ≡ strip_carriage_return line.now }
 {
     match line.split_last() {
