@@ -1,15 +1,13 @@
--- The word is the one at the place.
 use Rattle.std.proofs.Common.{ap₂, string_bytes, subst, ◌∙◌}
 use Rattle.std.proofs.lemmas.Result.{IfOk-weaker}
 use Rattle.sd_commands.specs.Diagnostic.{IsWordReason, told_line, word_argument}
-use Rattle.sd_commands.proofs.Arguments.{word_is}
 use Rattle.sd_commands.proofs.settings.Command.word_fault.Goals as goal
 
 pub returns : goal.returns
 returns c =
     let place = c.args.place in
     let reason = string_bytes c.in_ok-reason.reason in
-    let same = word_is c.args.words.now place _ c.requires.within in
+    let same = c.argument-word.ensures in
     IfOk-weaker c.token_fault.result _ _ (λ answer is. (
       place,
       c.requires.first,
