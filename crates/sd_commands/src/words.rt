@@ -6,10 +6,7 @@ ghost use Rattle.sd_commands.specs.Answer.{argument};
 pub(crate) fn argument<'a>(arguments: &'a [&'a str], place: usize) -> &'a str
     ensures { result.now ≡ argument arguments.entry.now place }
 {
-    match arguments.get(place) {
-        Some(text) => text,
-        None => "",
-    }
+    arguments.get(place).copied().unwrap_or("")
 }
 
 /// The items from the place on.
