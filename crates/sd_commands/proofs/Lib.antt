@@ -2,4 +2,3 @@ pub mod CharStart
 pub mod Commas
 pub mod BytesByPart
 pub mod SortedOrder
-pub mod Arguments

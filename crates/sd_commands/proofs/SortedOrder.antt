@@ -1,5 +1,5 @@
 -- A sorted list is in canonical order and takes as many bytes as before, and one that is in that order stays as it is.
-use Rattle.std.proofs.Common.{◌≡◌, ◌∙◌, Bool, false, not, ◌&&◌, List, [], ◌∷◌, ◌++◌, ◌+◌, filter, sum_by, refl, arith}
+use Rattle.std.proofs.Common.{◌≡◌, ◌∙◌, Bool, false, not, ◌&&◌, List, [], ◌∷◌, ◌++◌, ◌+◌, filter, refl, sym, arith}
 use Rattle.std.specs.Prelude.{◌||◌}
 use Rattle.std.specs.List.{list_any}
 use Rattle.std.proofs.lemmas.Bool.{not-true}
@@ -7,17 +7,14 @@ use Rattle.std.proofs.lemmas.Bool.Decides.{nat_tests}
 use Rattle.std.proofs.lemmas.Map.Views.{any-filter_same}
 use Rattle.std.proofs.lemmas.List.{append-nil}
 use Rattle.std.proofs.lemmas.List.Elements.{filter-append}
-use Rattle.std.proofs.lemmas.List.Folds.{list_any-append}
+use Rattle.std.proofs.lemmas.List.Filters.{sum_by-filter_both}
+use Rattle.std.proofs.lemmas.List.Sorted.{IsPermutation-filter_both, list_any-IsPermutation}
+use Rattle.std.proofs.Math.Bool.{not-not}
 use Rattle.sd_acl.specs.Canonical.{allows, canonical_order, denies, deny_behind_allow, explicit_behind_inherited, is_explicit, is_inherited}
 use Rattle.sd_acl.specs.declared.ace.Ace.{Ace}
-use Rattle.std.proofs.lemmas.List.Sums.{sum_by-append, sum_by-cons}
+use Rattle.std.proofs.lemmas.List.Sums.{sum_by-append}
 use Rattle.sd_acl.specs.Ace.{ace_size, acl_size_of}
 use Rattle.sd_commands.specs.Sort.{CanonicalStays, SortedIsCanonical, sorted}
-
--- what none passes, none of a part does
-any_filter : (test p : Ace → Bool) (es : List Ace) → list_any test es ≡ false → list_any test (filter p es) ≡ false
-any_filter test p [] none = refl
-any_filter test p (e ∷ es) none = let more = any_filter test p es in grind (arith, nat_tests, more)
 
 -- in a part by the test none fails it; where none does, all is such a part
 passes : (q : Ace → Bool) (es : List Ace) → list_any (λ e. not (q e)) (filter q es) ≡ false
@@ -51,9 +48,8 @@ sorted_canonical es =
     let front = canonical_order explicit in
     let back = filter is_inherited es in
     let alone : list_any (λ e. not (is_explicit e)) front ≡ false =
-    let here = any_filter (λ (e : Ace). not (is_explicit e)) in
-    list_any-append _ (filter denies explicit) (filter allows explicit)
-    ∙ rw (here denies explicit (passes is_explicit es), here allows explicit (passes is_explicit es)) refl in
+    sym (list_any-IsPermutation _ explicit front (IsPermutation-filter_both denies allows (λ e. sym (not-not (allows e))) explicit))
+    ∙ passes is_explicit es in
     let origin = behind_both is_inherited explicit_behind_inherited refl (λ _ _. refl) front back alone (passes is_inherited es) in
     let kind = behind_both allows deny_behind_allow refl (λ _ _. refl) (filter denies explicit) (filter allows explicit) (passes denies explicit) (passes allows explicit) in
     let own = filter-append is_explicit front back in
@@ -69,12 +65,7 @@ canonical_stays es is =
 
 -- ---- the size
 
-both_sides : (p : Ace → Bool) (es : List Ace)
-    → sum_by ace_size (filter (λ e. not (p e)) es) + sum_by ace_size (filter p es) ≡ sum_by ace_size es
-both_sides p [] = refl
-both_sides p (e ∷ es) = let more = both_sides p es in grind (arith, nat_tests, sum_by-cons ace_size, more)
-
 pub sorted_size : (es : List Ace) → acl_size_of (sorted es) ≡ acl_size_of es
 sorted_size es =
     let explicit = filter is_explicit es in
-    omega (arith, sum_by-append ace_size (canonical_order explicit) (filter is_inherited es), sum_by-append ace_size (filter denies explicit) (filter allows explicit), both_sides allows explicit, both_sides is_inherited es)
+    omega (arith, sum_by-append ace_size (canonical_order explicit) (filter is_inherited es), sum_by-append ace_size (filter denies explicit) (filter allows explicit), sum_by-filter_both allows denies (λ e. refl) ace_size explicit, sum_by-filter_both is_inherited is_explicit (λ e. refl) ace_size es)

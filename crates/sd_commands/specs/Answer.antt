@@ -1,12 +1,14 @@
 -- What a command about a descriptor prints as an answer, and whether it did what was asked for. The arguments are read
 -- from left to right, and the first that isn't read is told as a fault.
-use Rattle.std.specs.Prelude.{◌≡◌, ◌⊎◌, ℕ, Bool, true, false, MatchBool, List, [], ◌∷◌, ◌++◌, Result, Ok, Err, codes}
-use Rattle.std.specs.Prelude.{Option, Some, None, string_bytes, drop, slice_get}
+use Rattle.std.specs.Prelude.{◌≡◌, ◌⊎◌, ℕ, Bool, MatchBool, List, [], ◌∷◌, ◌++◌, Result, Ok, Err, codes}
+use Rattle.std.specs.Prelude.{Option, Some, None, string_bytes, drop, if◌then◌else◌, slice_get}
 use Rattle.std.specs.Option.{option_map_or}
 use Rattle.std.specs.Borrow.{Bor}
 use Rattle.hex.specs.Hex.{encode_lower}
 use Rattle.sd_sid.specs.Sid.{SidValue}
+use Rattle.sd_acl.specs.Dacl.{Dacl}
 use Rattle.sd_acl.specs.Descriptor.{DescriptorValue, descriptor_of}
+use Rattle.sd_acl.specs.declared.descriptor.DaclOf.TheVariants.{Absent, Null, List as Entries}
 use Rattle.sd_check.specs.declared.verdict.Verdict.{Verdict}
 use Rattle.sd_check.specs.declared.verdict.Verdict.TheVariants.{Granted}
 use Rattle.sd_text.specs.Fault.{StandsIn}
@@ -38,12 +40,11 @@ use Rattle.sd_commands.specs.Analysis.{AreAccesses, compare_outcome, parts_in}
 use Rattle.sd_commands.specs.Bytes.{BytesRead, bytes_read, form_name, has_sacl, without_sacl}
 use Rattle.sd_usage.specs.declared.row.TextCommand.{TextCommand}
 use Rattle.sd_usage.specs.declared.row.TextCommand.TheVariants as questions
-use Rattle.sd_commands.specs.MissingDacl.{missing_dacl}
 use Rattle.sd_commands.specs.Pointer.{pointed}
 use Rattle.sd_commands.specs.Risks.{risk_lines}
 use Rattle.sd_commands.specs.Sort.{move_notes, sorted_descriptor}
 use Rattle.sd_commands.specs.Diagnostic.{at_byte, fault_text, sacl_note, sddl_fault_text, told_line, told_wire_fault}
-use Rattle.sd_commands.specs.Diagnostic.{wire_fault_text, word_argument, word_at}
+use Rattle.sd_commands.specs.Diagnostic.{wire_fault_text, word_argument}
 use Rattle.sd_commands.specs.Diagnostic.{IsStateReason, IsWordReason}
 use Rattle.sd_commands.specs.declared.answer.Answer.{Answer}
 use Rattle.sd_commands.specs.declared.answer.DescriptorCommand.{DescriptorCommand}
@@ -71,10 +72,6 @@ wire_fault_line fault = line (codes "fault wire " ++ wire_fault_text fault)
 abbrev pub outcome_status : Outcome → ℕ
 outcome_status Done = 0
 outcome_status Refused = 1
-
-abbrev pub is_refusal : Outcome → Bool
-is_refusal Done = false
-is_refusal Refused = true
 
 -- ---- answers
 
@@ -144,6 +141,16 @@ abbrev pub Noting : List ℕ → Bool → (AnswerValue → Type 0) → AnswerVal
 Noting argument left_out Answers answer =
     (inner : AnswerValue) × IsNoted argument left_out inner answer × Answers inner
 
+-- what a DACL is in place of a list of entries
+abbrev pub without_list : Dacl → Option (List ℕ)
+without_list Absent = Some (codes "no DACL")
+without_list Null = Some (codes "a null DACL")
+without_list (Entries es) = None
+
+-- the same where a list is required, under `--require-dacl`: without one everything is granted ([MS-DTYP] 2.5.3.2)
+abbrev pub missing_dacl : Bool → Dacl → Option (List ℕ)
+missing_dacl is_required dacl = if is_required then without_list dacl else None
+
 -- the descriptor lacks the list that is required
 abbrev pub IsMissingDacl : List ℕ → List ℕ → AnswerValue → Type 0
 IsMissingDacl argument missing answer = IsFault (fault_line (codes "nodacl")) (told_line argument missing) answer
@@ -194,18 +201,18 @@ IsVerdict settings form d token asked answer =
     (verdict_outcome (verdict d.owner (dacl_entries d.dacl) settings.mapping token asked)) answer
 
 -- the first of the words that is none, and why
-abbrev pub IsFirstFault : (List (List ℕ) → ℕ → Type 0) → (List ℕ → List ℕ → Type 0) → List (List ℕ) → AnswerValue
+abbrev pub IsFirstFault : (List (List ℕ) → ℕ → Type 0) → (List ℕ → List ℕ → Type 0) → List (Bor (List ℕ)) → AnswerValue
     → Type 0
 IsFirstFault IsFirst IsReason words answer =
-    (place : ℕ) × IsFirst words place
-    × (reason : List ℕ) × IsReason (word_at words place) reason
-    × IsTokenFault place (word_at words place) reason answer
+    (place : ℕ) × IsFirst (texts words) place
+    × (reason : List ℕ) × IsReason (argument words place) reason
+    × IsTokenFault place (argument words place) reason answer
 
-abbrev pub IsWordFault : Settings → List (List ℕ) → AnswerValue → Type 0
+abbrev pub IsWordFault : Settings → List (Bor (List ℕ)) → AnswerValue → Type 0
 IsWordFault settings =
     IsFirstFault (IsFirstNoWord settings.aliases) (IsWordReason settings.points settings.aliases)
 
-abbrev pub IsGroupFault : Settings → List (List ℕ) → AnswerValue → Type 0
+abbrev pub IsGroupFault : Settings → List (Bor (List ℕ)) → AnswerValue → Type 0
 IsGroupFault settings =
     IsFirstFault (IsFirstNoGroup settings.aliases) (IsStateReason settings.points settings.aliases)
 
@@ -214,13 +221,13 @@ abbrev pub AnswersWords : Settings → Form → DescriptorValue → SidValue →
 AnswersWords settings form d user asked words answer =
     ((token : TokenValue) × IsToken settings.aliases user (texts words) token
     × IsVerdict settings form d token asked answer)
-    ⊎ IsWordFault settings (texts words) answer
+    ⊎ IsWordFault settings words answer
 
-abbrev pub AnswersUser : Settings → Form → List ℕ → List ℕ → List (Bor (List ℕ)) → DescriptorValue → AnswerValue
-    → Type 0
-AnswersUser settings form user mask words d =
-    AnswersOfSid (codes "USER") settings user
-    (λ sid. AnswersOfMask settings mask (λ asked. AnswersWords settings form d sid asked words))
+-- the arguments are the user, the mask and words
+abbrev pub AnswersUser : Settings → Form → List (Bor (List ℕ)) → DescriptorValue → AnswerValue → Type 0
+AnswersUser settings form arguments d = AnswersOfSid (codes "USER") settings (argument arguments 0)
+    (λ user. AnswersOfMask settings (argument arguments 1)
+    (λ asked. AnswersWords settings form d user asked (drop 2 arguments)))
 
 -- ---- other forms
 
@@ -269,7 +276,7 @@ abbrev pub AnswersOfBase : Settings → List (Bor (List ℕ)) → (List (SidValu
     → AnswerValue → Type 0
 AnswersOfBase settings words Answers answer =
     ((base : List (SidValue × GroupState)) × AreGroups settings.aliases (texts words) base × Answers base answer)
-    ⊎ IsGroupFault settings (texts words) answer
+    ⊎ IsGroupFault settings words answer
 
 -- whom the rights are granted to is printed
 abbrev pub PrintsWho : Settings → ℕ → DescriptorValue → List (SidValue × GroupState) → AnswerValue → Type 0
@@ -289,18 +296,10 @@ PrintsComparison settings old new base answer =
 
 -- ---- findings
 
--- or that there is none, and whether there is
-abbrev pub or_clean : List ℕ → List ℕ
-or_clean [] = line (codes "clean")
-or_clean (b ∷ bs) = b ∷ bs
-
-abbrev pub lint_outcome : List ℕ → Outcome
-lint_outcome [] = Done
-lint_outcome (b ∷ bs) = Refused
-
 -- the findings are printed, or that there are none
 abbrev pub IsLinted : List ℕ → AnswerValue → Type 0
-IsLinted lines = IsAnswer (or_clean lines) [] (lint_outcome lines)
+IsLinted [] answer = IsDone (line (codes "clean")) answer
+IsLinted (b ∷ bs) answer = IsAnswer (b ∷ bs) [] Refused answer
 
 abbrev pub PrintsFindings : Settings → DescriptorValue → List (SidValue × GroupState) → AnswerValue → Type 0
 PrintsFindings settings d base answer = (lines : List ℕ) × IsLintText settings.mapping settings.spelling base d lines
@@ -321,10 +320,8 @@ AnswersSid settings text = AnswersOfSid (codes "SID") settings text (λ sid. IsD
 -- what is answered of a descriptor, where these are the arguments after it: the user, the mask and words; the mask and
 -- a base; the new descriptor and a base; or a base
 abbrev pub AnswersOn : Settings → DescriptorCommand → List (Bor (List ℕ)) → DescriptorValue → AnswerValue → Type 0
-AnswersOn settings about.Verdict arguments d =
-    AnswersUser settings Short (argument arguments 0) (argument arguments 1) (drop 2 arguments) d
-AnswersOn settings about.Why arguments d =
-    AnswersUser settings Explained (argument arguments 0) (argument arguments 1) (drop 2 arguments) d
+AnswersOn settings about.Verdict arguments d = AnswersUser settings Short arguments d
+AnswersOn settings about.Why arguments d = AnswersUser settings Explained arguments d
 AnswersOn settings about.Who arguments d = AnswersOfMask settings (argument arguments 0)
     (λ asked. AnswersOfBase settings (drop 1 arguments) (PrintsWho settings asked d))
 AnswersOn settings about.Compare arguments old = AnswersOfArgument (codes "NEW") settings (argument arguments 0)

@@ -3,6 +3,7 @@ use Rattle.std.specs.Prelude.{◌≡◌, ℕ, ◌+◌, ◌==◌, ◌&&◌, ◌||
 use Rattle.std.specs.Prelude.{drop, filter, Option, Some, None, slice_index, slice_set, bit_and, Result}
 use Rattle.std.specs.Prelude.{Ok, Err, if◌then◌else◌, codes}
 use Rattle.std.specs.List.{slice_split}
+use Rattle.std.specs.Result.{result_map_both}
 use Rattle.base64.specs.Engines.{standard}
 use Rattle.base64.specs.GeneralPurpose as base64
 use Rattle.base64.specs.declared.decode.DecodeError.{DecodeError}
@@ -36,8 +37,7 @@ base64_reason text (InvalidLastSymbol place symbol value) = (codes "no last digi
 base64_reason text InvalidPadding = (codes "no padding", length text)
 
 abbrev pub reasoned : {E : Type 0} → (E → List ℕ × ℕ) → Result (List ℕ) E → BytesRead
-reasoned reason (Ok bytes) = Ok bytes
-reasoned reason (Err e) = Err (reason e)
+reasoned reason = result_map_both (λ bytes. bytes) reason
 
 -- ---- values as other tools write them
 
@@ -81,17 +81,12 @@ value_read text (Some (values.Base64 place)) =
     reasoned (λ error. no_bytes place)
     (base64.decode_of standard (filter (λ b. not (is_blank_byte b)) (drop place text)))
 
--- the descriptor in them
-abbrev pub held : BytesRead → BytesRead
-held (Ok bytes) = Ok (descriptor_in bytes)
-held (Err reason) = Err reason
-
 -- ---- by form
 
 -- the bytes that the text spells, or why it spells none
 abbrev pub bytes_read : ByteForm → List ℕ → BytesRead
 bytes_read Hex text = reasoned (hex_reason text) (hex.decode_of text)
-bytes_read Loose text = held (value_read text (value_in text))
+bytes_read Loose text = result_map_both descriptor_in (λ reason. reason) (value_read text (value_in text))
 bytes_read Base64 text = reasoned (base64_reason text) (base64.decode_of standard text)
 
 abbrev pub IsBytesError : BytesRead → BytesError → Type 0

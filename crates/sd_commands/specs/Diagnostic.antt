@@ -1,8 +1,8 @@
 -- What standard error is told beside an answer: which argument isn't read, and why; or that a SACL is left out.
-use Rattle.std.specs.Prelude.{◌≡◌, ◌⊎◌, ℕ, ◌+◌, ◌==◌, Bool, false, MatchBool, List, [], ◌∷◌, ◌++◌, get_or, take}
+use Rattle.std.specs.Prelude.{◌≡◌, ◌⊎◌, ℕ, ◌+◌, ◌==◌, Bool, false, MatchBool, List, [], ◌∷◌, ◌++◌}
 use Rattle.std.specs.Prelude.{if◌then◌else◌, codes}
 use Rattle.std.specs.Fmt.{decimal}
-use Rattle.std.specs.List.{position_or_len}
+use Rattle.std.specs.List.{before_first}
 use Rattle.sd_sid.specs.Sid.{SidValue}
 use Rattle.sd_text.specs.Fault.{number_of, name_of}
 use Rattle.sd_text.specs.Grammar.{Spells, HasFault}
@@ -66,20 +66,16 @@ IsSidReason points known unfit text reason =
     ⊎ ((fault : TextFault) × (place : ℕ) × HasFault (sid_text_in known) text fault place
     × (reason ≡ fault_text points text fault place))
 
--- how long the SID of a word is: as far as the first `=`, or all of it
-abbrev pub sid_length : List ℕ → ℕ
-sid_length word = position_or_len (λ b. b == 61) word
+-- the SID of a word: what stands before the first `=`, or all of it
+abbrev pub sid_of : List ℕ → List ℕ
+sid_of word = before_first (λ b. b == 61) word
 
 -- why a text is no SID with a state
 abbrev pub IsStateReason : Bool → Aliases → List ℕ → List ℕ → Type 0
 IsStateReason points known word reason =
-    IsSidReason points known (codes "no such state") (take (sid_length word) word) reason
+    IsSidReason points known (codes "no such state") (sid_of word) reason
 
 -- why a text is no word
 abbrev pub IsWordReason : Bool → Aliases → List ℕ → List ℕ → Type 0
 IsWordReason points known word reason = MatchBool (begins_by_plus word) (reason ≡ codes "no such privilege")
     (IsStateReason points known word reason)
-
--- the word at a place
-abbrev pub word_at : List (List ℕ) → ℕ → List ℕ
-word_at words place = get_or words place []

@@ -5,7 +5,6 @@ pub mod Diagnostic
 pub mod Escaped
 pub mod Kinds
 pub mod Mapping
-pub mod MissingDacl
 pub mod Pointer
 pub mod Risks
 pub mod Sort

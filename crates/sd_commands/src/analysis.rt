@@ -5,13 +5,13 @@ ghost use Rattle.sd_analysis.specs.Sufficient.{parts_of};
 ghost use Rattle.sd_answer.specs.Word.{IsFirstNoGroup, texts};
 ghost use Rattle.sd_check.specs.Check.{dacl_entries, entries_of};
 ghost use Rattle.sd_commands.specs.Analysis.{compare_outcome, parts_in};
-ghost use Rattle.sd_commands.specs.Answer.{AnswersOfBase, AnswersOn};
-ghost use Rattle.sd_commands.specs.Answer.{IsGroupFault, PrintsComparison, PrintsWho, answer_of};
+ghost use Rattle.sd_commands.specs.Answer.{AnswersOfBase, AnswersOn, IsGroupFault, PrintsComparison};
+ghost use Rattle.sd_commands.specs.Answer.{PrintsWho, answer_of};
 
 use crate::answer::{Answer, Answered, DescriptorCommand, Outcome};
 use crate::descriptor::{Given, noting};
 use crate::settings::Command;
-use crate::words::{argument, arguments_from};
+use crate::words::{argument, items_from};
 use sd_acl::{Dacl, Descriptor};
 use sd_analysis::{Base, Comparison, DescriptorRef, compare, who};
 use sd_answer::{TokenError, compare_text, read_base, read_mask_in, rights_asked, who_text};
@@ -31,7 +31,7 @@ impl Command {
             Ok(asked) => asked,
             Err(error) => return self.text_fault("mask", "MASK", mask, error),
         };
-        let words = arguments_from(arguments, 1);
+        let words = items_from(arguments, 1);
         match read_base(self.alloc, self.settings.aliases, words) {
             Ok(groups) => self.who_lines(descriptor, asked, &groups),
             Err(TokenError::NoWord { place }) => self.group_fault(words, place),
@@ -60,9 +60,9 @@ impl Command {
     pub(crate) fn group_fault(self, words: &[&str], place: usize) -> Answered
         requires first { IsFirstNoGroup self.settings.aliases (texts words.now) place }
         requires within { place < length words.now }
-        ensures { IfOk result (λ answer. IsGroupFault self.settings (texts words.now) (answer_of answer)) }
+        ensures { IfOk result (λ answer. IsGroupFault self.settings words.now (answer_of answer)) }
     {
-        let word = words[place];
+        let word = argument(words, place);
         let reason = self.state_reason(word)?;
         self.token_fault(place, word, reason.as_str())
     }
@@ -77,7 +77,7 @@ impl Command {
             Given::Descriptor(read) => read,
             Given::Refused(answer) => return Ok(answer),
         };
-        let words = arguments_from(arguments, 1);
+        let words = items_from(arguments, 1);
         let answer = self.compare_with_base(old, &read.descriptor, words)?;
         Ok(noting(self.alloc, "NEW", read.left_out, answer)?)
     }
@@ -86,20 +86,14 @@ impl Command {
         ensures { IfOk result (λ answer. AnswersOfBase self.settings words.now
             (PrintsComparison self.settings (descriptor_of old.now) (descriptor_of new.now)) (answer_of answer)) }
     {
-        match read_base(self.alloc, self.settings.aliases, words) {
-            Ok(groups) => self.compare_lines(old, new, &Base { groups: &groups }),
-            Err(TokenError::NoWord { place }) => self.group_fault(words, place),
-            Err(TokenError::Memory) => Err(AllocError),
-        }
-    }
-
-    fn compare_lines(self, old: &Descriptor, new: &Descriptor, base: &Base<'_>) -> Answered
-        ensures { IfOk result
-            (λ answer. PrintsComparison self.settings (descriptor_of old.now) (descriptor_of new.now) base.now
-            (answer_of answer)) }
-    {
+        let groups = match read_base(self.alloc, self.settings.aliases, words) {
+            Ok(groups) => groups,
+            Err(TokenError::NoWord { place }) => return self.group_fault(words, place),
+            Err(TokenError::Memory) => return Err(AllocError),
+        };
         let (old, new) = (descriptor_ref(old), descriptor_ref(new));
-        let comparison = compare(self.alloc, &old, &new, &self.settings.mapping, base)?;
+        let (base, mapping) = (Base { groups: &groups }, &self.settings.mapping);
+        let comparison = compare(self.alloc, &old, &new, mapping, &base)?;
         let text = compare_text(self.alloc, self.settings.spelling, &old, &new, &comparison)?;
         Ok(Answer::of(self.alloc, text, compare_outcome(&comparison)))
     }

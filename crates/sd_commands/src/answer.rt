@@ -3,7 +3,7 @@ ghost use Rattle.std.specs.Prelude.{◌≡◌, ◌<◌, ◌^◌, [], IfOk, strin
 ghost use Rattle.sd_answer.specs.Answer.{fault_line, sddl_fault_line};
 ghost use Rattle.sd_acl.specs.Descriptor.{descriptor_of};
 ghost use Rattle.sd_commands.specs.Answer.{AnswersOfArgument, AnswersOn, AnswersQuestion, IsAnswer, IsDone, IsFault};
-ghost use Rattle.sd_commands.specs.Answer.{IsFaultOf, IsTokenFault, answer_of, is_refusal, outcome_status};
+ghost use Rattle.sd_commands.specs.Answer.{IsFaultOf, IsTokenFault, answer_of, outcome_status};
 ghost use Rattle.sd_commands.specs.Diagnostic.{sddl_fault_text, told_line};
 
 use crate::descriptor::{Given, noting};
@@ -34,13 +34,6 @@ impl Outcome {
             Outcome::Done => 0,
             Outcome::Refused => 1,
         }
-    }
-
-    /// Whether what was asked for wasn't done.
-    pub fn is_refusal(self) -> bool
-        ensures { result ≡ is_refusal self }
-    {
-        matches!(self, Outcome::Refused)
     }
 }
 

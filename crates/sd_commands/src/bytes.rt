@@ -2,7 +2,7 @@
 ghost use Rattle.std.specs.Prelude.{◌≡◌, Err, IfErr, IfOk, Ok};
 ghost use Rattle.sd_commands.specs.declared.bytes.BytesError.TheVariants.{Memory};
 ghost use Rattle.sd_commands.specs.declared.settings.ByteForm.TheVariants.{Hex, Loose, Base64};
-ghost use Rattle.sd_commands.specs.Bytes.{IsBytesError, base64_reason, bytes_read, form_name, has_sacl, hex_reason};
+ghost use Rattle.sd_commands.specs.Bytes.{IsBytesError, base64_reason, bytes_read, form_name, has_sacl};
 ghost use Rattle.sd_commands.specs.Bytes.{without_sacl};
 
 use crate::loose::loose_bytes;
@@ -11,7 +11,7 @@ use crate::value::descriptor_in;
 use base64::engine::general_purpose::STANDARD;
 use base64::{DecodeAllocError, DecodeError};
 use hex::FromHexError;
-use std::alloc::{AllocError, AllocFailed, Global};
+use std::alloc::{AllocError, Global};
 
 /// Why a text is no bytes.
 #[derive(Debug, Drop)]
@@ -30,12 +30,11 @@ impl From<AllocError> for BytesError {
     }
 }
 
-impl<T: Drop> From<AllocFailed<T>> for BytesError {
-    ghost from_gives = { λ _ e. e ≡ Memory };
-
-    fn from(_error: AllocFailed<T>) -> BytesError {
-        BytesError::Memory
-    }
+/// That no bytes are spelled, since this is wrong at this place.
+pub(crate) fn no_bytes(what: &'static str, place: usize) -> BytesError
+    ensures { IsBytesError (Err (what.now, place)) result }
+{
+    BytesError::NoBytes { what, place }
 }
 
 impl ByteForm {
@@ -77,21 +76,10 @@ fn hex_bytes(alloc: Global, text: &str) -> Result<Vec<u8>, BytesError>
 {
     match hex::decode(alloc, text) {
         Ok(bytes) => Ok(bytes),
+        Err(FromHexError::InvalidHexCharacter { c: _, index }) => Err(no_bytes("no digit", index)),
+        Err(FromHexError::OddLength) => Err(no_bytes("no second digit", text.len())),
+        Err(FromHexError::InvalidStringLength) => Err(no_bytes("no bytes", 0)),
         Err(FromHexError::OutOfMemory) => Err(BytesError::Memory),
-        Err(error) => {
-            let (what, place) = hex_reason(text, error);
-            Err(BytesError::NoBytes { what, place })
-        }
-    }
-}
-
-fn hex_reason(text: &str, error: FromHexError) -> (&'static str, usize)
-    ensures { (result.0.now, result.1) ≡ hex_reason text.now error }
-{
-    match error {
-        FromHexError::InvalidHexCharacter { c: _, index } => ("no digit", index),
-        FromHexError::OddLength => ("no second digit", text.len()),
-        FromHexError::InvalidStringLength | FromHexError::OutOfMemory => ("no bytes", 0),
     }
 }
 
@@ -102,21 +90,18 @@ fn base64_bytes(alloc: Global, text: &str) -> Result<Vec<u8>, BytesError>
     match STANDARD.decode(alloc, text.as_bytes()) {
         Ok(bytes) => Ok(bytes),
         Err(DecodeAllocError::OutOfMemory) => Err(BytesError::Memory),
-        Err(DecodeAllocError::DecodeError(error)) => {
-            let (what, place) = base64_reason(text, error);
-            Err(BytesError::NoBytes { what, place })
-        }
+        Err(DecodeAllocError::DecodeError(error)) => Err(base64_error(text, error)),
     }
 }
 
-fn base64_reason(text: &str, error: DecodeError) -> (&'static str, usize)
-    ensures { (result.0.now, result.1) ≡ base64_reason text.now error }
+fn base64_error(text: &str, error: DecodeError) -> BytesError
+    ensures { IsBytesError (Err (base64_reason text.now error)) result }
 {
     match error {
-        DecodeError::InvalidByte(place, _) => ("no digit", place),
-        DecodeError::InvalidLength(place) => ("no end", place),
-        DecodeError::InvalidLastSymbol { offset, .. } => ("no last digit", offset),
-        DecodeError::InvalidPadding => ("no padding", text.len()),
+        DecodeError::InvalidByte(place, _) => no_bytes("no digit", place),
+        DecodeError::InvalidLength(place) => no_bytes("no end", place),
+        DecodeError::InvalidLastSymbol { offset, .. } => no_bytes("no last digit", offset),
+        DecodeError::InvalidPadding => no_bytes("no padding", text.len()),
     }
 }
 

@@ -5,16 +5,14 @@ ghost use Rattle.hex.specs.Hex.{encode_lower};
 ghost use Rattle.sd_wire.specs.Writing.{wire_of};
 ghost use Rattle.sd_answer.specs.Answer.{line};
 ghost use Rattle.sd_commands.specs.Diagnostic.{told_line, told_wire_fault};
-ghost use Rattle.sd_commands.specs.Answer.{AnswersBytes, AnswersFit, AnswersFromBinary};
+ghost use Rattle.sd_commands.specs.Answer.{AnswersBytes, AnswersFromBinary};
 ghost use Rattle.sd_commands.specs.Answer.{AnswersHeld, IsDone, IsFault, answer_of, printed_line, wire_fault_line};
-ghost use Rattle.sd_commands.specs.MissingDacl.{missing_dacl};
 
 use crate::answer::{Answer, Answered, Outcome};
 use crate::bytes::{BytesError, leave_out_sacl, read_bytes};
-use crate::descriptor::noting;
+use crate::descriptor::{missing_dacl, noting};
 use crate::diagnostic::{text_at_byte, told_line};
 use crate::kinds::wire_kind_note;
-use crate::missing_dacl::missing_dacl;
 use crate::settings::Command;
 use sd_acl::Descriptor;
 use sd_text::print_sddl_in;
@@ -66,32 +64,23 @@ impl Command {
         Ok(noting(self.alloc, "BYTES", left_out, answer)?)
     }
 
-    /// The printed text of what the bytes hold.
+    /// The printed text of what the bytes hold, if it has the list that is required.
     fn answer_held(self, bytes: &[u8]) -> Answered
         ensures { IfOk result (λ answer. AnswersHeld self.settings bytes.now (answer_of answer)) }
     {
         match read_descriptor(self.alloc, bytes) {
-            Ok(descriptor) => self.answer_fit(&descriptor),
+            Ok(descriptor) => match missing_dacl(self.settings, &descriptor.dacl) {
+                None => self.print(&descriptor),
+                Some(missing) => self.fault("nodacl", "BYTES", missing),
+            },
             Err(WireError::Fault(fault)) => wire_fault(self.alloc, bytes, fault),
             Err(WireError::Memory) => Err(AllocError),
-        }
-    }
-
-    /// The printed text of a descriptor, if it has the list that is required.
-    fn answer_fit(self, descriptor: &Descriptor) -> Answered
-        ensures { IfOk result
-            (λ answer. AnswersFit self.settings (missing_dacl self.settings.require_dacl descriptor.now.dacl)
-            (descriptor_of descriptor.now) (answer_of answer)) }
-    {
-        match missing_dacl(self.settings, &descriptor.dacl) {
-            None => self.print(descriptor),
-            Some(missing) => self.fault("nodacl", "BYTES", missing),
         }
     }
 }
 
 /// The answer that is a line of this text.
-fn printed(alloc: Global, mut text: String) -> Answered
+pub(crate) fn printed(alloc: Global, mut text: String) -> Answered
     ensures { IfOk result (λ answer. IsDone (line (string_bytes text)) (answer_of answer)) }
 {
     text.push_str("\n")?;

@@ -1,11 +1,11 @@
 //! The descriptor that an argument's text is, with a SACL that is left out where that is asked for.
-ghost use Rattle.std.specs.Prelude.{IfOk};
-ghost use Rattle.sd_commands.specs.Answer.{IsGiven, IsNoted, answer_of};
+ghost use Rattle.std.specs.Prelude.{◌≡◌, IfOk, option_map};
+ghost use Rattle.sd_commands.specs.Answer.{IsGiven, IsNoted, answer_of, missing_dacl};
 
 use crate::answer::{Answer, Answered};
 use crate::diagnostic::told_line;
-use crate::missing_dacl::missing_dacl;
-use crate::settings::Command;
+use crate::settings::{Command, Settings};
+use sd_acl::Dacl;
 use sd_answer::read_sddl_argument;
 use sd_text::{TextError, WithoutSacl};
 use std::alloc::{AllocError, Global};
@@ -39,6 +39,18 @@ impl Command {
                 Ok(Given::Refused(answer))
             }
         }
+    }
+}
+
+/// What the DACL is in place of a list, where a list is required ([MS-DTYP] 2.5.3.2: without one everything is
+/// granted).
+pub(crate) fn missing_dacl(settings: Settings, dacl: &Dacl) -> Option<&'static str>
+    ensures { option_map (λ text. text.now) result ≡ missing_dacl settings.require_dacl dacl.now }
+{
+    match dacl {
+        Dacl::Absent if settings.require_dacl => Some("no DACL"),
+        Dacl::Null if settings.require_dacl => Some("a null DACL"),
+        _ => None,
     }
 }
 

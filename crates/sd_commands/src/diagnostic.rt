@@ -1,15 +1,14 @@
 //! What standard error is told beside an answer: which argument isn't read, and why.
 ghost use Rattle.std.specs.Prelude.{◌≡◌, ◌<◌, ◌^◌, ◌++◌, IfOk, string_bytes};
 ghost use Rattle.sd_commands.specs.Pointer.{pointed};
-ghost use Rattle.sd_commands.specs.Diagnostic.{IsSidReason, IsStateReason, IsWordReason, at_byte, begins_by_plus};
-ghost use Rattle.sd_commands.specs.Diagnostic.{fault_name, fault_text, sddl_fault_text, told_line};
+ghost use Rattle.sd_commands.specs.Diagnostic.{IsSidReason, IsStateReason, IsWordReason, at_byte};
+ghost use Rattle.sd_commands.specs.Diagnostic.{fault_name, fault_text, sddl_fault_text, sid_of, told_line};
 ghost use Rattle.sd_commands.specs.Diagnostic.{word_argument};
 
 use crate::escaped::escaped_word;
 use crate::kinds::kind_note;
 use crate::pointer::with_pointer;
 use crate::settings::Command;
-use crate::words::sid_length;
 use sd_text::{Aliases, TextError, TextFault, read_sid_text_in};
 use std::alloc::{AllocError, Global};
 
@@ -108,7 +107,7 @@ impl Command {
         ensures { IfOk result (λ reason. IsWordReason self.now.settings.points self.now.settings.aliases word.now
             (string_bytes reason)) }
     {
-        if begins_by_plus(word) {
+        if matches!(word.as_bytes(), [b'+', ..]) {
             return String::from_str(self.alloc, "no such privilege");
         }
         self.state_reason(word)
@@ -119,18 +118,17 @@ impl Command {
         ensures { IfOk result (λ reason. IsStateReason self.now.settings.points self.now.settings.aliases word.now
             (string_bytes reason)) }
     {
-        let (sid, _) = word.split_at(sid_length(word));
         let (points, known) = (self.settings.points, self.settings.aliases);
-        sid_reason(self.alloc, points, known, "no such state", sid)
+        sid_reason(self.alloc, points, known, "no such state", sid_of(word))
     }
 }
 
-fn begins_by_plus(word: &str) -> bool
-    ensures { result ≡ begins_by_plus word.now }
+fn sid_of(word: &str) -> &str
+    ensures { result.now ≡ sid_of word.now }
 {
-    match word.as_bytes() {
-        [] => false,
-        [first, ..] => *first == b'+',
+    match word.split_once('=') {
+        Some((sid, _)) => sid,
+        None => word,
     }
 }
 

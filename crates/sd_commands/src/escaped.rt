@@ -1,5 +1,5 @@
 //! A word of a command line, as a message shows it.
-ghost use Rattle.std.specs.Prelude.{◌≡◌, IfOk, drop, string_bytes, take};
+ghost use Rattle.std.specs.Prelude.{◌≡◌, ◌++◌, IfOk, OnOk, drop, string_bytes, take};
 ghost use Rattle.std.specs.Str.{chars};
 ghost use Rattle.sd_commands.specs.Escaped.{is_hidden, escaped, escaped_char, escaped_chars};
 
@@ -25,23 +25,19 @@ pub(crate) fn escaped_part(
 {
     let mut shown = String::new(alloc);
     for c in text.chars().skip(start).take(count) {
-        let c = escaped_char(alloc, c)?;
-        shown.push_str(c.as_str())?;
+        push_escaped(&mut shown, c)?;
     }
     Ok(shown)
 }
 
-fn escaped_char(alloc: Global, c: char) -> Result<String, AllocError>
-    ensures { IfOk result (λ text. string_bytes text ≡ escaped_char c) }
+fn push_escaped(shown: &mut String, c: char) -> Result<(), AllocError>
+    ensures { OnOk result (string_bytes shown.new ≡ string_bytes shown.old ++ escaped_char c) }
 {
     if is_hidden(c) {
         let code = u32::from(c);
-        let text = format!(in alloc; "\\u{{{code:x}}}")?;
-        Ok(text)
+        write!(shown, "\\u{{{code:x}}}")
     } else {
-        let mut text = String::new(alloc);
-        text.push(c)?;
-        Ok(text)
+        shown.push(c)
     }
 }
 

@@ -3,7 +3,7 @@ ghost use Rattle.std.specs.Prelude.{◌≡◌, IfOk, Some, map, string_bytes};
 ghost use Rattle.sd_commands.specs.Kinds.{entry_note, kind_at, kind_by_letters, kind_by_number, kind_note, kind_row};
 ghost use Rattle.sd_commands.specs.Kinds.{kinds, wire_kind_note};
 
-use crate::value::text_from;
+use crate::words::items_from;
 use sd_text::TextFault;
 use sd_wire::{WireFault, odd_entry};
 use std::alloc::{AllocError, Global};
@@ -53,9 +53,8 @@ pub(crate) fn kind_note(
 {
     match fault {
         TextFault::EntryKind => {
-            let kind = kind_at(text_from(text.as_bytes(), place as usize));
-            let note = format!(in alloc; " ({kind})")?;
-            Ok(note)
+            let kind = kind_at(items_from(text.as_bytes(), place as usize));
+            format!(in alloc; " ({kind})")
         }
         _ => Ok(String::new(alloc)),
     }

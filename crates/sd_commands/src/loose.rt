@@ -3,11 +3,11 @@
 ghost use Rattle.std.specs.Prelude.{◌≡◌, ◌<◌, ◌≤◌, ◌+◌, ◌-◌, ℕ, Ok, Err, Some, IfErr, IfOk, filter, length, not};
 ghost use Rattle.std.specs.List.{slice_split};
 ghost use Rattle.sd_commands.specs.Bytes.{IsBytesError, digits_of, is_between, is_blank_byte, joined};
-ghost use Rattle.sd_commands.specs.Bytes.{no_bytes, part_read, parts_read, value_read};
+ghost use Rattle.sd_commands.specs.Bytes.{part_read, parts_read, value_read};
 ghost use Rattle.sd_commands.specs.Value.{value_in};
 ghost use Rattle.sd_commands.specs.declared.value.Value.TheVariants as values;
 
-use crate::bytes::BytesError;
+use crate::bytes::{BytesError, no_bytes};
 use crate::value::{Value, value_in};
 use base64::DecodeAllocError;
 use base64::engine::general_purpose::STANDARD;
@@ -22,17 +22,7 @@ pub(crate) fn loose_bytes(alloc: Global, text: &[u8]) -> Result<Vec<u8>, BytesEr
     match value_in(text) {
         Some(Value::Hex(place)) => hex_value(alloc, text, place),
         Some(Value::Base64(place)) => base64_value(alloc, text, place),
-        None => Err(no_bytes(0)),
-    }
-}
-
-/// That no bytes are spelled at this place.
-fn no_bytes(place: usize) -> BytesError
-    ensures { IsBytesError (Err (no_bytes place)) result }
-{
-    BytesError::NoBytes {
-        what: "no bytes",
-        place,
+        None => Err(no_bytes("no bytes", 0)),
     }
 }
 
@@ -46,7 +36,7 @@ fn base64_value(alloc: Global, text: &[u8], place: usize) -> Result<Vec<u8>, Byt
     match STANDARD.decode(alloc, digits.as_slice()) {
         Ok(bytes) => Ok(bytes),
         Err(DecodeAllocError::OutOfMemory) => Err(BytesError::Memory),
-        Err(DecodeAllocError::DecodeError(_)) => Err(no_bytes(place)),
+        Err(DecodeAllocError::DecodeError(_)) => Err(no_bytes("no bytes", place)),
     }
 }
 
@@ -114,7 +104,7 @@ fn part_bytes(alloc: Global, place: usize, part: &[u8]) -> Result<Vec<u8>, Bytes
     match hex::decode(alloc, digits(part)) {
         Ok(bytes) => Ok(bytes),
         Err(FromHexError::OutOfMemory) => Err(BytesError::Memory),
-        Err(_) => Err(no_bytes(place)),
+        Err(_) => Err(no_bytes("no bytes", place)),
     }
 }
 

@@ -4,7 +4,7 @@ ghost use Rattle.std.specs.Result.{result_ok};
 ghost use Rattle.sd_sid.specs.Mapping.{IsMapping, MappingValue, mapping_of};
 ghost use Rattle.sd_text.specs.Grammar.{Spells};
 ghost use Rattle.sd_text.specs.Rights.{mask_text};
-ghost use Rattle.sd_commands.specs.Mapping.{AreMasks, GivesMapping, GivesNoMapping, IsMappingText, kind_given};
+ghost use Rattle.sd_commands.specs.Mapping.{AreMasks, GivesMapping, GivesNoMapping, kind_given};
 ghost use Rattle.sd_commands.specs.Mapping.{kind_mapping, kind_named, between_commas};
 
 use sd_answer::ObjectKind;
@@ -53,18 +53,10 @@ pub fn mapping_given(text: Option<&str>) -> Option<GenericMapping>
 {
     match text {
         None => Some(GenericMapping::file()),
-        Some(text) => mapping_in(text),
-    }
-}
-
-/// The mapping that the text tells: that of a kind of object, or one of four masks.
-fn mapping_in(text: &str) -> Option<GenericMapping>
-    ensures told { IfSome result (IsMappingText text.now) }
-    ensures none { IfNone result ((g : MappingValue) → IsMappingText text.now g → ⊥) }
-{
-    match kind_named(text) {
-        Some(kind) => kind_mapping(kind),
-        None => of_texts(text),
+        Some(text) => match kind_named(text) {
+            Some(kind) => kind_mapping(kind),
+            None => of_texts(text),
+        },
     }
 }
 

@@ -3,7 +3,7 @@ ghost use Rattle.std.specs.Prelude.{◌≡◌, ◌<◌, IfOk, length, string_byt
 ghost use Rattle.sd_acl.specs.Ace.{acl_size_of};
 ghost use Rattle.sd_acl.specs.Descriptor.{descriptor_of};
 ghost use Rattle.sd_commands.specs.Answer.{IsSorted, answer_of};
-ghost use Rattle.sd_commands.specs.Sort.{move_notes, note_of, notes_below, sorted, sorted_dacl, sorted_descriptor};
+ghost use Rattle.sd_commands.specs.Sort.{move_notes, note_of, notes_below, sorted, sorted_dacl};
 
 use crate::answer::{Answer, Answered, Outcome};
 use crate::diagnostic::told_line;
@@ -20,7 +20,14 @@ impl Command {
     {
         let (alloc, spelling) = (self.alloc, self.settings.spelling);
         let told = move_notes(alloc, spelling, &descriptor.dacl)?;
-        let sorted = sorted_descriptor(alloc, descriptor)?;
+        let sorted = Descriptor {
+            owner: descriptor.owner,
+            group: descriptor.group,
+            dacl: sorted_dacl(alloc, &descriptor.dacl)?,
+            protected: descriptor.protected,
+            auto_req: descriptor.auto_req,
+            auto_inherited: descriptor.auto_inherited,
+        };
         let mut text = print_sddl_in(alloc, spelling.right_names(), &sorted)?;
         text.push_str("\n")?;
         Ok(Answer {
@@ -31,36 +38,17 @@ impl Command {
     }
 }
 
-fn sorted_descriptor(alloc: Global, descriptor: &Descriptor) -> Result<Descriptor, AllocError>
-    ensures { IfOk result (λ sorted. descriptor_of sorted ≡ sorted_descriptor (descriptor_of descriptor.now)) }
-{
-    Ok(Descriptor {
-        owner: descriptor.owner,
-        group: descriptor.group,
-        dacl: sorted_dacl(alloc, &descriptor.dacl)?,
-        protected: descriptor.protected,
-        auto_req: descriptor.auto_req,
-        auto_inherited: descriptor.auto_inherited,
-    })
-}
-
+/// The DACL with its list in canonical order, which takes as many bytes.
 fn sorted_dacl(alloc: Global, dacl: &Dacl) -> Result<Dacl, AllocError>
     ensures { IfOk result (λ ordered. ordered ≡ sorted_dacl dacl.now) }
 {
     match dacl {
         Dacl::Absent => Ok(Dacl::Absent),
         Dacl::Null => Ok(Dacl::Null),
-        Dacl::List(list) => Ok(Dacl::List(sorted_list(alloc, list)?)),
-    }
-}
-
-/// The list in canonical order, which takes as many bytes.
-fn sorted_list(alloc: Global, list: &AceList) -> Result<AceList, AllocError>
-    ensures { IfOk result (λ ordered. ordered ≡ sorted list.now) }
-{
-    match AceList::new(sorted_entries(alloc, list.entries())?) {
-        Ok(ordered) => Ok(ordered),
-        Err(_) => unreachable!(),
+        Dacl::List(list) => match AceList::new(sorted_entries(alloc, list.entries())?) {
+            Ok(ordered) => Ok(Dacl::List(ordered)),
+            Err(_) => unreachable!(),
+        },
     }
 }
 

@@ -3,6 +3,7 @@ ghost use Rattle.std.specs.Prelude.{◌≡◌, ◌≤◌, ◌<◌, ◌+◌, ◌^
 ghost use Rattle.sd_commands.specs.Value.{after_mark, after_name, begins_by, descriptor_in, first, head_len};
 ghost use Rattle.sd_commands.specs.Value.{ntacl_place, place_of, value_in};
 
+use crate::words::items_from;
 use std::alloc::{AllocError, Global};
 
 /// How a value's bytes are spelled, and at which byte of the text they begin.
@@ -48,18 +49,6 @@ fn first(byte: u8, text: &[u8]) -> usize
 {
     let end = text.iter().position(|b| *b == byte);
     end.unwrap_or(text.len())
-}
-
-/// The text from the place on.
-pub(crate) fn text_from(text: &[u8], place: usize) -> &[u8]
-    ensures rest { result.now ≡ drop place text.now }
-    ensures within { length result.now ≤ length text.now }
-{
-    if place < text.len() {
-        &text[place..]
-    } else {
-        &[]
-    }
 }
 
 /// The value after the first mark.
@@ -127,7 +116,7 @@ fn ntacl_place(bytes: &[u8]) -> Option<usize>
     } else if bytes.starts_with(&[3, 0, 3, 0]) {
         Some(80)
     } else if bytes.starts_with(&[4, 0, 4, 0]) {
-        Some((78 + first(0, text_from(bytes, 78)) + 4) / 4 * 4 + 72)
+        Some((78 + first(0, items_from(bytes, 78)) + 4) / 4 * 4 + 72)
     } else {
         None
     }

@@ -1,13 +1,13 @@
 //! The answers to `verdict` and to `why`: whether a descriptor grants a mask to a user, and why.
-ghost use Rattle.std.specs.Prelude.{◌≡◌, ◌<◌, IfOk, drop, length};
+ghost use Rattle.std.specs.Prelude.{◌≡◌, ◌<◌, IfOk, length};
 ghost use Rattle.sd_acl.specs.Descriptor.{descriptor_of};
 ghost use Rattle.sd_answer.specs.Word.{IsFirstNoWord, texts};
-ghost use Rattle.sd_commands.specs.Answer.{AnswersUser, IsVerdict, IsWordFault, answer_of, argument};
+ghost use Rattle.sd_commands.specs.Answer.{AnswersUser, IsVerdict, IsWordFault, answer_of};
 ghost use Rattle.sd_commands.specs.Answer.{verdict_outcome};
 
 use crate::answer::{Answer, Answered, Outcome};
 use crate::settings::Command;
-use crate::words::{argument, arguments_from};
+use crate::words::{argument, items_from};
 use sd_acl::Descriptor;
 use sd_answer::{TokenError, read_mask_in, read_token, verdict_line, why_text};
 use sd_check::{Token, Verdict, check};
@@ -28,8 +28,8 @@ impl Command {
     /// The verdict on a descriptor, where the user, the mask and words are the arguments; or the fault of the first
     /// from the left that is invalid.
     pub(crate) fn verdict(self, form: Form, descriptor: &Descriptor, arguments: &[&str]) -> Answered
-        ensures { IfOk result (λ answer. AnswersUser self.settings form (argument arguments.now 0)
-            (argument arguments.now 1) (drop 2 arguments.now) (descriptor_of descriptor.now) (answer_of answer)) }
+        ensures { IfOk result (λ answer. AnswersUser self.settings form arguments.now (descriptor_of descriptor.now)
+            (answer_of answer)) }
     {
         let (user, mask) = (argument(arguments, 0), argument(arguments, 1));
         let sid = match read_sid_text_in(self.settings.aliases, user) {
@@ -40,7 +40,7 @@ impl Command {
             Ok(asked) => asked,
             Err(error) => return self.text_fault("mask", "MASK", mask, error),
         };
-        let words = arguments_from(arguments, 2);
+        let words = items_from(arguments, 2);
         match read_token(self.alloc, self.settings.aliases, sid, words) {
             Ok(token) => self.verdict_for(form, descriptor, &token, asked),
             Err(TokenError::NoWord { place }) => self.word_fault(words, place),
@@ -52,9 +52,9 @@ impl Command {
     fn word_fault(self, words: &[&str], place: usize) -> Answered
         requires first { IsFirstNoWord self.settings.aliases (texts words.now) place }
         requires within { place < length words.now }
-        ensures { IfOk result (λ answer. IsWordFault self.settings (texts words.now) (answer_of answer)) }
+        ensures { IfOk result (λ answer. IsWordFault self.settings words.now (answer_of answer)) }
     {
-        let word = words[place];
+        let word = argument(words, place);
         let reason = self.word_reason(word)?;
         self.token_fault(place, word, reason.as_str())
     }
@@ -71,10 +71,10 @@ impl Command {
             (answer_of answer)) }
     {
         let (mapping, spelling) = (&self.settings.mapping, self.settings.spelling);
-        let outcome = outcome_of(check(descriptor, mapping, token, asked));
+        let verdict = check(descriptor, mapping, token, asked);
+        let outcome = outcome_of(&verdict);
         match form {
             Form::Short => {
-                let verdict = check(descriptor, mapping, token, asked);
                 let text = verdict_line(self.alloc, spelling, verdict)?;
                 Ok(Answer::of(self.alloc, text, outcome))
             }
@@ -86,8 +86,8 @@ impl Command {
     }
 }
 
-fn outcome_of(verdict: Verdict) -> Outcome
-    ensures { result ≡ verdict_outcome verdict }
+fn outcome_of(verdict: &Verdict) -> Outcome
+    ensures { result ≡ verdict_outcome verdict.now }
 {
     match verdict {
         Verdict::Granted(_) => Outcome::Done,

@@ -1,38 +1,19 @@
-//! The arguments of a command, and where the SID of a word ends.
+//! The arguments of a command.
 ghost use Rattle.std.specs.Prelude.{◌≡◌, ◌≤◌, drop, length};
-ghost use Rattle.std.specs.Str.{IsCharBoundary};
 ghost use Rattle.sd_commands.specs.Answer.{argument};
-ghost use Rattle.sd_commands.specs.Diagnostic.{sid_length};
 
 /// The argument at the place, empty where there is none.
 pub(crate) fn argument<'a>(arguments: &'a [&'a str], place: usize) -> &'a str
     ensures { result.now ≡ argument arguments.entry.now place }
 {
-    match arguments.get(place) {
-        Some(text) => text,
-        None => "",
-    }
+    arguments.get(place).copied().unwrap_or("")
 }
 
-/// The arguments from the place on.
-pub(crate) fn arguments_from<'a>(arguments: &'a [&'a str], place: usize) -> &'a [&'a str]
-    ensures { result.now ≡ drop place arguments.entry.now }
+/// The items from the place on.
+#[tactic(auto, using(std::proofs::lemmas::List::drop_min))]
+pub(crate) fn items_from<T>(items: &[T], place: usize) -> &[T]
+    ensures rest { result.now ≡ drop place items.now }
+    ensures within { length result.now ≤ length items.now }
 {
-    if place < arguments.len() {
-        &arguments[place..]
-    } else {
-        &[]
-    }
-}
-
-/// How long the SID of a word is: as far as the first `=`, or all of it.
-pub(crate) fn sid_length(word: &str) -> usize
-    ensures length { result ≡ sid_length word.now }
-    ensures within { result ≤ length word.now }
-    ensures boundary { IsCharBoundary word.now result }
-{
-    match word.find('=') {
-        Some(place) => place,
-        None => word.len(),
-    }
+    &items[place.min(items.len())..]
 }

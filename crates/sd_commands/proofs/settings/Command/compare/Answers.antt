@@ -11,5 +11,5 @@ returns c = inl (
   descriptor_of c.in-Descriptor.read.descriptor,
   c.in-Descriptor.read.left_out,
   rw (c.argument.ensures, c.in-Descriptor.is) at c.in_ok-read.ensures,
-  (answer_of c.in_ok-answer.answer, c.in_ok-noting.ensures, rw c.arguments_from-words.ensures at c.in_ok-answer.ensures),
+  (answer_of c.in_ok-answer.answer, c.in_ok-noting.ensures, rw c.items_from-words.ensures.rest at c.in_ok-answer.ensures),
 )

@@ -1,19 +1,12 @@
--- The word is the one at the place.
-use Rattle.std.proofs.Common.{ap₂, string_bytes, subst, ◌∙◌}
+use Rattle.std.proofs.Common.{string_bytes}
 use Rattle.std.proofs.lemmas.Result.{IfOk-weaker}
-use Rattle.sd_commands.specs.Diagnostic.{IsStateReason, told_line, word_argument}
-use Rattle.sd_commands.proofs.Arguments.{word_is}
 use Rattle.sd_commands.proofs.settings.Command.group_fault.Goals as goal
 
 pub returns : goal.returns
-returns c =
-    let place = c.args.place in
-    let reason = string_bytes c.in_ok-reason.reason in
-    let same = word_is c.args.words.now place _ c.requires.within in
-    IfOk-weaker c.token_fault.result _ _ (λ answer is. (
-      place,
-      c.requires.first,
-      reason,
-      subst (λ word. IsStateReason c.args.self.settings.points c.args.self.settings.aliases word reason) same c.in_ok-reason.ensures,
-      (is.0, is.1 ∙ ap₂ (λ word. told_line (word_argument place word)) same c.as_str.ensures.value, is.2),
-    )) c.token_fault.ensures
+returns c = IfOk-weaker c.token_fault.result _ _ (λ answer is. (
+  c.args.place,
+  c.requires.first,
+  string_bytes c.in_ok-reason.reason,
+  rw c.argument-word.ensures at c.in_ok-reason.ensures,
+  rw (c.as_str.ensures.value, c.argument-word.ensures) at is,
+)) c.token_fault.ensures

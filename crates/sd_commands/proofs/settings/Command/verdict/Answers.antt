@@ -9,7 +9,7 @@ returns-in-Ok-read_token c = IfOk-weaker c.verdict_for.result _ _ (λ answer is.
   inl (
     c.in-Ok-read_mask_in.asked,
     rw c.argument-mask.ensures at c.in-Ok-read_mask_in.ensures.value,
-    inl (c.in-Ok-read_token.token, rw c.arguments_from-words.ensures at c.in-Ok-read_token.ensures.token, is),
+    inl (c.in-Ok-read_token.token, rw c.items_from-words.ensures.rest at c.in-Ok-read_token.ensures.token, is),
   ),
 )) c.verdict_for.ensures
 
@@ -20,6 +20,6 @@ returns-in-Err-NoWord c = IfOk-weaker c.word_fault.result _ _ (λ answer is. inl
   inl (
     c.in-Ok-read_mask_in.asked,
     rw c.argument-mask.ensures at c.in-Ok-read_mask_in.ensures.value,
-    inr (rw c.arguments_from-words.ensures at is),
+    inr (rw c.items_from-words.ensures.rest at is),
   ),
 )) c.word_fault.ensures

@@ -6,5 +6,5 @@ pub returns-in-Err-NoWord : goal.returns-in-Err-NoWord
 returns-in-Err-NoWord c = IfOk-weaker c.group_fault.result _ _ (λ answer is. inl (
   c.in-Ok.asked,
   rw c.argument-mask.ensures at c.in-Ok.ensures.value,
-  inr (rw c.arguments_from-words.ensures at is),
+  inr (rw c.items_from-words.ensures.rest at is),
 )) c.group_fault.ensures
