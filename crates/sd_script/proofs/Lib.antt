@@ -1,10 +1,8 @@
 pub mod AsChecked
-pub mod Askings
 pub mod Dumping
 pub mod NoId
 pub mod OneOutput
 pub mod OneReading
-pub mod PathWords
 pub mod Readings
 pub mod Reviewed
 pub mod Silence

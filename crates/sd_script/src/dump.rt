@@ -47,13 +47,11 @@ impl Printer<'_> {
         };
         let sddl = shown_sddl(self.alloc, self.notation.spelling, &given)?;
         if node.path.as_path_ref().is_root() {
-            let text = format!(in self.alloc; "open {readers} {sddl}\n")?;
-            return Ok(text);
+            return format!(in self.alloc; "open {readers} {sddl}\n");
         }
         let word = adding_word(node.kind);
         let path = path_word(self.alloc, self.notation.paths, node.path)?;
-        let text = format!(in self.alloc; "{word} {path} {sddl}\n")?;
-        Ok(text)
+        format!(in self.alloc; "{word} {path} {sddl}\n")
     }
 
     /// Whether the text is parsed to what makes the tree, line by line, and a publish. Only for the first line no store
