@@ -1,4 +1,5 @@
 pub mod AsChecked
+pub mod Askings
 pub mod Dumping
 pub mod NoId
 pub mod OneOutput

@@ -2,8 +2,9 @@
 use Rattle.std.proofs.Common.{◌≡◌, Option, Some, None, Result, Ok, Err, inl, inr, refl}
 use Rattle.std.specs.Prelude.{◌⊎◌, IsErrAnd}
 use Rattle.sd_script.specs.Command.{Arguments, Asks, ◌▸◌, Parses, Value, reading}
-use Rattle.sd_script.specs.Fault.{UnlessMemory}
+use Rattle.sd_script.specs.Fault.{Reading, UnlessMemory}
 use Rattle.sd_script.specs.declared.asked.Asked.{Asked}
+use Rattle.sd_script.specs.declared.fault.LineFault.{LineFault}
 use Rattle.sd_script.specs.declared.fault.LineStop.{LineStop}
 use Rattle.sd_script.specs.declared.fault.LineStop.TheVariants.{Fault, Memory}
 use Rattle.sd_script.specs.declared.manner.Notation.{Notation}
@@ -23,3 +24,10 @@ takes notation (argument ▸ next) (Err (Fault fault)) (inl (value, read, more))
 takes notation (argument ▸ next) (Err (Fault fault)) (inr (stop, read, is)) = inr (fault, rw (← is) at read, refl)
 takes notation (argument ▸ next) (Err Memory) more = tt
 takes notation (argument ▸ next) (Ok a) (inr (stop, read, none)) = absurd none
+
+-- what is read in one way is read in another
+pub UnlessMemory-weaker : {A : Type 0} (P Q : Reading A) (r : Result A LineStop)
+    → ((read : Result A LineFault) → P read → Q read) → UnlessMemory P r → UnlessMemory Q r
+UnlessMemory-weaker P Q (Ok a) weaker read = weaker (Ok a) read
+UnlessMemory-weaker P Q (Err (Fault fault)) weaker read = weaker (Err fault) read
+UnlessMemory-weaker P Q (Err Memory) weaker read = tt

@@ -47,11 +47,13 @@ impl Printer<'_> {
         };
         let sddl = shown_sddl(self.alloc, self.notation.spelling, &given)?;
         if node.path.as_path_ref().is_root() {
-            return format!(in self.alloc; "open {readers} {sddl}\n");
+            let text = format!(in self.alloc; "open {readers} {sddl}\n")?;
+            return Ok(text);
         }
         let word = adding_word(node.kind);
         let path = path_word(self.alloc, self.notation.paths, node.path)?;
-        format!(in self.alloc; "{word} {path} {sddl}\n")
+        let text = format!(in self.alloc; "{word} {path} {sddl}\n")?;
+        Ok(text)
     }
 
     /// Whether the text is parsed to what makes the tree, line by line, and a publish. Only for the first line no store

@@ -25,10 +25,13 @@ impl Parser {
         ensures { Parses self.notation (Some (imports path.now sddl.now kind)) result }
     {
         let path = self.path(path)?;
-        let (node, given) = self.imported(sddl)?;
+        let imported = self.imported(sddl)?;
         let added = path.copy(self.alloc)?;
-        let edit = Edit::addition(kind, added, node);
-        Ok(Some(Asked::Importing { edit, path, given }))
+        Ok(Some(Asked::Importing {
+            edit: Edit::addition(kind, added, imported.0),
+            path,
+            given: imported.1,
+        }))
     }
 
     /// The text of a descriptor with an owner and a group, as a node had it: what it gives a node, and all its entries.

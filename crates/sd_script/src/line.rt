@@ -27,10 +27,11 @@ pub fn read_line(
     let Some(command) = command_of(&words) else {
         return Err(LineStop::Fault(LineFault::Words));
     };
-    match (Parser { alloc, notation }).asked(command) {
-        Ok(None) => Err(LineStop::Fault(LineFault::Words)),
-        _ if command.name.is_untimely(is_open) => Err(LineStop::Fault(LineFault::Open)),
-        Ok(Some(asked)) => Ok(asked),
-        Err(stop) => Err(stop),
+    let Some(asked) = Parser { alloc, notation }.asked(command).transpose() else {
+        return Err(LineStop::Fault(LineFault::Words));
+    };
+    if command.name.is_untimely(is_open) {
+        return Err(LineStop::Fault(LineFault::Open));
     }
+    asked
 }
