@@ -9,6 +9,7 @@ use Rattle.std.proofs.lemmas.Bool.{cases_Bool}
 use Rattle.std.proofs.lemmas.List.{append_cancel_right}
 use Rattle.sd_sid.specs.Mapping.{MappingValue}
 use Rattle.sd_sid.specs.Mask.{holds}
+use Rattle.sd_acl.specs.Descriptor.{DescriptorValue}
 use Rattle.sd_acl.specs.declared.ace.Ace.{Ace}
 use Rattle.sd_check.specs.Check.{is_granted, judged, most, verdict}
 use Rattle.sd_check.specs.Token.{TokenValue}
@@ -60,9 +61,11 @@ verdict_there : (g : MappingValue) (token : TokenValue) (asked : ℕ) (row : Row
 verdict_there g token asked row None = refl
 verdict_there g token asked row (Some es) = refl
 
-silent_parts : (spelling : Spelling) (g : MappingValue) (head : List ℕ) (p q : Parts) (token : TokenValue) (asked : ℕ) → holds asked 25 ≡ false
-    → IsChangeText spelling g head p q [] → verdict_by g token asked p ≡ verdict_by g token asked q
-silent_parts spelling g head p q token asked plain (gained, lost, gains, losses, is) =
+silent_parts : (spelling : Spelling) (g : MappingValue) (head : List ℕ) (old new : DescriptorValue) (token : TokenValue) (asked : ℕ) → holds asked 25 ≡ false
+    → IsChangeText spelling g head (Some old) (Some new) [] → verdict_by g token asked (parts_in old) ≡ verdict_by g token asked (parts_in new)
+silent_parts spelling g head old new token asked plain (gained, lost, gains, losses, is) =
+    let p = parts_in old in
+    let q = parts_in new in
     let none = no_gain_no_loss spelling head p q gained lost gains.some losses.some (sym is) in
     judged_alike g (is_granted p.owner p.dacl g token) (is_granted q.owner q.dacl g token) (most p.owner p.dacl g token) (most q.owner q.dacl g token) asked plain
     (grants_alike g p q (rw none.0 at gains) (rw none.1 at losses) token)
@@ -88,7 +91,7 @@ compared_alike notation ts path (Some r) s token asked plain old there new is =
     let was = dacl_at ts.mapping ts.old path in
     let now = dacl_at ts.mapping ts.new path in
     let change = rw (old, new) at is in
-    let same = silent_parts notation.spelling ts.mapping (path_word notation.paths path ++ codes " ") _ _ token asked plain change in
+    let same = silent_parts notation.spelling ts.mapping (path_word notation.paths path ++ codes " ") (descriptor_of_row r was) (descriptor_of_row s now) token asked plain change in
     rw (old, new) (ap Verdict (verdict_there ts.mapping token asked r was ∙ same ∙ sym (verdict_there ts.mapping token asked s now)))
 
 pub silent_node_is_unchanged : SilentNodeIsUnchanged
