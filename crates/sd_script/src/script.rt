@@ -57,7 +57,6 @@ pub fn answer_line(alloc: Global, carried: &mut Carried, line: &[u8]) -> Result<
 
 /// What a line is answered by where this stands, and this is the last answer. That of a line that expects none is then
 /// the last.
-#[tactic(auto, using(crate::proofs::Untold::told_untold))]
 fn answer_after(
     alloc: Global,
     session: &mut Session,

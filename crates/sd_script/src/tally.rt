@@ -5,7 +5,7 @@ ghost use Rattle.sd_script.specs.Tally.{no_lines, one_more_where, tallied, tells
 use crate::expect::expects;
 
 /// What is counted of a script beside its output. Lines are counted from 1, as far as 64 bits count.
-#[derive(Clone, Copy, Debug, Default, PartialEq, Eq)]
+#[derive(Clone, Copy, Debug, PartialEq, Eq)]
 pub struct Tally {
     /// How many lines were answered.
     pub lines: u64,
@@ -30,7 +30,16 @@ impl Tally {
     pub fn of_no_lines() -> Tally
         ensures { result ≡ no_lines }
     {
-        Tally::default()
+        Tally {
+            lines: 0,
+            first_fault: None,
+            first_difference: None,
+            first_reordered: None,
+            expected: 0,
+            unmet: 0,
+            first_unmet: None,
+            begins_with_mark: false,
+        }
     }
 
     /// With one line more, and what it is answered by.

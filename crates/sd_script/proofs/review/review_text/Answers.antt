@@ -6,4 +6,4 @@ pub returns : goal.returns
 returns c =
     let old = c.published-old.ensures in
     let new = c.draft-new.ensures in
-    rw (c.of-review.ensures.old, c.of-review.ensures.new, old.opening, old.journal, new.opening, new.journal, drop-append_seam) at c.text.ensures
+    rw (c.of.ensures.old, c.of.ensures.new, old.opening, old.journal, new.opening, new.journal, drop-append_seam) at c.text.ensures
