@@ -4,8 +4,6 @@ use Rattle.std.specs.Prelude.{codes, option_map, get_or}
 use Rattle.sd_sid.specs.Mapping.{MappingValue}
 use Rattle.sd_acl.specs.declared.ace.Ace.{Ace}
 use Rattle.sd_check.specs.Token.{TokenValue}
-use Rattle.sd_explain.specs.Parts.{reason_in}
-use Rattle.sd_explain.specs.Reasons.{reasons_of}
 use Rattle.sd_tree.specs.Answers.{reply_for, answer}
 use Rattle.sd_tree.specs.Descriptors.{descriptor_of_row}
 use Rattle.sd_tree.specs.Journal.{replay}
@@ -18,7 +16,6 @@ use Rattle.sd_answer.specs.Answer.{line, spelled}
 use Rattle.sd_script.specs.Laws.{BeginsAsCheck, DeletesAsChecked, IsGranted, by_node_line}
 use Rattle.sd_script.specs.Question.{outcome_of}
 use Rattle.sd_script.specs.Reply.{check_line, node_why_text, seen_line}
-use Rattle.sd_answer.specs.Why.{listed, part_lines}
 use Rattle.sd_answer.specs.declared.answer.Spelling.{Spelling}
 use Rattle.sd_script.specs.declared.manner.Notation.{Notation}
 use Rattle.sd_script.specs.declared.question.NodeQuestion.TheVariants.{Why, Delete}
@@ -37,15 +34,12 @@ use Rattle.sd_script.specs.Deletion.{delete_right, deletion_line, parent_grants}
 abbrev Begins : List ℕ → List ℕ → Type 0
 Begins text whole = (rest : List ℕ) × (whole ≡ text ++ rest)
 
-abbrev parts : Spelling → MappingValue → Option (List Ace) → Row → TokenValue → ℕ → List ℕ
-parts spelling g dacl row t asked = part_lines spelling (Some row.owner) (listed dacl) (reason_in (reasons_of (Some row.owner) dacl g t asked)) 32
-
 -- of a node, or of none
 node_begins : (spelling : Spelling) (g : MappingValue) (dacl : Option (List Ace)) (row : Option Row) (t : TokenValue) (asked : ℕ)
     → Begins (check_line spelling (reply_for g dacl t asked row)) (node_why_text spelling g t asked (option_map (λ (r : Row). descriptor_of_row r dacl) row))
 node_begins spelling g dacl None t asked = ([], sym (append-nil (line (codes "nonode"))))
-node_begins spelling g None (Some row) t asked = (parts spelling g None row t asked, refl)
-node_begins spelling g (Some es) (Some row) t asked = (parts spelling g (Some es) row t asked, refl)
+node_begins spelling g None (Some row) t asked = (_, refl)
+node_begins spelling g (Some es) (Some row) t asked = (_, refl)
 
 seen_begins : (seen : ℕ) (text whole : List ℕ) → Begins text whole → Begins (seen_line seen text) (seen_line seen whole)
 seen_begins seen text whole begins =

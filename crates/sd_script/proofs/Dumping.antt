@@ -1,15 +1,17 @@
 -- The lines that make a tree, and whether they are read as what makes it.
-use Rattle.std.proofs.Common.{◌≡◌, ℕ, zero, suc, ◌+◌, ◌<◌, ◌≤◌, Bool, true, false, List, [], ◌∷◌, ◌++◌, length, Option, Some, None, refl, sym, ◌∙◌, ap, subst, inl, inr, add-one, append_assoc, append-nil, take-append-drop, arith}
-use Rattle.std.specs.Prelude.{drop, nat_lt, take, slice_get}
+use Rattle.std.proofs.Common.{◌≡◌, ℕ, zero, suc, ◌+◌, ◌<◌, ◌≤◌, Bool, true, false, ◌==◌, List, [], ◌∷◌, ◌++◌, length, Option, Some, None, refl, sym, ◌∙◌, ap, subst, inl, inr, add-one, append_assoc, append-nil, arith}
+use Rattle.std.specs.Prelude.{drop, nat_lt, slice_get}
 use Rattle.std.specs.Bool.{Decides}
 use Rattle.std.specs.FinMap.{entries, len, len-entries}
-use Rattle.std.specs.List.{flat_map, position_or_len}
+use Rattle.std.specs.List.{flat_map, join_with_byte, slice_split}
 use Rattle.std.specs.Ordering.{eq_by_cmp}
-use Rattle.std.specs.Str.Lines.{lines}
+use Rattle.std.specs.Str.Lines.{lines, lines_of_parts}
 use Rattle.std.proofs.Math.ListN.{drop_of_length-le, length-map}
 use Rattle.std.proofs.Math.Seq.{drop-cons}
-use Rattle.std.proofs.lemmas.List.{length-append, take_all}
-use Rattle.std.proofs.lemmas.Bool.{cases_lt, false≢true, lt-ltb}
+use Rattle.std.proofs.lemmas.List.{length-append, nil_from_length}
+use Rattle.std.proofs.lemmas.List.Splits.{join_with_byte-slice_split}
+use Rattle.std.proofs.lemmas.Bool.{false≢true, lt-ltb}
+use Rattle.std.proofs.lemmas.Bool.Decides.{nat_tests}
 use Rattle.std.proofs.lemmas.Option.{get_or_from_slice_get, slice_get_cases, slice_get_within}
 use Rattle.sd_tree.specs.Names.{Names, names_cmp}
 use Rattle.sd_tree.specs.Plain.{PlainTree, row_at}
@@ -21,9 +23,6 @@ use Rattle.sd_versions.specs.declared.request.Request.TheVariants.{Publish}
 use Rattle.sd_script.specs.declared.asked.Asked.{Asked}
 use Rattle.sd_script.specs.declared.asked.Asked.TheVariants.{Asking}
 use Rattle.sd_script.specs.declared.manner.Notation.{Notation}
-use Rattle.sd_lines.specs.Lines.{HasNoEnd, end_byte}
-use Rattle.sd_lines.specs.declared.ending.Ending.TheVariants.{Feed}
-use Rattle.sd_lines.proofs.Cutting.{end_at, ends, lines_cut, lines_last, none_before}
 
 -- the order of paths tells whether they are one
 pub path_decides : (p q : Names) (r : Bool) → r ≡ eq_by_cmp names_cmp p q → Decides r (p ≡ q)
@@ -66,17 +65,14 @@ none_left f t k n text whole count past so_far =
 
 -- ---- the lines that are left
 
-some_lines : (xs : List ℕ) → 0 < length xs → (x : List ℕ) × (more : List (List ℕ)) × (lines xs ≡ x ∷ more)
-some_lines xs some = elim (cases_lt (position_or_len (ends Feed) xs) (length xs)) [
-  | inl low ↦
-      let n = position_or_len (ends Feed) xs in
-      let rest = drop 1 (drop n xs) in
-      let cut : xs ≡ take n xs ++ end_byte Feed ∷ rest = sym (take-append-drop n xs) ∙ ap (λ ys. take n xs ++ ys) (end_at Feed xs low) in
-      (_, lines rest, ap lines cut ∙ lines_cut Feed (take n xs) rest (none_before Feed xs))
-  | inr whole ↦
-      let all = take_all (position_or_len (ends Feed) xs) xs whole in
-      (xs, [], lines_last Feed xs (subst (HasNoEnd Feed) all (none_before Feed xs)) some)
-]
+no_parts : (parts : List (List ℕ)) → lines_of_parts parts ≡ [] → join_with_byte 10 parts ≡ []
+no_parts [] none = refl
+no_parts ([] ∷ []) none = refl
+no_parts ((b ∷ bs) ∷ []) none = grind (arith, nat_tests)
+no_parts (x ∷ y ∷ parts) none = cc
+
+no_lines : (text : List ℕ) → lines text ≡ [] → text ≡ []
+no_lines text none = sym (join_with_byte-slice_split 10 text) ∙ no_parts (slice_split (λ b. b == 10) text) none
 
 -- what is left to be asked for after so many lines: the nodes that are left, and the publish
 abbrev pub left : ℕ → List (Names × Row) → ℕ → List Asked
@@ -119,9 +115,8 @@ module _ (notation : Notation) (readers : ℕ) (t : PlainTree) where
 
   -- nothing is wanted any more
   pub all_asked : (text : List ℕ) (k : ℕ) (r : Bool) → k ≡ len t + 1 → Decides r (length text ≡ 0) → Decides r (AreLeft (lines text) k)
-  all_asked text k r is empty = rw (none_wanted readers (entries t) k (rw (len-entries t) at is)) (by_text text empty) where
-    by_text : (text : List ℕ) → Decides r (length text ≡ 0) → Decides r (AreAskedBy notation (nat_lt 0 k) (lines text) [])
-    by_text [] empty = (λ e. tt, λ are. empty.1 refl)
-    by_text (x ∷ xs) empty =
-        let some = some_lines (x ∷ xs) (omega arith) in
-        rw (some.2) (λ e. absurd (omega (arith, empty.0 e)), λ are. absurd are)
+  all_asked text k r is empty = rw (none_wanted readers (entries t) k (rw (len-entries t) at is)) (by_lines (lines text) refl) where
+    by_lines : (texts : List (List ℕ)) → lines text ≡ texts → Decides r (AreAskedBy notation (nat_lt 0 k) texts [])
+    by_lines [] none = (λ e. tt, λ are. empty.1 (ap length (no_lines text none)))
+    by_lines (x ∷ more) some =
+        (λ e. let no = sym (ap lines (nil_from_length text (empty.0 e))) ∙ some in absurd (cc (no)), λ are. absurd are)

@@ -4,7 +4,6 @@ pub mod Dumping
 pub mod NoId
 pub mod OneOutput
 pub mod OneReading
-pub mod PathWords
 pub mod Readings
 pub mod Reviewed
 pub mod Silence

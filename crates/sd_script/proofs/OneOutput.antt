@@ -1,10 +1,11 @@
 -- A text has one output: a line is read as one thing, and a request has one reply that has a line.
-use Rattle.std.proofs.Common.{◌≡◌, ℕ, Bool, true, false, List, [], ◌∷◌, ◌++◌, length, Option, Some, None, Ok, Err, inl, inr, refl, sym, ◌∙◌, ap, subst, take}
-use Rattle.std.specs.Prelude.{MatchBool, codes, if◌then◌else◌, nat_lt, nat_le, option_map}
+use Rattle.std.proofs.Common.{◌≡◌, ℕ, Bool, true, false, List, [], ◌∷◌, ◌++◌, length, Option, Some, None, Ok, Err, inl, inr, sym, ◌∙◌, ap, subst, take, arith}
+use Rattle.std.specs.Prelude.{MatchBool, codes, if◌then◌else◌, nat_lt, nat_le}
 use Rattle.std.specs.Bool.{one_answer}
 use Rattle.std.specs.List.{All}
 use Rattle.std.specs.Str.Lines.{lines}
-use Rattle.std.proofs.lemmas.Bool.{cases_Bool, lt-ltb, le-ltb, le-leb, lt-leb}
+use Rattle.std.proofs.lemmas.Bool.{cases_Bool}
+use Rattle.std.proofs.lemmas.Bool.Decides.{nat_tests}
 use Rattle.std.proofs.lemmas.List.Elements.{All-head, All-tail}
 use Rattle.sd_acl.specs.declared.ace.Ace.{Ace}
 use Rattle.sd_tree.specs.Answers.{answer, descriptor_at}
@@ -21,9 +22,7 @@ use Rattle.sd_versions.specs.declared.request.Reply.TheVariants as replies
 use Rattle.sd_versions.specs.declared.request.Request.{Request}
 use Rattle.sd_versions.specs.declared.request.Request.TheVariants as requests
 use Rattle.sd_versions.specs.declared.start.StartError.{StartError}
-use Rattle.sd_versions.specs.declared.start.StartError.TheVariants as starts
 use Rattle.sd_answer.specs.Answer.{line}
-use Rattle.sd_script.specs.Dump.{IsDump}
 use Rattle.sd_script.specs.Expect.{expect_line, expects, is_met, last_after}
 use Rattle.sd_script.specs.Fault.{line_of_fault}
 use Rattle.sd_script.specs.Laws.{AsksNoAnalysis, HasOneAnswer, HasOneOutput, is_analysis}
@@ -34,7 +33,7 @@ use Rattle.sd_script.specs.Output.{is_open, manner_of, IsOpened, IsAnswered, IsD
 use Rattle.sd_script.specs.Question.{for_reader}
 use Rattle.sd_script.specs.Reply.{check_line, counted_line, refused_line, reply_line, seen_line, shown_line, start_error_line}
 use Rattle.sd_script.specs.declared.asked.Asked.{Asked}
-use Rattle.sd_script.specs.declared.asked.Asked.TheVariants.{Opening, Asking, Explaining, Finding, Deleting, Viewing, Importing}
+use Rattle.sd_script.specs.declared.asked.Asked.TheVariants.{Opening, Asking, Viewing, Importing}
 use Rattle.sd_script.specs.declared.carried.Carried.{Carried}
 use Rattle.sd_script.specs.declared.manner.Manner.{Manner}
 use Rattle.sd_script.specs.declared.manner.Notation.{Notation}
@@ -43,7 +42,7 @@ use Rattle.sd_script.specs.declared.session.Session.TheVariants.{Opened}
 use Rattle.sd_script.specs.Tally.{tallied}
 use Rattle.sd_script.specs.View.{IsViewed}
 use Rattle.sd_script.specs.declared.view.View.{View}
-use Rattle.sd_script.specs.declared.view.View.TheVariants.{List as Lists, Dump, Who, Review}
+use Rattle.sd_script.specs.declared.view.View.TheVariants.{List as Lists, Dump}
 use Rattle.sd_answer.specs.declared.answer.Spelling.{Spelling}
 use Rattle.sd_script.proofs.OneReading.{line-one}
 
@@ -71,9 +70,6 @@ outcome spelling m (requests.Check reader names t asked) = for_reader m reader
 outcome spelling m (requests.Show reader names) = for_reader m reader
     (seen_line (length m.published) (shown_line spelling (descriptor_at m.opening.mapping (replay m.opening m.published) names)), with_look m reader)
 
-printed_is : {xs ys : List ℕ} {m n : Machine} → Some xs ≡ Some ys → n ≡ m → pair ys n ≡ pair xs m
-printed_is {xs} {ys} text machine = let same : xs ≡ ys = cc (text) in rw (machine, same) refl
-
 -- what holds of two outcomes where the reader is there, and where it isn't
 pub by_reader : (P : List ℕ × Machine → List ℕ × Machine → Type 0) (m : Machine) (reader : ℕ) (x y : List ℕ × Machine) → P x y
     → P (pair (line (codes "noreader")) m) (pair (line (codes "noreader")) m) → P (for_reader m reader x) (for_reader m reader y)
@@ -84,65 +80,25 @@ by_reader P m reader x y is none = by_test (nat_lt reader (length m.floors)) whe
 
 pub one_step : (spelling : Spelling) (old : Machine) (r : Request) (reply : Reply) (new : Machine) (printed : List ℕ)
     → Steps old r reply new → reply_line spelling reply ≡ Some printed → pair printed new ≡ outcome spelling old r
-one_step spelling old r replies.Memory new printed is text = absurd (cc (text))
-one_step spelling old (requests.Edit e) replies.Edited new printed is text = rw (is.0) (printed_is text is.1)
-one_step spelling old (requests.Edit e) (replies.Refused refusal) new printed is text = rw (is.0) (printed_is text is.1)
-one_step spelling old requests.Publish (replies.Published len) new printed is text = rw (← is.0) (printed_is text is.1)
-one_step spelling old requests.Tell (replies.Told len) new printed is text = rw (← is.0) (printed_is text is.1)
-one_step spelling old (requests.Learn reader len) replies.NoReader new printed is text =
-    rw (le-ltb reader (length old.floors) is.0) (printed_is text is.1)
-one_step spelling old (requests.Learn reader len) replies.NoNotice new printed is text =
-    rw (lt-ltb reader (length old.floors) is.0, lt-leb len (length old.published) is.1) (printed_is text is.2)
-one_step spelling old (requests.Learn reader len) (replies.Learned floor) new printed is text =
-    rw (lt-ltb reader (length old.floors) is.0, le-leb len (length old.published) is.1) (printed_is (rw is.2 at text) is.3)
-one_step spelling old (requests.Check reader names t asked) replies.NoReader new printed is text =
-    rw (le-ltb reader (length old.floors) is.0) (printed_is text is.1)
-one_step spelling old (requests.Check reader names t asked) (replies.Answered given) new printed is text =
-    rw (lt-ltb reader (length old.floors) is.0) (printed_is (rw is.1 at text) is.2)
-one_step spelling old (requests.Show reader names) replies.NoReader new printed is text =
-    rw (le-ltb reader (length old.floors) is.0) (printed_is text is.1)
-one_step spelling old (requests.Show reader names) (replies.Shown seen d) new printed is text =
-    rw (lt-ltb reader (length old.floors) is.0) (printed_is (rw (is.1, is.2) at text) is.3)
-one_step spelling old r reply new printed is text = absurd is
+one_step spelling old r reply new printed is text = grind (arith, nat_tests)
 
 -- ---- openings
 
--- the line of the error that is due, if one is
-abbrev error_line : ℕ → Option EditRefusal → Option (List ℕ)
-error_line readers refusal =
-    let wrong = Some (line (codes "refused readers")) in
-    if nat_le readers 64 then (if nat_lt 0 readers then option_map refused_line refusal else wrong) else wrong
-
-one_error : (e : StartError) (readers : ℕ) (refusal : Option EditRefusal) (p : List ℕ) → IsStartError e readers refusal
-    → start_error_line e ≡ Some p → error_line readers refusal ≡ Some p
-one_error starts.Readers readers refusal p (inl is) text = rw is text
-one_error starts.Readers readers refusal p (inr is) text = rw (lt-leb readers 64 is) text
-one_error (starts.Root r) readers refusal p (count, is) text =
-    rw (le-leb readers 64 count.1, lt-ltb 0 readers count.0, is) text
-one_error starts.Memory readers refusal p is text = absurd (cc (text))
-one_error starts.Place readers refusal p is text = absurd is
+one_error : (readers : ℕ) (refusal : Option EditRefusal) (e f : StartError) (p q : List ℕ) → IsStartError e readers refusal → IsStartError f readers refusal
+    → start_error_line e ≡ Some p → start_error_line f ≡ Some q → p ≡ q
+one_error readers refusal e f p q one other first second = grind arith
 
 -- where a store is opened there is no error with a line
 pub no_error : (e : StartError) (readers : ℕ) (refusal : Option EditRefusal) (p : List ℕ) → IsReaderCount readers → refusal ≡ None
     → IsStartError e readers refusal → start_error_line e ≡ Some p → ⊥
-no_error e readers refusal p count none is text =
-    let due_line = one_error e readers refusal p is text in
-    cc (rw (le-leb readers 64 count.1, lt-ltb 0 readers count.0, none) at due_line)
+no_error e readers refusal p count none is text = grind arith
 
 opened-one : (manner : Manner) (readers : ℕ) (root : RootSpec) (p q : List ℕ) (x y : Session) → IsOpened manner readers root p x → IsOpened manner readers root q y → (p ≡ q) × (x ≡ y)
 opened-one manner readers root p q x y (inl one) (inl other) = (one.2 ∙ sym other.2, one.3 ∙ sym other.3)
 opened-one manner readers root p q x y (inl one) (inr other) = absurd (no_error other.0 readers _ q one.0 one.1 other.1 other.2)
 opened-one manner readers root p q x y (inr one) (inl other) = absurd (no_error one.0 readers _ p other.0 other.1 one.1 one.2)
 opened-one manner readers root p q x y (inr one) (inr other) =
-    (cc (one_error one.0 readers _ p one.1 one.2, one_error other.0 readers _ q other.1 other.2), one.3 ∙ sym other.3)
-
--- ---- a tree as a script
-
-dump-one : (notation : Notation) (m : Machine) (p q : List ℕ) → IsDump notation m p → IsDump notation m q → p ≡ q
-dump-one notation m p q (inl one) (inl other) = one.1 ∙ sym other.1
-dump-one notation m p q (inl one) (inr other) = absurd (other.0 one.0)
-dump-one notation m p q (inr one) (inl other) = absurd (one.0 other.0)
-dump-one notation m p q (inr one) (inr other) = one.1 ∙ sym other.1
+    (one_error readers _ one.0 other.0 p q one.1 other.1 one.2 other.2, one.3 ∙ sym other.3)
 
 -- ---- imports
 
@@ -153,29 +109,34 @@ imported-one spelling m path given p q one other =
     let ordered = one_answer one.1 other.1 one.3 other.3 in
     one.4 ∙ ap (λ b. imported_line b one.1) inherits ∙ ap (imported_line other.0) ordered ∙ sym other.4
 
-step-one : (spelling : Spelling) (m : Machine) (e : Edit) (r s : Reply) (x y : Machine) (p q : List ℕ) (path : Names) (given : List Ace)
-    → Steps m (requests.Edit e) r x → Steps m (requests.Edit e) s y → IsImported spelling x path given r p → IsImported spelling y path given s q → (p ≡ q) × (x ≡ y)
-step-one spelling m e replies.Memory s x y p q path given one other first second = absurd (cc (first))
-step-one spelling m e r replies.Memory x y p q path given one other first second = absurd (cc (second))
-step-one spelling m e replies.Edited replies.Edited x y p q path given one other first second =
-    let same = one.1 ∙ sym other.1 in
-    (imported-one spelling y path given p q (subst (λ n. IsImported spelling n path given replies.Edited p) same first) second, same)
-step-one spelling m e replies.Edited (replies.Refused refusal) x y p q path given one other first second = absurd (cc (one.0, other.0))
-step-one spelling m e (replies.Refused refusal) replies.Edited x y p q path given one other first second = absurd (cc (one.0, other.0))
-step-one spelling m e (replies.Refused refusal) (replies.Refused later) x y p q path given one other first second =
-    (cc (one.0, other.0, first, second), one.1 ∙ sym other.1)
-step-one spelling m e replies.Edited s x y p q path given one other first second = absurd other
-step-one spelling m e (replies.Refused refusal) s x y p q path given one other first second = absurd other
-step-one spelling m e r s x y p q path given one other first second = absurd one
+module _ (spelling : Spelling) (m : Machine) (x y : Machine) (p q : List ℕ) where
+  -- a request has one line, and leaves one machine
+  pub requested-one : (asked : Request) (r s : Reply) → Steps m asked r x → Steps m asked s y → reply_line spelling r ≡ Some p → reply_line spelling s ≡ Some q
+      → (p ≡ q) × (x ≡ y)
+  requested-one asked r s one other first second =
+      let same = one_step spelling m asked r x p one first ∙ sym (one_step spelling m asked s y q other second) in
+      (ap (λ (z : List ℕ × Machine). z.0) same, ap (λ (z : List ℕ × Machine). z.1) same)
+
+  -- and so has an import
+  pub step-one : (e : Edit) (path : Names) (given : List Ace) (r s : Reply) → Steps m (requests.Edit e) r x → Steps m (requests.Edit e) s y
+      → IsImported spelling x path given r p → IsImported spelling y path given s q → (p ≡ q) × (x ≡ y)
+  step-one e path given replies.Edited replies.Edited one other first second =
+      let same = one.1 ∙ sym other.1 in
+      (imported-one spelling y path given p q (subst (λ n. IsImported spelling n path given replies.Edited p) same first) second, same)
+  step-one e path given replies.Edited s one other first second = absurd (grind arith)
+  step-one e path given r replies.Edited one other first second = absurd (grind arith)
+  step-one e path given r s one other first second = requested-one (requests.Edit e) r s one other first second
 
 -- ---- views
 
 viewed-one : (notation : Notation) (m : Machine) (view : View) (p q : List ℕ) → is_analysis (Viewing view) ≡ false
     → IsViewed notation m view p → IsViewed notation m view q → p ≡ q
 viewed-one notation m (Lists path) p q plain one other = one ∙ sym other
-viewed-one notation m Dump p q plain one other = dump-one notation m p q one other
-viewed-one notation m (Who path groups asked) p q plain one other = absurd (cc (plain))
-viewed-one notation m (Review path) p q plain one other = absurd (cc (plain))
+viewed-one notation m Dump p q plain (inl one) (inl other) = one.1 ∙ sym other.1
+viewed-one notation m Dump p q plain (inl one) (inr other) = absurd (other.0 one.0)
+viewed-one notation m Dump p q plain (inr one) (inl other) = absurd (one.0 other.0)
+viewed-one notation m Dump p q plain (inr one) (inr other) = one.1 ∙ sym other.1
+viewed-one notation m view p q plain one other = absurd (cc (plain))
 
 -- ---- the whole output
 
@@ -185,15 +146,13 @@ done-one : (old : Session) (asked : Asked) (p q : List ℕ) (x y : Session) → 
 done-one old (Opening readers root) p q x y one other =
     let same = opened-one (manner_of old) readers root p q x y one other in (λ plain. same.0, same.1)
 done-one (Opened notation m) (Asking r) p q x y one other =
-    let same = one_step notation.spelling m r one.0 one.1 p one.2 one.3 ∙ sym (one_step notation.spelling m r other.0 other.1 q other.2 other.3) in
-    (λ plain. ap (λ (z : List ℕ × Machine). z.0) same, one.4 ∙ ap (λ (z : List ℕ × Machine). Opened notation z.1) same ∙ sym other.4)
-done-one (Opened notation m) (Explaining reader names t asked) p q x y one other = (λ plain. one.0 ∙ sym other.0, one.1 ∙ sym other.1)
-done-one (Opened notation m) (Finding reader names t asked) p q x y one other = (λ plain. one.0 ∙ sym other.0, one.1 ∙ sym other.1)
-done-one (Opened notation m) (Deleting reader names t) p q x y one other = (λ plain. one.0 ∙ sym other.0, one.1 ∙ sym other.1)
+    let same = requested-one notation.spelling m one.1 other.1 p q r one.0 other.0 one.2 other.2 one.3 other.3 in
+    (λ plain. same.0, one.4 ∙ ap (Opened notation) same.1 ∙ sym other.4)
 done-one (Opened notation m) (Viewing view) p q x y one other = (λ plain. viewed-one notation m view p q plain one.0 other.0, one.1 ∙ sym other.1)
 done-one (Opened notation m) (Importing e path given) p q x y one other =
-    let stepped = step-one notation.spelling m e one.0 other.0 one.1 other.1 p q path given one.2 other.2 one.3 other.3 in
+    let stepped = step-one notation.spelling m one.1 other.1 p q e path given one.0 other.0 one.2 other.2 one.3 other.3 in
     (λ plain. stepped.0, one.4 ∙ ap (Opened notation) stepped.1 ∙ sym other.4)
+done-one (Opened notation m) asked p q x y one other = (λ plain. one.0 ∙ sym other.0, one.1 ∙ sym other.1)
 done-one old asked p q x y one other = absurd one
 
 told-one : (old : Session) (text p q : List ℕ) (x y : Session) → IsTold old text p x → IsTold old text q y

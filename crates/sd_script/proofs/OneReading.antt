@@ -1,6 +1,5 @@
 -- A line is read as one thing, or has one fault.
 use Rattle.std.proofs.Common.{◌≡◌, ℕ, Bool, true, false, List, [], ◌∷◌, Option, Some, None, Result, Ok, Err, inl, inr, sym, ◌∙◌, ap}
-use Rattle.std.specs.Prelude.{bit_or}
 use Rattle.std.proofs.lemmas.Bool.{cases_Bool}
 use Rattle.sd_acl.specs.Descriptor.{DescriptorValue}
 use Rattle.sd_text.specs.Grammar.{Spells}
@@ -10,11 +9,11 @@ use Rattle.sd_text.specs.Sddl.{sddl_in}
 use Rattle.sd_text.specs.Sid.{sid_text_in}
 use Rattle.sd_text.proofs.Engine.{one_value, no_fault, one_fault}
 use Rattle.sd_answer.proofs.OneToken.{groups_one, token_one}
-use Rattle.sd_answer.specs.Mask.{AreJoined, IsMaskIn, IsWordMask, between_pluses, rights_word}
+use Rattle.sd_answer.proofs.WordsLeft.{one_joined}
+use Rattle.sd_answer.specs.Mask.{IsMaskIn, between_pluses}
 use Rattle.sd_answer.specs.Word.{AreGroups, IsToken}
 use Rattle.sd_answer.specs.declared.answer.Spelling.{Spelling}
 use Rattle.sd_answer.specs.declared.answer.Spelling.TheVariants as spellings
-use Rattle.sd_answer.specs.declared.names.ObjectKind.{ObjectKind}
 use Rattle.sd_tree.specs.Names.{Names}
 use Rattle.sd_script.specs.Argument.{IsNumber, descriptor, node_of, dacl_of, import_of}
 use Rattle.sd_script.specs.Command.{Argument, Number, Path, Sid, Mask, Token, Groups, Node, Dacl, Imported, reading, Arguments, Asks, ◌▸◌}
@@ -53,17 +52,6 @@ Then-one first next one more r s (inr x) (inr y) = cc (one (Err x.0) (Err y.0) x
 one_path : (paths : PathSpelling) (word : List ℕ) (a b : Names) → IsPath paths word a → IsPath paths word b → a ≡ b
 one_path Plain word a b x y = cc (x, y)
 one_path Percent word a b x y = cc (x.3, y.3)
-
-one_word : (kind : Option ObjectKind) (word : List ℕ) (a b : ℕ) → IsWordMask kind word a → IsWordMask kind word b → a ≡ b
-one_word kind word a b (inl x) (inl y) = cc (x, y)
-one_word kind word a b (inl x) (inr y) = absurd (cc (x, y.0))
-one_word kind word a b (inr x) (inl y) = absurd (cc (x.0, y))
-one_word kind word a b (inr x) (inr y) = one_value rights_word word a b x.1 y.1
-
-one_joined : (kind : Option ObjectKind) (bits : ℕ) (words : List (List ℕ)) (a b : ℕ) → AreJoined kind bits words a → AreJoined kind bits words b → a ≡ b
-one_joined kind bits [] a b x y = x ∙ sym y
-one_joined kind bits (word ∷ words) a b (m, x, after) (n, y, other) =
-    one_joined kind (bit_or bits n) words a b (rw (one_word kind word m n x y) at after) other
 
 one_mask : (spelling : Spelling) (word : List ℕ) (a b : ℕ) → IsMaskIn spelling word a → IsMaskIn spelling word b → a ≡ b
 one_mask spellings.Number word a b x y = one_value mask_text word a b x y

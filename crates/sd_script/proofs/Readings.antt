@@ -1,22 +1,29 @@
--- One reading behind another, where memory may be wanted.
-use Rattle.std.proofs.Common.{Result, Ok, Err, inl, inr, refl}
-use Rattle.sd_script.specs.Fault.{Reading, Then, UnlessMemory}
+-- Arguments that are parsed one after another, where memory may be wanted.
+use Rattle.std.proofs.Common.{◌≡◌, Option, Some, None, Result, Ok, Err, inl, inr, refl}
+use Rattle.std.specs.Prelude.{◌⊎◌, IsErrAnd}
+use Rattle.sd_script.specs.Command.{Arguments, Asks, ◌▸◌, Parses, Value, reading}
+use Rattle.sd_script.specs.Fault.{Reading, UnlessMemory}
+use Rattle.sd_script.specs.declared.asked.Asked.{Asked}
 use Rattle.sd_script.specs.declared.fault.LineFault.{LineFault}
 use Rattle.sd_script.specs.declared.fault.LineStop.{LineStop}
 use Rattle.sd_script.specs.declared.fault.LineStop.TheVariants.{Fault, Memory}
+use Rattle.sd_script.specs.declared.manner.Notation.{Notation}
 
--- behind a value
-pub Then-value : {A B : Type 0} (first : Reading A) (next : A → Reading B) (a : A) (r : Result B LineStop)
-    → first (Ok a) → UnlessMemory (next a) r → UnlessMemory (Then first next) r
-Then-value first next a (Ok b) read more = inl (a, read, more)
-Then-value first next a (Err (Fault fault)) read more = inl (a, read, more)
-Then-value first next a (Err Memory) read more = tt
+-- each argument is parsed to a value, up to the first that stops
+abbrev pub Takes : Notation → Arguments → Result (Option Asked) LineStop → Type 0
+Takes notation (Asks asked) r = r ≡ Ok (Some asked)
+Takes notation (argument ▸ next) r =
+    ((value : Value argument) × reading notation argument (Ok value) × Takes notation (next value) r)
+    ⊎ ((stop : LineStop) × UnlessMemory (reading notation argument) (Err stop) × IsErrAnd r (λ told. told ≡ stop))
 
--- what stopped the first comes first
-pub Then-stop : {A B : Type 0} (first : Reading A) (next : A → Reading B) (stop : LineStop)
-    → UnlessMemory first (Err stop) → UnlessMemory (Then first next) (Err stop)
-Then-stop first next (Fault fault) read = inr (fault, read, refl)
-Then-stop first next Memory read = tt
+pub takes : (notation : Notation) (arguments : Arguments) (r : Result (Option Asked) LineStop) → Takes notation arguments r → Parses notation (Some arguments) r
+takes notation (Asks asked) r is = rw is refl
+takes notation (argument ▸ next) (Ok (Some asked)) (inl (value, read, more)) = inl (value, read, takes notation (next value) (Ok (Some asked)) more)
+takes notation (argument ▸ next) (Ok None) (inl (value, read, more)) = takes notation (next value) (Ok None) more
+takes notation (argument ▸ next) (Err (Fault fault)) (inl (value, read, more)) = inl (value, read, takes notation (next value) (Err (Fault fault)) more)
+takes notation (argument ▸ next) (Err (Fault fault)) (inr (stop, read, is)) = inr (fault, rw (← is) at read, refl)
+takes notation (argument ▸ next) (Err Memory) more = tt
+takes notation (argument ▸ next) (Ok a) (inr (stop, read, none)) = absurd none
 
 -- what is read in one way is read in another
 pub UnlessMemory-weaker : {A : Type 0} (P Q : Reading A) (r : Result A LineStop)

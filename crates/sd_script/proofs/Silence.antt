@@ -1,6 +1,6 @@
 -- A review without lines: no check is answered otherwise.
-use Rattle.std.proofs.Common.{◌≡◌, ℕ, Bool, true, false, List, [], ◌∷◌, ◌++◌, length, Option, Some, None, inl, inr, refl, sym, ◌∙◌, ap, arith}
-use Rattle.std.specs.Prelude.{is_some, option_map, codes}
+use Rattle.std.proofs.Common.{◌≡◌, ℕ, Bool, true, false, List, [], ◌∷◌, ◌++◌, length, Option, Some, None, inl, inr, refl, sym, ◌∙◌, ap, subst, arith}
+use Rattle.std.specs.Prelude.{is_some, codes}
 use Rattle.std.specs.Bool.{one_answer}
 use Rattle.std.specs.FinMap.{entries, find, get-entries}
 use Rattle.std.specs.List.{flat_map}
@@ -9,6 +9,7 @@ use Rattle.std.proofs.lemmas.Bool.{cases_Bool}
 use Rattle.std.proofs.lemmas.List.{append_cancel_right}
 use Rattle.sd_sid.specs.Mapping.{MappingValue}
 use Rattle.sd_sid.specs.Mask.{holds}
+use Rattle.sd_acl.specs.Descriptor.{DescriptorValue}
 use Rattle.sd_acl.specs.declared.ace.Ace.{Ace}
 use Rattle.sd_check.specs.Check.{is_granted, judged, most, verdict}
 use Rattle.sd_check.specs.Token.{TokenValue}
@@ -30,8 +31,9 @@ use Rattle.sd_answer.proofs.NoLines.{no_gain_no_loss, parts_empty}
 use Rattle.sd_script.specs.Laws.{SilentNodeIsUnchanged, SilentReviewChangesNothing}
 use Rattle.sd_script.specs.Paths.{path_word}
 use Rattle.sd_answer.specs.Parts.{parts_in}
-use Rattle.sd_review.specs.Origin.{origin}
-use Rattle.sd_review.specs.Review.{Trees, former, former_by_edits, stands_in}
+use Rattle.sd_review.specs.Review.{Trees, former, stands_in}
+use Rattle.sd_review.specs.declared.review.Former.{Former}
+use Rattle.sd_review.specs.declared.review.Former.TheVariants.{Same, Moved, New}
 use Rattle.sd_script.specs.Review.{ArePrinted, IsChangeText, IsCompared, IsNodeReview, IsNodeText, IsReviewOf, gone_line, has_no_words, reviewed_line, trees_in}
 use Rattle.sd_script.specs.declared.manner.Notation.{Notation}
 
@@ -59,51 +61,45 @@ verdict_there : (g : MappingValue) (token : TokenValue) (asked : ℕ) (row : Row
 verdict_there g token asked row None = refl
 verdict_there g token asked row (Some es) = refl
 
-silent_parts : (spelling : Spelling) (g : MappingValue) (head : List ℕ) (p q : Parts) (token : TokenValue) (asked : ℕ) → holds asked 25 ≡ false
-    → IsChangeText spelling g head p q [] → verdict_by g token asked p ≡ verdict_by g token asked q
-silent_parts spelling g head p q token asked plain (gained, lost, gains, losses, is) =
+silent_parts : (spelling : Spelling) (g : MappingValue) (head : List ℕ) (old new : DescriptorValue) (token : TokenValue) (asked : ℕ) → holds asked 25 ≡ false
+    → IsChangeText spelling g head (Some old) (Some new) [] → verdict_by g token asked (parts_in old) ≡ verdict_by g token asked (parts_in new)
+silent_parts spelling g head old new token asked plain (gained, lost, gains, losses, is) =
+    let p = parts_in old in
+    let q = parts_in new in
     let none = no_gain_no_loss spelling head p q gained lost gains.some losses.some (sym is) in
     judged_alike g (is_granted p.owner p.dacl g token) (is_granted q.owner q.dacl g token) (most p.owner p.dacl g token) (most q.owner q.dacl g token) asked plain
     (grants_alike g p q (rw none.0 at gains) (rw none.1 at losses) token)
 
 -- ---- one node
 
--- a node that is new or was moved has a line
-not_arrived : (notation : Notation) (ts : Trees) (path : Names) (place : Option Names) → IsNodeText notation ts path (former_by_edits ts.old place) [] → ⊥
-not_arrived notation ts path None is = cc (is)
-not_arrived notation ts path (Some before) is = elim (cases_Bool (is_some (kind_at ts.old before))) [
-  | inl there ↦ let text = rw there at is in cc (text.2)
-  | inr gone ↦ let text = rw gone at is in cc (text)
-]
+-- a node without lines is at its place: one that is new or was moved has a line
+at_its_place : (notation : Notation) (ts : Trees) (path : Names) (before : Former) → IsNodeText notation ts path before [] → before ≡ Same
+at_its_place notation ts path Same is = refl
+at_its_place notation ts path (Moved before) (changes, compared, is) = absurd (cc (is))
+at_its_place notation ts path New is = absurd (cc (is))
 
--- a node without lines was at its path before
-was_there : (notation : Notation) (ts : Trees) (path : Names) → IsNodeText notation ts path (former ts path) []
-    → (is_some (kind_at ts.old path) ≡ true) × IsCompared notation ts path path []
-was_there notation ts path is = elim (cases_Bool (is_some (kind_at ts.old path))) [
-  | inl there ↦ (there, rw there at is)
-  | inr gone ↦ absurd (not_arrived notation ts path (origin ts.pending path) (rw gone at is))
-]
-
-a_row : (row : Option Row) → is_some (option_map (λ (r : Row). r.kind) row) ≡ true → (r : Row) × (row ≡ Some r)
-a_row (Some r) is = (r, refl)
-a_row None is = absurd (cc (is))
+was_there : (ts : Trees) (path : Names) → former ts path ≡ Same → is_some (kind_at ts.old path) ≡ true
+was_there ts path same = grind arith
 
 abbrev Alike : Trees → Names → TokenValue → ℕ → Type 0
 Alike ts path token asked = reply_in ts.mapping ts.old path token asked ≡ reply_in ts.mapping ts.new path token asked
 
-compared_alike : (notation : Notation) (ts : Trees) (path : Names) (r s : Row) (token : TokenValue) (asked : ℕ) → holds asked 25 ≡ false
-    → row_at ts.old path ≡ Some r → row_at ts.new path ≡ Some s → IsCompared notation ts path path [] → Alike ts path token asked
-compared_alike notation ts path r s token asked plain old new is =
+compared_alike : (notation : Notation) (ts : Trees) (path : Names) (before : Option Row) (s : Row) (token : TokenValue) (asked : ℕ) → holds asked 25 ≡ false
+    → row_at ts.old path ≡ before → is_some (kind_at ts.old path) ≡ true → row_at ts.new path ≡ Some s → IsCompared notation ts path path [] → Alike ts path token asked
+compared_alike notation ts path None s token asked plain old there new is = absurd (cc (rw old at there))
+compared_alike notation ts path (Some r) s token asked plain old there new is =
+    let was = dacl_at ts.mapping ts.old path in
+    let now = dacl_at ts.mapping ts.new path in
     let change = rw (old, new) at is in
-    let same = silent_parts notation.spelling ts.mapping (path_word notation.paths path ++ codes " ") _ _ token asked plain change in
-    rw (old, new) (ap Verdict (verdict_there ts.mapping token asked r (dacl_at ts.mapping ts.old path) ∙ same
-    ∙ sym (verdict_there ts.mapping token asked s (dacl_at ts.mapping ts.new path))))
+    let same = silent_parts notation.spelling ts.mapping (path_word notation.paths path ++ codes " ") (descriptor_of_row r was) (descriptor_of_row s now) token asked plain change in
+    rw (old, new) (ap Verdict (verdict_there ts.mapping token asked r was ∙ same ∙ sym (verdict_there ts.mapping token asked s now)))
 
 pub silent_node_is_unchanged : SilentNodeIsUnchanged
 silent_node_is_unchanged notation ts top path row token asked is within there plain =
-    let was = was_there notation ts path (rw within at is) in
-    let before = a_row (row_at ts.old path) was.0 in
-    compared_alike notation ts path before.0 row token asked plain before.1 there was.1
+    let text = rw within at is in
+    let same = at_its_place notation ts path (former ts path) text in
+    compared_alike notation ts path (row_at ts.old path) row token asked plain refl (was_there ts path same) there
+    (subst (λ before. IsNodeText notation ts path before []) same text)
 
 -- ---- all nodes
 
@@ -128,33 +124,30 @@ found_none : (f : Names × Row → List ℕ) (es : List (Names × Row)) (path : 
 found_none f es path row found none =
     sym (found_silent (λ e printed. printed ≡ f e) es path row found (rw none at (pieces_printed f es)))
 
-each_alike : (notation : Notation) (ts : Trees) (top path : Names) (token : TokenValue) (asked : ℕ)
-    → ArePrinted (IsNodeReview notation ts top) (entries ts.new) [] → flat_map (gone_line notation.paths ts top) (entries ts.old) ≡ []
-    → is_within top path ≡ true → holds asked 25 ≡ false → (old new : Option Row) → row_at ts.old path ≡ old → row_at ts.new path ≡ new
-    → Alike ts path token asked
-each_alike notation ts top path token asked changes gone within plain old (Some row) was is =
-    silent_node_is_unchanged notation ts top path row token asked
-    (found_silent (IsNodeReview notation ts top) (entries ts.new) path row (sym (get-entries ts.new path) ∙ is) changes) within is plain
-each_alike notation ts top path token asked changes gone within plain None None was is = rw (was, is) refl
-each_alike notation ts top path token asked changes gone within plain (Some row) None was is =
-    let silent = found_none (gone_line notation.paths ts top) (entries ts.old) path row (sym (get-entries ts.old path) ∙ was) gone in
-    absurd (cc (rw (within, is) at silent))
+module _ (notation : Notation) (ts : Trees) (top path : Names) (token : TokenValue) (asked : ℕ)
+    (within : is_within top path ≡ true) (plain : holds asked 25 ≡ false) where
+  each_alike : ArePrinted (IsNodeReview notation ts top) (entries ts.new) [] → flat_map (gone_line notation.paths ts top) (entries ts.old) ≡ []
+      → (old new : Option Row) → row_at ts.old path ≡ old → row_at ts.new path ≡ new → Alike ts path token asked
+  each_alike changes gone old (Some row) was is =
+      silent_node_is_unchanged notation ts top path row token asked
+      (found_silent (IsNodeReview notation ts top) (entries ts.new) path row (sym (get-entries ts.new path) ∙ is) changes) within is plain
+  each_alike changes gone None None was is = rw (was, is) refl
+  each_alike changes gone (Some row) None was is =
+      let silent = found_none (gone_line notation.paths ts top) (entries ts.old) path row (sym (get-entries ts.old path) ∙ was) gone in
+      absurd (cc (rw (within, is) at silent))
 
--- ---- the whole review
-
-by_case : (notation : Notation) (ts : Trees) (top path : Names) (token : TokenValue) (asked old new : ℕ) (stands lacks : Bool)
-    → IsReviewOf notation ts top (reviewed_line old new) stands lacks (reviewed_line old new)
-    → is_within top path ≡ true → holds asked 25 ≡ false → Alike ts path token asked
-by_case notation ts top path token asked old new false lacks is within plain = absurd (grind (arith, is))
-by_case notation ts top path token asked old new true true is within plain = absurd (grind (arith, is))
-by_case notation ts top path token asked old new true false (changes, printed, is) within plain =
-    let gone = flat_map (gone_line notation.paths ts top) (entries ts.old) in
-    let none = parts_empty changes gone (sym (append_cancel_right [] (changes ++ gone) (reviewed_line old new) is)) in
-    each_alike notation ts top path token asked (rw none.0 at printed) none.1 within plain (row_at ts.old path) (row_at ts.new path) refl refl
+  -- the whole review
+  by_case : (old new : ℕ) (stands lacks : Bool) → IsReviewOf notation ts top (reviewed_line old new) stands lacks (reviewed_line old new) → Alike ts path token asked
+  by_case old new false lacks is = absurd (grind (arith, is))
+  by_case old new true true is = absurd (grind (arith, is))
+  by_case old new true false (changes, printed, is) =
+      let gone = flat_map (gone_line notation.paths ts top) (entries ts.old) in
+      let none = parts_empty changes gone (sym (append_cancel_right [] (changes ++ gone) (reviewed_line old new) is)) in
+      each_alike (rw none.0 at printed) none.1 (row_at ts.old path) (row_at ts.new path) refl refl
 
 pub silent_review_changes_nothing : SilentReviewChangesNothing
 silent_review_changes_nothing notation m top path token asked is within plain =
-    by_case notation (trees_in m) top path token asked (length m.published) (length (accepted m))
-    (stands_in (trees_in m) top) (has_no_words notation.paths (trees_in m)) is within plain
+    by_case notation (trees_in m) top path token asked within plain (length m.published) (length (accepted m))
+    (stands_in (trees_in m) top) (has_no_words notation.paths (trees_in m)) is
 
 pub ruleset silence = (silent_node_is_unchanged, silent_review_changes_nothing)

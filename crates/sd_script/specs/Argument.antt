@@ -24,7 +24,6 @@ use Rattle.sd_answer.specs.Mask.{IsMaskIn}
 use Rattle.sd_answer.specs.Word.{AreGroups, IsToken}
 use Rattle.sd_script.specs.declared.fault.LineFault.{LineFault}
 use Rattle.sd_script.specs.declared.fault.LineFault.TheVariants.{Number, Path, Sid, Sddl, Parts, Mask, Token}
-use Rattle.sd_script.specs.declared.importing.Import.{Import}
 use Rattle.sd_script.specs.declared.manner.Notation.{Notation}
 use Rattle.sd_script.specs.declared.paths.PathSpelling.{PathSpelling}
 
@@ -94,13 +93,13 @@ abbrev pub entries_in : Dacl → List Ace
 entries_in (dacls.List entries) = entries
 entries_in dacl = []
 
-abbrev pub with_given : List Ace → Result RootSpec LineFault → Result Import LineFault
-with_given given (Ok node) = Ok (record { node = node; given = given })
+abbrev pub with_given : List Ace → Result RootSpec LineFault → Result (RootSpec × List Ace) LineFault
+with_given given (Ok node) = Ok (node, given)
 with_given given (Err fault) = Err fault
 
-abbrev pub import_of : DescriptorValue → Result Import LineFault
+abbrev pub import_of : DescriptorValue → Result (RootSpec × List Ace) LineFault
 import_of d = with_given (entries_in d.dacl) (with_parts d.owner d.group (imported_dacl d.protected d.dacl))
 
 -- the text of such a descriptor, with an owner and a group
-abbrev pub imported : Notation → List ℕ → Reading Import
+abbrev pub imported : Notation → List ℕ → Reading (RootSpec × List Ace)
 imported notation word = Then (descriptor notation word) (λ d read. read ≡ import_of d)

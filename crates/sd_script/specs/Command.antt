@@ -33,7 +33,7 @@ use Rattle.sd_script.specs.declared.command.ScriptCommand.TheVariants.{Publish, 
 use Rattle.sd_script.specs.declared.command.ScriptCommand.TheVariants.{ListNodes, Dump, Who, Review, ImportNode, Delete}
 use Rattle.sd_script.specs.declared.fault.LineFault.TheVariants as faults
 use Rattle.sd_script.specs.declared.fault.LineStop.{LineStop}
-use Rattle.sd_script.specs.declared.importing.Import.{Import}
+use Rattle.sd_acl.specs.declared.ace.Ace.{Ace}
 use Rattle.sd_script.specs.declared.manner.Notation.{Notation}
 use Rattle.sd_script.specs.declared.view.View.{View}
 use Rattle.sd_script.specs.declared.view.View.TheVariants as views
@@ -54,7 +54,7 @@ Value (Sid word) = SidValue
 Value (Mask word) = ℕ
 Value (Node word) = RootSpec
 Value (Dacl word) = NodeDacl
-Value (Imported word) = Import
+Value (Imported word) = RootSpec × List Ace
 Value (Token user words) = TokenValue
 Value (Groups words) = List (SidValue × GroupState)
 
@@ -125,24 +125,16 @@ adds kind at sddl = Path at ▸ λ p. Node sddl ▸ λ n. edit (addition_of kind
 -- what a node that comes from elsewhere asks for
 abbrev pub imports : List ℕ → List ℕ → NodeKind → Arguments
 imports at sddl kind =
-    Path at ▸ λ p. Imported sddl ▸ λ i. Asks (Importing (addition_of kind p (row_of kind i.node)) p i.given)
+    Path at ▸ λ p. Imported sddl ▸ λ i. Asks (Importing (addition_of kind p (row_of kind i.0)) p i.1)
 
 -- a path, a mask and groups
 unfoldable pub asks_groups : List ℕ → List ℕ → List (List ℕ) → Arguments
 asks_groups at asked words = Path at ▸ λ p. Mask asked ▸ λ m. Groups words ▸ λ groups. view (views.Who p groups m)
 
-abbrev pub asks_who : List (List ℕ) → Option Arguments
-asks_who (at ∷ asked ∷ words) = Some (asks_groups at asked words)
-asks_who arguments = None
-
 -- a reader, a path, a user and words: whether the user may delete the node
 unfoldable pub deletes : List ℕ → List ℕ → List ℕ → List (List ℕ) → Arguments
 deletes reader at user words =
     Number reader ▸ λ i. Path at ▸ λ p. Sid user ▸ λ s. Token s words ▸ λ t. Asks (Deleting i p t)
-
-abbrev pub asks_delete : List (List ℕ) → Option Arguments
-asks_delete (reader ∷ at ∷ user ∷ words) = Some (deletes reader at user words)
-asks_delete arguments = None
 
 -- each other command on these arguments, where they are as many as it takes
 abbrev pub asks_taking : ScriptCommand → List (List ℕ) → Option Arguments
@@ -171,8 +163,8 @@ asks_taking ImportNode (kind ∷ at ∷ sddl ∷ []) = option_map (imports at sd
 asks_taking name arguments = None
 
 abbrev pub asks : ScriptCommand → List (List ℕ) → Option Arguments
-asks Who arguments = asks_who arguments
-asks Delete arguments = asks_delete arguments
+asks Who (at ∷ asked ∷ words) = Some (asks_groups at asked words)
+asks Delete (reader ∷ at ∷ user ∷ words) = Some (deletes reader at user words)
 asks name arguments = asks_taking name arguments
 
 -- a store is opened where none is open, and each other command is for where one is

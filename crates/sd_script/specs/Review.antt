@@ -1,6 +1,6 @@
 -- What `review` prints: what the pending edits change, node by node, for all tokens.
-use Rattle.std.specs.Prelude.{◌≡◌, ℕ, Bool, true, false, ◌||◌, List, [], ◌∷◌, ◌++◌, length, MatchBool}
-use Rattle.std.specs.Prelude.{if◌then◌else◌, Option, Some, is_some, codes}
+use Rattle.std.specs.Prelude.{◌≡◌, ℕ, Bool, true, false, ◌&&◌, ◌||◌, List, [], ◌∷◌, ◌++◌, length, MatchBool}
+use Rattle.std.specs.Prelude.{if◌then◌else◌, Option, Some, is_none, codes}
 use Rattle.std.specs.Fmt.{decimal}
 use Rattle.std.specs.FinMap.{entries}
 use Rattle.std.specs.List.{flat_map}
@@ -11,7 +11,6 @@ use Rattle.sd_tree.specs.Names.{Names, is_within}
 use Rattle.sd_tree.specs.declared.node.Row.{Row}
 use Rattle.sd_versions.specs.Machine.{Machine, accepted}
 use Rattle.sd_analysis.specs.Compare.{AreGains}
-use Rattle.sd_analysis.specs.Sufficient.{Parts}
 use Rattle.sd_analysis.specs.declared.compare_report.Change.{Change}
 use Rattle.sd_answer.specs.Parts.{parts_in}
 use Rattle.sd_review.specs.Review.{Trees, former, stands_in, trees_after}
@@ -32,22 +31,18 @@ trees_in m = trees_after m.opening m.published m.pending
 
 -- what tokens gain and lose if the new descriptor takes the place of the old one: the lines of `compare`, each after a
 -- head. The base is empty, so these are all tokens
-abbrev pub IsChangeText : Spelling → MappingValue → List ℕ → Parts → Parts → List ℕ → Type 0
-IsChangeText spelling g head old new printed =
-    (gained : List Change) × (lost : List Change)
-    × AreGains g [] old new gained × AreGains g [] new old lost
-    × (printed ≡ gains_and_losses spelling head old new gained lost)
-
-abbrev pub IsChangeOf : Spelling → MappingValue → List ℕ → Option DescriptorValue → Option DescriptorValue → List ℕ
+abbrev pub IsChangeText : Spelling → MappingValue → List ℕ → Option DescriptorValue → Option DescriptorValue → List ℕ
     → Type 0
-IsChangeOf spelling g head (Some old) (Some new) printed =
-    IsChangeText spelling g head (parts_in old) (parts_in new) printed
-IsChangeOf spelling g head old new printed = printed ≡ []
+IsChangeText spelling g head (Some old) (Some new) printed =
+    (gained : List Change) × (lost : List Change)
+    × AreGains g [] (parts_in old) (parts_in new) gained × AreGains g [] (parts_in new) (parts_in old) lost
+    × (printed ≡ gains_and_losses spelling head (parts_in old) (parts_in new) gained lost)
+IsChangeText spelling g head old new printed = printed ≡ []
 
 -- of the node at a path, beside the node at a path of the old tree
 abbrev pub IsCompared : Notation → Trees → Names → Names → List ℕ → Type 0
 IsCompared notation ts before path printed =
-    IsChangeOf notation.spelling ts.mapping (path_word notation.paths path ++ codes " ")
+    IsChangeText notation.spelling ts.mapping (path_word notation.paths path ++ codes " ")
     (descriptor_at ts.mapping ts.old before) (descriptor_at ts.mapping ts.new path) printed
 
 abbrev pub new_line : PathSpelling → Names → List ℕ
@@ -72,8 +67,7 @@ IsNodeReview notation ts top node printed =
 -- the line of a node of the old tree, if no node stands at its path in the new one
 abbrev pub gone_line : PathSpelling → Trees → Names → Names × Row → List ℕ
 gone_line paths ts top node =
-    if is_within top node.0
-    then (if is_some (kind_at ts.new node.0) then [] else line (codes "gone " ++ path_word paths node.0))
+    if is_within top node.0 && is_none (kind_at ts.new node.0) then line (codes "gone " ++ path_word paths node.0)
     else []
 
 -- the text has the lines of each, one after the other

@@ -25,10 +25,7 @@ pub fn number_in(word: &str) -> Result<u64, LineFault>
     if word.starts_with('+') {
         return Err(LineFault::Number);
     }
-    match word.parse::<u64>() {
-        Ok(n) => Ok(n),
-        Err(_) => Err(LineFault::Number),
-    }
+    word.parse::<u64>().map_err(|_| LineFault::Number)
 }
 
 /// What parses the arguments of a command, written in this notation.
@@ -53,10 +50,7 @@ impl Parser {
     pub(crate) fn mask(self, word: &str) -> Result<Mask, LineFault>
         ensures { mask self.notation word.now result }
     {
-        match read_mask_in(self.notation.spelling, word) {
-            Ok(mask) => Ok(mask),
-            Err(_) => Err(LineFault::Mask),
-        }
+        read_mask_in(self.notation.spelling, word).map_err(|_| LineFault::Mask)
     }
 
     /// The token of a user and of words.
@@ -112,13 +106,11 @@ impl Parser {
         ensures { UnlessMemory (node self.notation word.now) result }
     {
         let descriptor = self.descriptor(word)?;
-        match (descriptor.owner, descriptor.group) {
-            (Some(owner), Some(group)) => {
-                let dacl = NodeDacl::of_descriptor(self.alloc, &descriptor)?;
-                Ok(RootSpec { owner, group, dacl })
-            }
-            _ => Err(LineStop::Fault(LineFault::Parts)),
-        }
+        let (Some(owner), Some(group)) = (descriptor.owner, descriptor.group) else {
+            return Err(LineStop::Fault(LineFault::Parts));
+        };
+        let dacl = NodeDacl::of_descriptor(self.alloc, &descriptor)?;
+        Ok(RootSpec { owner, group, dacl })
     }
 
     /// The text of a descriptor with neither.

@@ -1,7 +1,7 @@
 //! What a line asks for, and how a command's arguments are parsed.
 ghost use Rattle.std.specs.Prelude.{◌≡◌, ◌∷◌, [], Some, Ok};
-ghost use Rattle.sd_script.specs.Command.{Parses, adds, asks, asks_delete, asks_groups, asks_taking, asks_who, deletes};
-ghost use Rattle.sd_script.specs.Command.{kind_named, posed, poses};
+ghost use Rattle.sd_script.specs.Command.{Parses, adds, asks, asks_groups, asks_taking, deletes, kind_named, posed};
+ghost use Rattle.sd_script.specs.Command.{poses};
 ghost use Rattle.sd_script.specs.declared.asked.Asked.TheVariants.{Asking, Viewing};
 ghost use Rattle.sd_versions.specs.declared.request.Request.TheVariants as requests;
 ghost use Rattle.sd_answer.specs.Word.{texts};
@@ -73,23 +73,21 @@ impl Parser {
     pub(crate) fn asked(self, command: Command<'_>) -> Parsed
         ensures { Parses self.notation (asks command.entry.name (texts command.entry.arguments.now)) result }
     {
+        let arguments = command.arguments;
         match command.name {
-            ScriptCommand::Who => self.who(command.arguments),
-            ScriptCommand::Delete => self.deletion(command.arguments),
-            _ => self.taking(command.name, command.arguments),
+            ScriptCommand::Who => match arguments {
+                [path, mask, words @ ..] => self.granted(path, mask, words),
+                _ => Ok(None),
+            },
+            ScriptCommand::Delete => match arguments {
+                [reader, path, user, words @ ..] => self.deleting(reader, path, user, words),
+                _ => Ok(None),
+            },
+            name => self.taking(name, arguments),
         }
     }
 
     /// Who is granted a mask on a path, of groups.
-    fn who(self, arguments: &[&str]) -> Parsed
-        ensures { Parses self.notation (asks_who (texts arguments.now)) result }
-    {
-        match arguments {
-            [path, mask, words @ ..] => self.granted(path, mask, words),
-            _ => Ok(None),
-        }
-    }
-
     #[tactic(auto, unfolding(crate::specs::Command::asks_groups))]
     fn granted(self, path: &str, mask: &str, words: &[&str]) -> Parsed
         ensures { Parses self.notation (Some (asks_groups path.now mask.now (texts words.now))) result }
@@ -105,15 +103,6 @@ impl Parser {
     }
 
     /// Whether a user may delete a node.
-    fn deletion(self, arguments: &[&str]) -> Parsed
-        ensures { Parses self.notation (asks_delete (texts arguments.now)) result }
-    {
-        match arguments {
-            [reader, path, user, words @ ..] => self.deleting(reader, path, user, words),
-            _ => Ok(None),
-        }
-    }
-
     #[tactic(auto, unfolding(crate::specs::Command::deletes))]
     fn deleting(self, reader: &str, path: &str, user: &str, words: &[&str]) -> Parsed
         ensures { Parses self.notation (Some (deletes reader.now path.now user.now (texts words.now))) result }
@@ -152,8 +141,7 @@ impl Parser {
             ScriptCommand::Publish => Ok(Some(Asked::Asking(Request::Publish))),
             ScriptCommand::Tell => Ok(Some(Asked::Asking(Request::Tell))),
             ScriptCommand::Dump => view(View::Dump),
-            ScriptCommand::ListNodes => self.on_one(name, "/"),
-            ScriptCommand::Review => self.on_one(name, "/"),
+            ScriptCommand::ListNodes | ScriptCommand::Review => self.on_one(name, "/"),
             _ => Ok(None),
         }
     }
@@ -231,11 +219,8 @@ impl Parser {
     fn on_three(self, name: ScriptCommand, kind: &str, path: &str, sddl: &str) -> Parsed
         ensures { Parses self.notation (asks_taking name (kind.now ∷ path.now ∷ sddl.now ∷ [])) result }
     {
-        match name {
-            ScriptCommand::ImportNode => match kind_named(kind) {
-                Some(kind) => self.importing(kind, path, sddl),
-                None => Ok(None),
-            },
+        match (name, kind_named(kind)) {
+            (ScriptCommand::ImportNode, Some(kind)) => self.importing(kind, path, sddl),
             _ => Ok(None),
         }
     }

@@ -87,13 +87,9 @@ pub(crate) fn command_of<'a>(words: &'a [&'a str]) -> Option<Command<'a>>
     if has_empty(words) {
         return None;
     }
-    match words {
-        [word, arguments @ ..] => {
-            let name = ScriptCommand::named(word)?;
-            Some(Command { name, arguments })
-        }
-        [] => None,
-    }
+    let (word, arguments) = words.split_first()?;
+    let name = ScriptCommand::named(word)?;
+    Some(Command { name, arguments })
 }
 
 fn has_empty(words: &[&str]) -> bool

@@ -32,10 +32,8 @@ impl LastAnswer {
     pub(crate) fn of(alloc: Global, answer: &[u8]) -> Result<LastAnswer, AllocError>
         ensures { IfOk result (λ last. last ≡ Some (first_line_of answer.now)) }
     {
-        let first_line = Vec::from_slice(alloc, &answer[..len_before(b'\n', answer)])?;
-        Ok(LastAnswer {
-            first_line: Some(first_line),
-        })
+        let first_line = Some(Vec::from_slice(alloc, &answer[..len_before(b'\n', answer)])?);
+        Ok(LastAnswer { first_line })
     }
 
     /// What a line that expects an answer is answered by: whether this is all after its first word and a space.

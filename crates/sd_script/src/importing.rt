@@ -1,8 +1,7 @@
 //! A node that comes with the descriptor that it had elsewhere.
 ghost use Rattle.std.specs.Prelude.{◌≡◌, IfOk, Some, filter, string_bytes};
 ghost use Rattle.sd_acl.specs.Canonical.{is_explicit, is_inherited};
-ghost use Rattle.sd_acl.specs.Descriptor.{descriptor_of};
-ghost use Rattle.sd_script.specs.Argument.{entries_in, import_of, imported, imported_dacl};
+ghost use Rattle.sd_script.specs.Argument.{entries_in, imported, imported_dacl};
 ghost use Rattle.sd_script.specs.Command.{Parses, imports};
 ghost use Rattle.sd_script.specs.Fault.{UnlessMemory};
 ghost use Rattle.sd_script.specs.Importing.{IsImported, entries_by, imported_line};
@@ -20,45 +19,32 @@ use sd_tree::{Edit, Entries, NodeDacl, NodeKind, Path, RootSpec, Tree, same_entr
 use sd_versions::Reply;
 use std::alloc::{AllocError, Global};
 
-/// What a descriptor gives a node, and all entries that the node had elsewhere.
-#[derive(Debug, Drop)]
-struct Import {
-    node: RootSpec,
-    given: Entries,
-}
-
 impl Parser {
     /// A node of the kind with the descriptor of a text, and the entries that it had elsewhere.
     pub(crate) fn importing(self, kind: NodeKind, path: &str, sddl: &str) -> Parsed
         ensures { Parses self.notation (Some (imports path.now sddl.now kind)) result }
     {
         let path = self.path(path)?;
-        let Import { node, given } = self.imported(sddl)?;
+        let imported = self.imported(sddl)?;
         let added = path.copy(self.alloc)?;
-        let edit = Edit::addition(kind, added, node);
-        Ok(Some(Asked::Importing { edit, path, given }))
+        Ok(Some(Asked::Importing {
+            edit: Edit::addition(kind, added, imported.0),
+            path,
+            given: imported.1,
+        }))
     }
 
-    /// The text of a descriptor with an owner and a group, as a node had it.
-    fn imported(self, word: &str) -> Result<Import, LineStop>
+    /// The text of a descriptor with an owner and a group, as a node had it: what it gives a node, and all its entries.
+    fn imported(self, word: &str) -> Result<(RootSpec, Entries), LineStop>
         ensures { UnlessMemory (imported self.notation word.now) result }
     {
         let descriptor = self.descriptor(word)?;
-        import_of(self.alloc, &descriptor)
-    }
-}
-
-fn import_of(alloc: Global, descriptor: &Descriptor) -> Result<Import, LineStop>
-    ensures { UnlessMemory (λ read. read ≡ import_of (descriptor_of descriptor.now)) result }
-{
-    match (descriptor.owner, descriptor.group) {
-        (Some(owner), Some(group)) => {
-            let dacl = imported_dacl(alloc, descriptor)?;
-            let given = Entries::new(entries_in(alloc, &descriptor.dacl)?);
-            let node = RootSpec { owner, group, dacl };
-            Ok(Import { node, given })
-        }
-        _ => Err(LineStop::Fault(LineFault::Parts)),
+        let (Some(owner), Some(group)) = (descriptor.owner, descriptor.group) else {
+            return Err(LineStop::Fault(LineFault::Parts));
+        };
+        let dacl = imported_dacl(self.alloc, &descriptor)?;
+        let given = Entries::new(entries_in(self.alloc, &descriptor.dacl)?);
+        Ok((RootSpec { owner, group, dacl }, given))
     }
 }
 

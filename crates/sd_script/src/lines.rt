@@ -11,10 +11,7 @@ use std::alloc::{AllocError, Global};
 pub fn is_silent(line: &[u8]) -> bool
     ensures { result ≡ is_silent line.now }
 {
-    match line.first() {
-        None => true,
-        Some(first) => *first == b'#',
-    }
+    matches!(line, [] | [b'#', ..])
 }
 
 /// Whether a line is answered by several, by its first word.
@@ -49,8 +46,7 @@ pub(crate) fn len_before(end: u8, bytes: &[u8]) -> usize
     ensures len { result ≡ position_or_len (λ b. b == end) bytes.now }
     ensures within { result ≤ length bytes.now }
 {
-    let found = bytes.iter().position(|b| *b == end);
-    found.unwrap_or(bytes.len())
+    bytes.iter().position(|b| *b == end).unwrap_or(bytes.len())
 }
 
 /// The words of a line, parted by single spaces.

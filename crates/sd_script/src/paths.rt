@@ -45,6 +45,7 @@ fn plain_path(alloc: Global, word: &str) -> Result<Path, LineStop>
 }
 
 /// A name has no `/`, so that none is spelled by `%`: what is a part of a name never parts two.
+#[tactic(auto, using(std::proofs::lemmas::Str::Pattern::contains_text))]
 fn percent_path(alloc: Global, word: &str) -> Result<Path, LineStop>
     ensures { UnlessMemory (path Percent word.now) result }
 {

@@ -35,8 +35,7 @@ pub(crate) fn review_text(
         notation,
         review: Review::of(old, new),
     };
-    let text = review.text(top)?;
-    Ok(text)
+    review.text(top)
 }
 
 /// A review whose lines are written so.
@@ -149,10 +148,9 @@ impl ReviewText<'_> {
         ensures { IfOk result (λ text. string_bytes text
             ≡ gone_line self.now.notation.paths (trees_of self.now.review) top.now (listed node.now)) }
     {
-        if !node.path.as_path_ref().is_within(&top.as_path_ref()) {
-            return Ok(String::new(self.alloc));
-        }
-        if self.review.new.lookup(node.path).is_some() {
+        if !node.path.as_path_ref().is_within(&top.as_path_ref())
+            || self.review.new.lookup(node.path).is_some()
+        {
             return Ok(String::new(self.alloc));
         }
         let path = path_word(self.alloc, self.notation.paths, node.path)?;

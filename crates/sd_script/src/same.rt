@@ -6,7 +6,6 @@ ghost use Rattle.sd_tree.specs.Listing.{listed};
 ghost use Rattle.sd_script.specs.Dump.{making, wanted};
 
 use crate::asked::Asked;
-use sd_sid::Sid;
 use sd_tree::{Edit, NodeDacl, NodeKind, NodeRef, Path, RootSpec, same_entries};
 use sd_versions::Request;
 
@@ -55,8 +54,8 @@ fn is_addition(edit: &Edit, node: &NodeRef<'_>) -> bool
                 dacl,
             },
             NodeKind::Container,
-        ) => is_node(path, owner, group, dacl, node),
-        (
+        )
+        | (
             Edit::AddObject {
                 path,
                 owner,
@@ -64,20 +63,14 @@ fn is_addition(edit: &Edit, node: &NodeRef<'_>) -> bool
                 dacl,
             },
             NodeKind::Object,
-        ) => is_node(path, owner, group, dacl, node),
+        ) => {
+            same_path(path, node.path)
+                && owner.is(&node.owner)
+                && group.is(&node.group)
+                && same_dacl(dacl, node.dacl)
+        }
         _ => false,
     }
-}
-
-/// Whether these are the node's.
-fn is_node(path: &Path, owner: &Sid, group: &Sid, dacl: &NodeDacl, node: &NodeRef<'_>) -> bool
-    ensures { Decides result ((path.now ≡ node.now.path.now) × (owner.now ≡ node.now.owner)
-        × (group.now ≡ node.now.group) × (dacl.now ≡ node.now.dacl.now)) }
-{
-    same_path(path, node.path)
-        && owner.is(&node.owner)
-        && group.is(&node.group)
-        && same_dacl(dacl, node.dacl)
 }
 
 #[tactic(auto, using(crate::proofs::Dumping::path_decides))]

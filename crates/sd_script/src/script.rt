@@ -1,7 +1,7 @@
 //! The whole output of a script.
 ghost use Rattle.std.specs.Prelude.{◌≡◌, ◌⊎◌, false, true, IfOk, OnErr, string_bytes};
 ghost use Rattle.sd_script.specs.Output.{IsAnsweredAfter, IsDone, IsMade, IsNext, IsTold, IsUnanswered, IsUntold};
-ghost use Rattle.sd_script.specs.Output.{PrintsAndCounts, is_open, opens};
+ghost use Rattle.sd_script.specs.Output.{PrintsAndCounts, opens};
 ghost use Rattle.sd_script.specs.declared.session.Session.TheVariants.{Opened};
 
 use crate::asked::Asked;
@@ -98,10 +98,9 @@ fn told(alloc: Global, session: &mut Session, line: &[u8]) -> Result<String, All
 
 /// Opens a store, where none is open.
 fn open_store(alloc: Global, session: &mut Session, asked: Asked) -> Result<String, AllocError>
-    requires closed { is_open session.old ≡ false }
-    requires opens { opens asked ≡ true }
+    requires { opens asked ≡ true }
     ensures done { IfOk result (λ text. IsDone session.old asked (string_bytes text) session.new) }
-    ensures failed { OnErr result ((session.new ≡ session.old) ⊎ IsMade session.old asked session.new) }
+    ensures failed { OnErr result (session.new ≡ session.old) }
 {
     let Asked::Opening { readers, root } = asked else {
         unreachable!()
@@ -109,12 +108,14 @@ fn open_store(alloc: Global, session: &mut Session, asked: Asked) -> Result<Stri
     let manner = session.manner();
     match Desk::start_within(alloc, &manner.mapping, &root, manner.limits, readers) {
         Ok(desk) => {
+            let text = counted_line(alloc, "opened", readers)?;
             *session = Session::Opened(manner.notation, desk);
-            counted_line(alloc, "opened", readers)
+            Ok(text)
         }
         Err(error) => {
+            let text = start_error_line(alloc, error)?;
             *session = Session::Closed(manner);
-            start_error_line(alloc, error)
+            Ok(text)
         }
     }
 }

@@ -1,7 +1,6 @@
 //! What is counted of a script's lines, beside what they are answered by.
 ghost use Rattle.std.specs.Prelude.{◌≡◌};
-ghost use Rattle.sd_script.specs.Tally.{has_mark, is_unmet, no_lines, one_more_where, tallied};
-ghost use Rattle.sd_script.specs.Tally.{tells_difference, tells_fault, tells_order};
+ghost use Rattle.sd_script.specs.Tally.{no_lines, one_more_where, tallied, tells_fault, tells_order};
 
 use crate::expect::expects;
 
@@ -48,20 +47,21 @@ impl Tally {
         ensures { result ≡ tallied line.now answer.now self }
     {
         let number = self.lines.saturating_add(1);
-        let is_unmet = is_unmet(line, answer);
+        let is_unmet = expects(line) && tells_fault(answer);
         Tally {
             lines: number,
             first_fault: self.first_fault.or(tells_fault(answer).then_some(number)),
             first_difference: self
                 .first_difference
-                .or(tells_difference(answer).then_some(number)),
+                .or(answer.starts_with(b"ok differs").then_some(number)),
             first_reordered: self
                 .first_reordered
                 .or(tells_order(answer).then_some(number)),
             expected: one_more_where(expects(line), self.expected),
             unmet: one_more_where(is_unmet, self.unmet),
             first_unmet: self.first_unmet.or(is_unmet.then_some(number)),
-            begins_with_mark: self.begins_with_mark || (self.lines == 0 && has_mark(line)),
+            begins_with_mark: self.begins_with_mark
+                || (self.lines == 0 && line.starts_with(b"\xEF\xBB\xBF")),
         }
     }
 }
@@ -84,30 +84,9 @@ fn tells_fault(answer: &[u8]) -> bool
     answer.starts_with(b"fault ") || answer.starts_with(b"refused ")
 }
 
-/// Whether the line expects an answer, and isn't answered by it.
-fn is_unmet(line: &[u8], answer: &[u8]) -> bool
-    ensures { result ≡ is_unmet line.now answer.now }
-{
-    expects(line) && tells_fault(answer)
-}
-
-/// Whether the answer says that an imported node inherits otherwise than it did.
-fn tells_difference(answer: &[u8]) -> bool
-    ensures { result ≡ tells_difference answer.now }
-{
-    answer.starts_with(b"ok differs")
-}
-
 /// Whether the answer says that an imported node's own entries were put in another order.
 fn tells_order(answer: &[u8]) -> bool
     ensures { result ≡ tells_order answer.now }
 {
     answer == b"ok reordered\n".as_slice() || answer == b"ok differs reordered\n".as_slice()
-}
-
-/// Whether the text begins with UTF-8's byte order mark.
-fn has_mark(text: &[u8]) -> bool
-    ensures { result ≡ has_mark text.now }
-{
-    text.starts_with(b"\xEF\xBB\xBF")
 }

@@ -8,7 +8,7 @@ use Rattle.sd_script.proofs.lines.len_before.Goals as goal
 pub returns-clause-len : goal.returns-clause-len
 returns-clause-len c =
     let end = c.args.end in
-    let found = position_from_yields_List (λ (b : ℕ). b == end) _ _ c.position-found.result c.position-found.ensures.ran
+    let found = position_from_yields_List (λ (b : ℕ). b == end) _ _ c.position.result c.position.ensures.ran
     (YieldsList-from_slice _ c.iter.ensures.rest) (λ x b q k. search (rules, tests)) in
     let most = prefix_len-le-length (λ (b : ℕ). not (b == end)) c.args.bytes.now in
     grind (arith, nat_tests, found, most)

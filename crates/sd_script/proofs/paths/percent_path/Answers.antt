@@ -1,22 +1,26 @@
 -- What `%` spells is read as it is, where it spells no slash.
-use Rattle.std.proofs.Common.{refl, sym, ◌∙◌, ap}
+use Rattle.std.proofs.Common.{◌≡◌, ℕ, List, Result, Ok, Err, refl, sym, ◌∙◌, ap}
 use Rattle.std.specs.Prelude.{codes}
+use Rattle.std.specs.Str.{IsUtf8}
+use Rattle.std.specs.Str.Iter.{HasSubslice}
 use Rattle.std.proofs.lemmas.Bool.{false≢true}
 use Rattle.std.proofs.lemmas.Str.Pattern.{contains_text}
 use Rattle.percent_encoding.specs.Percent.{percent_decode}
-use Rattle.sd_script.proofs.PathWords.{spelled_reads}
+use Rattle.sd_tree.specs.Names.{Names}
+use Rattle.sd_tree.specs.PathText.{path_of}
+use Rattle.sd_script.specs.Argument.{path}
+use Rattle.sd_script.specs.Fault.{UnlessMemory}
+use Rattle.sd_script.specs.declared.fault.LineStop.{LineStop}
+use Rattle.sd_script.specs.declared.fault.LineStop.TheVariants.{Fault, Memory}
+use Rattle.sd_script.specs.declared.paths.PathSpelling.TheVariants.{Plain, Percent}
 use Rattle.sd_script.proofs.paths.percent_path.Goals as goal
-use Rattle.sd_script.proofs.paths.percent_path.Goals.{then-contains-via-then-contains, then-contains-via-else-contains+then-contains-2}
 
-pub returns-then-contains : goal.returns-then-contains
-returns-then-contains c = (
-  λ names is. elim c.then-contains.branch [
-    | then-contains-via-then-contains w ↦ is.0 ((contains_text c.contains.result (codes "%2F") c.args.word.now c.contains.ensures.cases).0 w.if-contains.true)
-    | then-contains-via-else-contains+then-contains-2 w ↦
-        is.1 ((contains_text w.contains-else-contains.result (codes "%2f") c.args.word.now w.contains-else-contains.ensures.cases).0 w.if-contains-2.true)
-  ],
-  refl,
-)
+-- a word that doesn't spell a slash is read as what it spells
+spelled_reads : (word spelled : List ℕ) (r : Result Names LineStop) → (HasSubslice word (codes "%2F") → ⊥) → (HasSubslice word (codes "%2f") → ⊥)
+    → IsUtf8 (percent_decode word) → spelled ≡ percent_decode word → UnlessMemory (path Plain spelled) r → UnlessMemory (path Percent word) r
+spelled_reads word spelled (Ok names) upper lower utf8 same read = (upper, lower, utf8, ap path_of (sym same) ∙ read)
+spelled_reads word spelled (Err (Fault fault)) upper lower utf8 same read = (λ names is. read.0 names (ap path_of same ∙ is.3), read.1)
+spelled_reads word spelled (Err Memory) upper lower utf8 same read = tt
 
 pub returns-in-Ok : goal.returns-in-Ok
 returns-in-Ok c =
@@ -31,9 +35,5 @@ returns-in-Ok c =
 
 pub returns-in-Err-Utf8 : goal.returns-in-Err-Utf8
 returns-in-Err-Utf8 c =
-    let bytes = c.percent_decode.ensures.bytes in
-    let word = c.as_bytes.ensures.value in
-    let utf8 = rw (bytes, word) at c.in-Err-Utf8.ensures.utf8 in (
-      λ names is. let no = sym c.in-Err-Utf8.field-0-is ∙ utf8 is.2 in cc (no),
-      refl,
-    )
+    let utf8 = rw (c.percent_decode.ensures.bytes, c.as_bytes.ensures.value) at c.in-Err-Utf8.ensures.utf8 in
+    (λ names is. let no = sym c.in-Err-Utf8.field-0-is ∙ utf8 is.2 in cc (no), refl)

@@ -4,8 +4,8 @@ use Rattle.sd_script.specs.Output.{is_open}
 use Rattle.sd_script.proofs.Timely.{line_opens}
 use Rattle.sd_script.proofs.script.told.Goals as goal
 
-pub open_store-requires-clause-opens : goal.open_store-requires-clause-opens
-open_store-requires-clause-opens c =
+pub open_store-requires : goal.open_store-requires
+open_store-requires c =
     line_opens c.manner.result.notation c.is_open.result c.args.line.now c.in-Ok.asked c.in-Ok.ensures ∙ ap not (c.is_open.ensures ∙ ap is_open c.in-Closed.is)
 
 pub done-requires : goal.done-requires

@@ -5,5 +5,4 @@ use Rattle.sd_script.proofs.argument.Parser.base.Goals as goal
 
 pub returns-in-Err-NoWord : goal.returns-in-Err-NoWord
 returns-in-Err-NoWord c =
-    let place = c.in-Err-NoWord.field-0-0 in
-    (λ groups are. groups_or_none c.args.self.notation.aliases _ groups place are (c.in-Err-NoWord.ensures.no_group place (ap Err c.in-Err-NoWord.field-0-is)), refl)
+    (λ groups are. groups_or_none _ _ groups _ are (c.in-Err-NoWord.ensures.no_group _ (ap Err c.in-Err-NoWord.field-0-is)), refl)

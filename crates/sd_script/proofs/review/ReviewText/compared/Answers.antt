@@ -9,12 +9,12 @@ use Rattle.sd_review.specs.Review.{trees_of}
 use Rattle.sd_review.specs.declared.compared.Compared.{Compared}
 use Rattle.sd_review.proofs.RightOnes.{right_one}
 use Rattle.sd_answer.specs.declared.answer.Spelling.{Spelling}
-use Rattle.sd_script.specs.Review.{IsChangeOf}
+use Rattle.sd_script.specs.Review.{IsChangeText}
 use Rattle.sd_script.proofs.review.ReviewText.compared.Goals as goal
 
 -- the lines of what was compared of two nodes that are there
 compared_lines : (spelling : Spelling) (g : MappingValue) (head : List ℕ) (x y : Option DescriptorValue) (c : Compared) (text : List ℕ)
-    → IsOfBoth g x y (Some c) → text ≡ lines spelling head c → IsChangeOf spelling g head x y text
+    → IsOfBoth g x y (Some c) → text ≡ lines spelling head c → IsChangeText spelling g head x y text
 compared_lines spelling g head None y c text of is = absurd (cc (of))
 compared_lines spelling g head (Some a) None c text of is = absurd (cc (of))
 compared_lines spelling g head (Some a) (Some b) c text of is =
