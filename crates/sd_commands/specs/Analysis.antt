@@ -6,7 +6,6 @@ use Rattle.sd_sid.specs.Sid.{SidValue}
 use Rattle.sd_acl.specs.Descriptor.{DescriptorValue}
 use Rattle.sd_check.specs.Check.{dacl_entries}
 use Rattle.sd_check.specs.declared.token.GroupState.{GroupState}
-use Rattle.sd_analysis.specs.Sufficient.{Parts}
 use Rattle.sd_analysis.specs.Who.{AllBeyond, HasEachOnce, IsMost, IsWho}
 use Rattle.sd_analysis.specs.declared.compare_report.Change.{Change}
 use Rattle.sd_analysis.specs.declared.who_has.Access.{Access}
@@ -20,9 +19,6 @@ pub record AreAccesses (g : MappingValue) (d : DescriptorValue) (base : List (Si
   pub most : IsMost d.owner (dacl_entries d.dacl) g base rights accesses
   pub each : HasEachOnce rights accesses
   pub beyond : AllBeyond base accesses
-
-abbrev pub parts_in : DescriptorValue → Parts
-parts_in d = record { owner = d.owner; dacl = dacl_entries d.dacl }
 
 abbrev pub compare_outcome : List Change → List Change → Outcome
 compare_outcome gained lost = if length gained == 0 && length lost == 0 then Done else Refused

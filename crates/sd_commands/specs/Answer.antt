@@ -32,11 +32,12 @@ use Rattle.sd_answer.specs.Compare.{compare_text}
 use Rattle.sd_answer.specs.Descriptor.{IsRead, IsUnreadAt}
 use Rattle.sd_answer.specs.Lint.{IsLintText}
 use Rattle.sd_answer.specs.Mask.{IsMaskErrorIn, IsMaskIn}
+use Rattle.sd_answer.specs.Parts.{parts_in}
 use Rattle.sd_answer.specs.Rights.{rights_line}
 use Rattle.sd_answer.specs.Who.{rights_asked, who_text}
 use Rattle.sd_answer.specs.Why.{why_text}
 use Rattle.sd_answer.specs.Word.{AreGroups, IsFirstNoGroup, IsFirstNoWord, IsToken, texts}
-use Rattle.sd_commands.specs.Analysis.{AreAccesses, compare_outcome, parts_in}
+use Rattle.sd_commands.specs.Analysis.{AreAccesses, compare_outcome}
 use Rattle.sd_commands.specs.Bytes.{BytesRead, bytes_read, form_name, has_sacl, without_sacl}
 use Rattle.sd_usage.specs.declared.row.TextCommand.{TextCommand}
 use Rattle.sd_usage.specs.declared.row.TextCommand.TheVariants as questions

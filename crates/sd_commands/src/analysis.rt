@@ -1,10 +1,8 @@
 //! The answers to `who` and `compare`: whom rights are granted to, and what a change of a descriptor grants and takes.
 ghost use Rattle.std.specs.Prelude.{◌≡◌, ◌<◌, IfOk, length};
 ghost use Rattle.sd_acl.specs.Descriptor.{descriptor_of};
-ghost use Rattle.sd_analysis.specs.Sufficient.{parts_of};
 ghost use Rattle.sd_answer.specs.Word.{IsFirstNoGroup, texts};
-ghost use Rattle.sd_check.specs.Check.{dacl_entries, entries_of};
-ghost use Rattle.sd_commands.specs.Analysis.{compare_outcome, parts_in};
+ghost use Rattle.sd_commands.specs.Analysis.{compare_outcome};
 ghost use Rattle.sd_commands.specs.Answer.{AnswersOfBase, AnswersOn, IsGroupFault, PrintsComparison};
 ghost use Rattle.sd_commands.specs.Answer.{PrintsWho, answer_of};
 
@@ -12,10 +10,11 @@ use crate::answer::{Answer, Answered, DescriptorCommand, Outcome};
 use crate::descriptor::{Given, noting};
 use crate::settings::Command;
 use crate::words::{argument, items_from};
-use sd_acl::{Dacl, Descriptor};
-use sd_analysis::{Base, Comparison, DescriptorRef, compare, who};
-use sd_answer::{TokenError, compare_text, read_base, read_mask_in, rights_asked, who_text};
-use sd_check::{DaclRef, GroupState};
+use sd_acl::Descriptor;
+use sd_analysis::{Base, Comparison, compare, who};
+use sd_answer::{TokenError, borrowed, compare_text, looked_at, read_base, read_mask_in};
+use sd_answer::{rights_asked, who_text};
+use sd_check::GroupState;
 use sd_sid::{Mask, Sid};
 use std::alloc::AllocError;
 
@@ -48,7 +47,7 @@ impl Command {
         ensures { IfOk result (λ answer. PrintsWho self.settings asked (descriptor_of descriptor.now) groups.now
             (answer_of answer)) }
     {
-        let (owner, dacl) = (descriptor.owner, dacl_ref(&descriptor.dacl));
+        let (owner, dacl) = (descriptor.owner, borrowed(&descriptor.dacl));
         let (base, mapping) = (Base { groups }, &self.settings.mapping);
         let rights = rights_asked(mapping, asked);
         let accesses = who(self.alloc, owner, dacl, mapping, &base, rights)?;
@@ -91,7 +90,7 @@ impl Command {
             Err(TokenError::NoWord { place }) => return self.group_fault(words, place),
             Err(TokenError::Memory) => return Err(AllocError),
         };
-        let (old, new) = (descriptor_ref(old), descriptor_ref(new));
+        let (old, new) = (looked_at(old), looked_at(new));
         let (base, mapping) = (Base { groups: &groups }, &self.settings.mapping);
         let comparison = compare(self.alloc, &old, &new, mapping, &base)?;
         let text = compare_text(self.alloc, self.settings.spelling, &old, &new, &comparison)?;
@@ -106,24 +105,5 @@ fn compare_outcome(comparison: &Comparison) -> Outcome
         Outcome::Done
     } else {
         Outcome::Refused
-    }
-}
-
-fn descriptor_ref(descriptor: &Descriptor) -> DescriptorRef<'_>
-    ensures { parts_of result ≡ parts_in (descriptor_of descriptor.now) }
-{
-    DescriptorRef {
-        owner: descriptor.owner,
-        dacl: dacl_ref(&descriptor.dacl),
-    }
-}
-
-fn dacl_ref(dacl: &Dacl) -> DaclRef<'_>
-    ensures { entries_of result ≡ dacl_entries dacl.now }
-{
-    match dacl {
-        Dacl::Absent => DaclRef::Absent,
-        Dacl::Null => DaclRef::Null,
-        Dacl::List(list) => DaclRef::List(list.entries()),
     }
 }

@@ -1,12 +1,12 @@
-//! The answers to `print`, `tobin` and `frombin`: a descriptor in another form.
+//! The answers to `print`, `tobin`, `frombin` and `sid`: a descriptor or a SID in another form.
 ghost use Rattle.std.specs.Prelude.{IfOk, codes, string_bytes};
 ghost use Rattle.sd_acl.specs.Descriptor.{descriptor_of};
 ghost use Rattle.hex.specs.Hex.{encode_lower};
 ghost use Rattle.sd_wire.specs.Writing.{wire_of};
 ghost use Rattle.sd_answer.specs.Answer.{line};
 ghost use Rattle.sd_commands.specs.Diagnostic.{told_line, told_wire_fault};
-ghost use Rattle.sd_commands.specs.Answer.{AnswersBytes, AnswersFromBinary};
-ghost use Rattle.sd_commands.specs.Answer.{AnswersHeld, IsDone, IsFault, answer_of, printed_line, wire_fault_line};
+ghost use Rattle.sd_commands.specs.Answer.{AnswersBytes, AnswersFromBinary, AnswersHeld, AnswersSid};
+ghost use Rattle.sd_commands.specs.Answer.{IsDone, IsFault, answer_of, printed_line, wire_fault_line};
 
 use crate::answer::{Answer, Answered, Outcome};
 use crate::bytes::{BytesError, leave_out_sacl, read_bytes};
@@ -15,7 +15,7 @@ use crate::diagnostic::{text_at_byte, told_line};
 use crate::kinds::wire_kind_note;
 use crate::settings::Command;
 use sd_acl::Descriptor;
-use sd_text::print_sddl_in;
+use sd_text::{print_full_sid, print_sddl_in, read_sid_text_in};
 use sd_wire::{WireError, WireFault, read_descriptor, write_descriptor};
 use std::alloc::{AllocError, Global};
 
@@ -77,10 +77,20 @@ impl Command {
             Err(WireError::Memory) => Err(AllocError),
         }
     }
+
+    /// The SID that a text in full or an alias spells, in full ([MS-DTYP] 2.4.2.1).
+    pub(crate) fn sid(self, text: &str) -> Answered
+        ensures { IfOk result (λ answer. AnswersSid self.settings text.now (answer_of answer)) }
+    {
+        match read_sid_text_in(self.settings.aliases, text) {
+            Ok(sid) => printed(self.alloc, print_full_sid(self.alloc, &sid)?),
+            Err(error) => self.text_fault("sid", "SID", text, error),
+        }
+    }
 }
 
 /// The answer that is a line of this text.
-pub(crate) fn printed(alloc: Global, mut text: String) -> Answered
+fn printed(alloc: Global, mut text: String) -> Answered
     ensures { IfOk result (λ answer. IsDone (line (string_bytes text)) (answer_of answer)) }
 {
     text.push_str("\n")?;
