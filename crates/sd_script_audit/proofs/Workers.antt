@@ -224,17 +224,10 @@ root_error starts.Place n due p count is text = absurd is
 
 module _ (manner : Manner) (n m : ℕ) (some : IsReaderCount n) (others : IsReaderCount m) where
   -- no store is open afterwards, or both are
-  abbrev Opening : List ℕ → List ℕ → Progress → Progress → Type 0
-  Opening p q c d =
-      ((p ≡ q) × (c ≡ unopened manner) × (d ≡ unopened manner))
-      ⊎ ((p ≡ counted_line (codes "opened") n) × (q ≡ counted_line (codes "opened") m) × AreAlike c d)
-
-  opening : (root : RootSpec) (p q : List ℕ) (c d : Progress) → IsOpened manner n root p c.store × (c.queries ≡ [])
-      → IsOpened manner m root q d.store × (d.queries ≡ []) → Opening p q c d
-  opening root p q c d (inl one, none) (inl other, nothing) = inr (
-    one.2,
-    other.2,
-    record {
+  module _ (R : Type 0) (p q : List ℕ) (c d : Progress) (closed : p ≡ q → c ≡ unopened manner → d ≡ unopened manner → R)
+      (opened : p ≡ counted_line (codes "opened") n → q ≡ counted_line (codes "opened") m → AreAlike c d → R) where
+    opening : (root : RootSpec) → IsOpened manner n root p c.store × (c.queries ≡ []) → IsOpened manner m root q d.store × (d.queries ≡ []) → R
+    opening root (inl one, none) (inl other, nothing) = opened one.2 other.2 (record {
       notation = manner.notation;
       one = started (opening_in manner root) n;
       other = started (opening_in manner root) m;
@@ -242,23 +235,20 @@ module _ (manner : Manner) (n m : ℕ) (some : IsReaderCount n) (others : IsRead
       one_is = progress_is c _ _ one.3 none;
       other_is = progress_is d _ _ other.3 nothing;
       alike = refl;
-    },
-  )
-  opening root p q c d (inl one, none) (inr other, nothing) = absurd (no_error other.0 m _ q others one.1 other.1 other.2)
-  opening root p q c d (inr one, none) (inl other, nothing) = absurd (no_error one.0 n _ p some other.1 one.1 one.2)
-  opening root p q c d (inr one, none) (inr other, nothing) =
-      let first = root_error one.0 n _ p some one.1 one.2 in
-      let second = root_error other.0 m _ q others other.1 other.2 in
-      let dues = sym first.1 ∙ second.1 in
-      let refusals : first.0 ≡ second.0 = cc (dues) in
-      let texts = sym first.2 ∙ ap (λ r. Some (refused_line r)) refusals ∙ second.2 in
-      let same : p ≡ q = cc (texts) in
-      inl (same, progress_is c _ _ one.3 none, progress_is d _ _ other.3 nothing)
+    })
+    opening root (inl one, none) (inr other, nothing) = absurd (no_error other.0 m _ q others one.1 other.1 other.2)
+    opening root (inr one, none) (inl other, nothing) = absurd (no_error one.0 n _ p some other.1 one.1 one.2)
+    opening root (inr one, none) (inr other, nothing) =
+        let first = root_error one.0 n _ p some one.1 one.2 in
+        let second = root_error other.0 m _ q others other.1 other.2 in
+        let dues = sym first.1 ∙ second.1 in
+        let refusals : first.0 ≡ second.0 = cc (dues) in
+        let texts = sym first.2 ∙ ap (λ r. Some (refused_line r)) refusals ∙ second.2 in
+        closed (cc (texts)) (progress_is c _ _ one.3 none) (progress_is d _ _ other.3 nothing)
 
-  opening_asked : (p q : List ℕ) (c d : Progress) (asked : Asked) → opens asked ≡ true
-      → IsDoneInAudit n (unopened manner) asked p c → IsDoneInAudit m (unopened manner) asked q d → Opening p q c d
-  opening_asked p q c d (Opens readers root) is one other = opening root p q c d one other
-  opening_asked p q c d asked timely one other = absurd (cc (timely))
+    opening_asked : (asked : Asked) → opens asked ≡ true → IsDoneInAudit n (unopened manner) asked p c → IsDoneInAudit m (unopened manner) asked q d → R
+    opening_asked (Opens readers root) is one other = opening root one other
+    opening_asked asked timely one other = absurd (cc (timely))
 
   -- a line in front of two outputs
   after_line : (first p q xs ys : List ℕ) → p ≡ first ++ xs → q ≡ first ++ ys → DifferInOpening n m xs ys → DifferInOpening n m p q
@@ -270,28 +260,21 @@ module _ (manner : Manner) (n m : ℕ) (some : IsReaderCount n) (others : IsRead
     other ∙ ap (λ zs. first ++ zs) differ.3 ∙ simp append_assoc,
   )
 
-  after_opening : (texts : List (List ℕ)) (p q first second xs ys : List ℕ) (c d : Audited) (x y : Tally) → p ≡ first ++ xs → q ≡ second ++ ys
-      → Opening first second c.progress d.progress → AreAnsweredInAudit n c texts xs x → AreAnsweredInAudit m d texts ys y
-      → (c.progress ≡ unopened manner → d.progress ≡ unopened manner → DifferInOpening n m xs ys) → DifferInOpening n m p q
-  after_opening texts p q first second xs ys c d x y one other (inl same) answered answers rest =
-      after_line second p q xs ys (one ∙ ap (λ zs. zs ++ xs) same.0) other (rest same.1 same.2)
-  after_opening texts p q first second xs ys c d x y one other (inr opened) answered answers rest =
-      let same = all_alike n m texts c d xs ys x y opened.2 answered answers in
-      inr ([], ys, one ∙ ap (λ zs. zs ++ xs) opened.0 ∙ ap (λ zs. counted_line (codes "opened") n ++ zs) same, other ∙ ap (λ zs. zs ++ ys) opened.1)
-
   all_differ : (texts : List (List ℕ)) (a b : Audited) (p q : List ℕ) (x y : Tally) → a.progress ≡ unopened manner → b.progress ≡ unopened manner
       → AreAnsweredInAudit n a texts p x → AreAnsweredInAudit m b texts q y → DifferInOpening n m p q
   all_differ [] a b p q x y closed shut one other = inl (ended n a p x one ∙ rw (closed, shut) refl ∙ sym (ended m b q y other))
   all_differ (text ∷ texts) a b p q x y closed shut one other =
       let first = cut n a text texts p x one in
       let second = cut m b text texts q y other in
-      let c = first.1.progress in
-      let d = second.1.progress in
-      after_opening texts p q first.0 second.0 first.2 second.2 first.1 second.1 x y first.5 second.5
-      (line_alike manner.notation false text (Opening first.0 second.0 c d) _ _ _ _ first.0 second.0 (λ same kept left. inl (same, kept, left))
-      (opening_asked first.0 second.0 c d)
-      (subst (λ e. IsAnsweredInAudit n e text first.0 c) closed first.3.answered) (subst (λ e. IsAnsweredInAudit m e text second.0 d) shut second.3.answered))
-      first.4 second.4 (λ still yet. all_differ texts first.1 second.1 first.2 second.2 x y still yet first.4 second.4)
+      let closing : first.0 ≡ second.0 → first.1.progress ≡ unopened manner → second.1.progress ≡ unopened manner → DifferInOpening n m p q =
+      λ same still yet. after_line second.0 p q first.2 second.2 (first.5 ∙ ap (λ zs. zs ++ first.2) same) second.5
+      (all_differ texts first.1 second.1 first.2 second.2 x y still yet first.4 second.4) in
+      line_alike manner.notation false text (DifferInOpening n m p q) _ _ _ _ first.0 second.0 closing
+      (opening_asked (DifferInOpening n m p q) first.0 second.0 first.1.progress second.1.progress closing (λ front behind alike.
+      let rest = all_alike n m texts first.1 second.1 first.2 second.2 x y alike first.4 second.4 in
+      inr ([], second.2, first.5 ∙ ap (λ zs. zs ++ first.2) front ∙ ap (λ zs. counted_line (codes "opened") n ++ zs) rest, second.5 ∙ ap (λ zs. zs ++ second.2) behind)))
+      (subst (λ e. IsAnsweredInAudit n e text first.0 first.1.progress) closed first.3.answered)
+      (subst (λ e. IsAnsweredInAudit m e text second.0 second.1.progress) shut second.3.answered)
 
 pub workers_show_in_the_opening : WorkersShowInTheOpening
 workers_show_in_the_opening manner n m text one other some others prints other_prints =

@@ -1,17 +1,23 @@
 -- The parts of an audit, as its functions see them. No public contract says so.
-use Rattle.std.specs.Prelude.{ℕ, List, [], replicate, Option, Some, None}
+use Rattle.std.specs.Prelude.{◌≡◌, ℕ, List, [], replicate, Option, Some, None, Result, Ok, Err}
 use Rattle.sd_tree.specs.declared.opening.Opening.{Opening}
 use Rattle.sd_tree.specs.declared.opening.RootSpec.{RootSpec}
 use Rattle.sd_versions.specs.Machine.{Machine, started}
 use Rattle.sd_store.specs.Sights.{StoreState}
 use Rattle.sd_store.specs.declared.query.Query.{Query}
 use Rattle.sd_script.specs.Output.{opening_in}
+use Rattle.sd_script.specs.declared.asked.Asked.{Asked}
 use Rattle.sd_script.specs.declared.manner.Manner.{Manner}
 use Rattle.sd_script.specs.declared.manner.Notation.{Notation}
 use Rattle.sd_script.specs.declared.session.Session.{Session}
 use Rattle.sd_script.specs.declared.session.Session.TheVariants.{Closed, Opened}
 use Rattle.sd_script.specs.declared.tally.Tally.{Tally}
-use Rattle.sd_script_audit.specs.Audit.{Audited, Progress}
+use Rattle.sd_script_audit.specs.Audit.{Audited, IsDoneInAudit, Progress}
+
+-- what a line asks for is done, or what it is told is printed
+abbrev pub IsDoneOrTold : {X : Type 0} → (X → List ℕ) → ℕ → Progress → Result Asked X → List ℕ → Progress → Type 0
+IsDoneOrTold bytes workers old (Ok asked) printed new = IsDoneInAudit workers old asked printed new
+IsDoneOrTold bytes workers old (Err told) printed new = (printed ≡ bytes told) × (new ≡ old)
 
 -- no store is open, or one with this root that nothing was asked of
 abbrev pub store_of : Manner → ℕ → Option RootSpec → Session

@@ -6,45 +6,47 @@ ghost use Rattle.sd_script.specs.declared.session.Session.TheVariants.{Opened};
 ghost use Rattle.sd_script_audit.specs.Audit.{end_of, last_publish};
 ghost use Rattle.sd_script_audit.specs.Parts.{machine_of};
 
+use crate::queries::Queries;
 use sd_lines::RunError;
-use sd_script::{Notation, counted_line, reply_line};
+use sd_script::{counted_line, reply_line};
 use sd_store::{AuditError, Checker, Gate, Naming, Notice, Query, StoreWriter, audit};
 use sd_versions::Reply;
 use std::alloc::{AllocError, Global};
 use std::sync::Wait;
 use std::thread::Threads;
 
-/// Publishes the pending edits, prints the journal's length, and answers the queries by it.
-pub(crate) fn publish_and_answer<J: Naming + Send + Sync, T: Threads + Wait + Sync, G: Gate + Sync>(
-    rt: &T,
-    alloc: Global,
-    notation: Notation,
-    writer: &mut StoreWriter<J>,
-    checkers: &mut [Checker<J>],
-    queries: &[Query],
-    gate: &G,
-    printed: &mut Vec<u8>,
-) -> Result<(), RunError>
-    requires some { (0 < length checkers.old) × (length checkers.old ≤ 64) }
-    ensures end { (readers : ℕ) → OnOk result (printed.new.items ≡ printed.old.items
-        ++ end_of (Opened notation (machine_of J.opening readers writer.old)) queries.now) }
-    ensures failed { IfErr result (λ e. (e ≡ RunError.Memory) ⊎ (e ≡ RunError.Thread)) }
-{
-    let mut notice = publish_and_tell(rt, alloc, writer, printed)?;
-    let answers = match audit(rt, alloc, checkers, &mut notice, queries, gate) {
-        Ok(answers) => answers,
-        Err(AuditError::Memory) => return Err(RunError::Memory),
-        Err(AuditError::Gate | AuditError::Gone) => return Err(RunError::Thread),
-    };
-    let seen = notice.length();
-    for answer in &answers {
-        if answer.seen != seen {
-            return Err(RunError::Thread);
+impl<J: Naming + Send + Sync, T: Threads + Wait + Sync> Queries<'_, J, T> {
+    /// Publishes the pending edits, prints the journal's length, and answers the queries by it.
+    pub(crate) fn publish_and_answer<G: Gate + Sync>(
+        &self,
+        alloc: Global,
+        writer: &mut StoreWriter<J>,
+        checkers: &mut [Checker<J>],
+        queries: &[Query],
+        gate: &G,
+        printed: &mut Vec<u8>,
+    ) -> Result<(), RunError>
+        requires some { (0 < length checkers.old) × (length checkers.old ≤ 64) }
+        ensures end { (readers : ℕ) → OnOk result (printed.new.items ≡ printed.old.items
+            ++ end_of (Opened self.now.notation (machine_of J.opening readers writer.old)) queries.now) }
+        ensures failed { IfErr result (λ e. (e ≡ RunError.Memory) ⊎ (e ≡ RunError.Thread)) }
+    {
+        let mut notice = publish_and_tell(self.rt, alloc, writer, printed)?;
+        let answers = match audit(self.rt, alloc, checkers, &mut notice, queries, gate) {
+            Ok(answers) => answers,
+            Err(AuditError::Memory) => return Err(RunError::Memory),
+            Err(AuditError::Gate | AuditError::Gone) => return Err(RunError::Thread),
+        };
+        let seen = notice.length();
+        for answer in &answers {
+            if answer.seen != seen {
+                return Err(RunError::Thread);
+            }
+            let line = reply_line(alloc, self.notation.spelling, &Reply::Answered(*answer))?;
+            printed.extend_from_slice(line.as_bytes())?;
         }
-        let line = reply_line(alloc, notation.spelling, &Reply::Answered(*answer))?;
-        printed.extend_from_slice(line.as_bytes())?;
+        Ok(())
     }
-    Ok(())
 }
 
 /// Publishes the pending edits, where there are some, and prints the journal's length.

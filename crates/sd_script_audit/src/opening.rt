@@ -2,8 +2,8 @@
 
 ghost use Rattle.std.specs.Prelude.{◌≡◌, None, true, IfOk, IfSome, string_bytes};
 ghost use Rattle.sd_script.specs.Output.{opens};
-ghost use Rattle.sd_script_audit.specs.Audit.{IsAnsweredInAudit, IsDoneInAudit, IsNextInAudit, unopened};
-ghost use Rattle.sd_script_audit.specs.Parts.{before_queries, without_queries};
+ghost use Rattle.sd_script_audit.specs.Audit.{IsNextInAudit, unopened};
+ghost use Rattle.sd_script_audit.specs.Parts.{IsDoneOrTold, before_queries, without_queries};
 
 use crate::line::asked_or_told;
 use sd_lines::AnswersLines;
@@ -46,44 +46,31 @@ impl AnswersLines for Openings {
             // (no line is too long, and those after the opening are left)
             return Err(AllocError);
         };
-        let answer = self.answer_line(alloc, &mut unopened.root, line)?;
+        let found = asked_or_told(alloc, self.manner.notation, false, line)?;
+        let answer = self.open(alloc, &mut unopened.root, found)?;
         unopened.tally = unopened.tally.with(line, answer.as_bytes());
         text.extend_from_slice(answer.as_bytes())
     }
 }
 
 impl Openings {
-    /// What a line is answered by.
-    fn answer_line(
-        &self,
-        alloc: Global,
-        opened: &mut Option<RootSpec>,
-        line: &[u8],
-    ) -> Result<String, AllocError>
-        requires { opened.old ≡ None }
-        ensures { IfOk result (λ text. IsAnsweredInAudit self.now.workers (unopened self.now.manner) line.now
-            (string_bytes text) (without_queries self.now.manner self.now.workers opened.new)) }
-    {
-        match asked_or_told(alloc, self.manner.notation, false, line)? {
-            Ok(asked) => self.open(alloc, opened, asked),
-            Err(told) => Ok(told),
-        }
-    }
-
-    /// What an opening is answered by. Whether the store is refused a store of one thread says.
+    /// What an opening is answered by; what a line is told is its answer. Whether the store is refused a store of one
+    /// thread says.
     fn open(
         &self,
         alloc: Global,
         opened: &mut Option<RootSpec>,
-        asked: Asked,
+        found: Result<Asked, String>,
     ) -> Result<String, AllocError>
-        requires opening { opens asked ≡ true }
+        requires opening { IfOk found (λ asked. opens asked ≡ true) }
         requires closed { opened.old ≡ None }
-        ensures { IfOk result (λ text. IsDoneInAudit self.now.workers (unopened self.now.manner) asked
+        ensures { IfOk result (λ text. IsDoneOrTold string_bytes self.now.workers (unopened self.now.manner) found
             (string_bytes text) (without_queries self.now.manner self.now.workers opened.new)) }
     {
-        let Asked::Opening { readers: _, root } = asked else {
-            unreachable!()
+        let root = match found {
+            Ok(Asked::Opening { readers: _, root }) => root,
+            Ok(_) => unreachable!(),
+            Err(told) => return Ok(told),
         };
         let Manner {
             mapping,

@@ -6,7 +6,6 @@ ghost use Rattle.sd_script.specs.Output.{opening_in};
 ghost use Rattle.sd_script_audit.specs.Audit.{AreAnsweredInAudit, PrintsAuditAndCounts};
 ghost use Rattle.sd_script_audit.specs.Parts.{audited, before_queries};
 
-use crate::answers::publish_and_answer;
 use crate::opening::{Openings, Unopened};
 use crate::queries::{Open, Queries};
 use sd_history::Opened;
@@ -60,9 +59,8 @@ pub(crate) fn audit_output<T: Threads + Wait + Sync, G: Gate + Sync>(
     let tally = open_and_audit::<Brand, T, G>(
         rt,
         alloc,
-        workers,
+        openings,
         Opened::new(),
-        manner,
         &root,
         after,
         tally,
@@ -77,9 +75,8 @@ pub(crate) fn audit_output<T: Threads + Wait + Sync, G: Gate + Sync>(
 fn open_and_audit<J: Naming + Send + Sync, T: Threads + Wait + Sync, G: Gate + Sync>(
     rt: &T,
     alloc: Global,
-    workers: u64,
+    openings: Openings,
     history: Opened<Edit>,
-    manner: &Manner,
     root: &RootSpec,
     text: &[u8],
     tally: Tally,
@@ -87,17 +84,18 @@ fn open_and_audit<J: Naming + Send + Sync, T: Threads + Wait + Sync, G: Gate + S
     printed: &mut Vec<u8>,
 ) -> Result<Tally, RunError>
     requires history { (history.book ≡ J.book) × (history.first ≡ J.first) }
-    requires opening { opening_in manner.now root.now ≡ J.opening }
+    requires opening { opening_in openings.manner root.now ≡ J.opening }
     ensures audited { IfOk result (λ last. (added : List ℕ) × (printed.new.items ≡ printed.old.items ++ added)
-        × AreAnsweredInAudit workers (before_queries manner.now workers (Some root.now) tally) (lines text.now)
-        added last) }
+        × AreAnsweredInAudit openings.workers
+        (before_queries openings.manner openings.workers (Some root.now) tally) (lines text.now) added last) }
     ensures failed { IfErr result (λ e. (e ≡ RunError.Memory) ⊎ (e ≡ RunError.Thread)) }
 {
+    let Openings { manner, workers } = openings;
     let Manner {
         mapping,
         limits,
         notation,
-    } = *manner;
+    } = manner;
     match start_within::<J, T>(rt, alloc, history, &mapping, root, limits, workers) {
         Ok((writer, mut checkers)) => {
             let queries = Queries {
@@ -145,18 +143,11 @@ impl<J: Naming + Send + Sync, T: Threads + Wait + Sync> Queries<'_, J, T> {
         ensures failed { IfErr result (λ e. (e ≡ RunError.Memory) ⊎ (e ≡ RunError.Thread)) }
     {
         answer_text(alloc, self, open, LINES, text, printed)?;
-        let Open {
-            writer,
-            queries,
-            ..
-        } = open;
-        publish_and_answer(
-            self.rt,
+        self.publish_and_answer(
             alloc,
-            self.notation,
-            writer,
+            &mut open.writer,
             checkers,
-            queries,
+            &open.queries,
             gate,
             printed,
         )

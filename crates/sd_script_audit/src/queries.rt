@@ -4,8 +4,8 @@ ghost use Rattle.std.specs.Prelude.{◌≡◌, ℕ, false, IfOk, IfSome, string_
 ghost use Rattle.sd_versions.specs.Machine.{Steps};
 ghost use Rattle.sd_versions.specs.declared.request.Request.TheVariants as asked;
 ghost use Rattle.sd_script.specs.Output.{opens};
-ghost use Rattle.sd_script_audit.specs.Audit.{IsAnsweredInAudit, IsDoneInAudit, IsNextInAudit};
-ghost use Rattle.sd_script_audit.specs.Parts.{audited, machine_of, progress};
+ghost use Rattle.sd_script_audit.specs.Audit.{IsNextInAudit};
+ghost use Rattle.sd_script_audit.specs.Parts.{IsDoneOrTold, audited, machine_of, progress};
 
 use crate::line::{asked_or_told, only_in_scripts};
 use sd_lines::AnswersLines;
@@ -54,72 +54,57 @@ impl<J: Naming, T: Wait> AnswersLines for Queries<'_, J, T> {
             // (no line is too long)
             return Err(AllocError);
         };
-        let answer = self.answer_line(alloc, &mut open.writer, &mut open.queries, line)?;
+        let found = asked_or_told(alloc, self.notation, true, line)?;
+        let answer = self.done(alloc, &mut open.writer, &mut open.queries, found)?;
         open.tally = open.tally.with(line, answer.as_bytes());
         text.extend_from_slice(answer.as_bytes())
     }
 }
 
 impl<J: Naming, T: Wait> Queries<'_, J, T> {
-    /// What a line is answered by.
-    fn answer_line(
-        &self,
-        alloc: Global,
-        writer: &mut StoreWriter<J>,
-        queries: &mut Vec<Query>,
-        line: &[u8],
-    ) -> Result<String, AllocError>
-        ensures { IfOk result (λ text. IsAnsweredInAudit self.now.workers
-            (progress self.now.notation J.opening self.now.workers writer.old queries.old.items) line.now
-            (string_bytes text)
-            (progress self.now.notation J.opening self.now.workers writer.new queries.new.items)) }
-    {
-        match asked_or_told(alloc, self.notation, true, line)? {
-            Ok(asked) => self.done(alloc, writer, queries, asked),
-            Err(told) => Ok(told),
-        }
-    }
-
-    /// What is asked is done, and answered by this. A check is kept, and what only a script does is a fault. After an
-    /// import the node is compared in the tree of all accepted edits.
+    /// What is asked is done, and answered by this; what a line is told is its answer. A check is kept, and what only a
+    /// script does is a fault. After an import the node is compared in the tree of all accepted edits.
     fn done(
         &self,
         alloc: Global,
         writer: &mut StoreWriter<J>,
         queries: &mut Vec<Query>,
-        asked: Asked,
+        found: Result<Asked, String>,
     ) -> Result<String, AllocError>
-        requires { opens asked ≡ false }
-        ensures { IfOk result (λ text. IsDoneInAudit self.now.workers
-            (progress self.now.notation J.opening self.now.workers writer.old queries.old.items) asked
+        requires { IfOk found (λ asked. opens asked ≡ false) }
+        ensures { IfOk result (λ text. IsDoneOrTold string_bytes self.now.workers
+            (progress self.now.notation J.opening self.now.workers writer.old queries.old.items) found
             (string_bytes text)
             (progress self.now.notation J.opening self.now.workers writer.new queries.new.items)) }
     {
         let spelling = self.notation.spelling;
-        match asked {
-            Asked::Asking(Request::Edit(edit)) => {
+        match found {
+            Ok(Asked::Asking(Request::Edit(edit))) => {
                 reply_line(alloc, spelling, &edit_reply(writer, &edit))
             }
-            Asked::Asking(Request::Publish) => {
+            Ok(Asked::Asking(Request::Publish)) => {
                 reply_line(alloc, spelling, &publish_reply(self.rt, writer))
             }
-            Asked::Asking(
-                Request::Check {
-                    reader: _,
-                    path,
-                    token,
-                    asked,
-                },
+            Ok(
+                Asked::Asking(
+                    Request::Check {
+                        reader: _,
+                        path,
+                        token,
+                        asked,
+                    },
+                ),
             ) => {
                 queries.push(Query { path, token, asked })?;
                 Ok(String::new(alloc))
             }
-            Asked::Importing { edit, path, given } => {
+            Ok(Asked::Importing { edit, path, given }) => {
                 let reply = edit_reply(writer, &edit);
                 import_line(alloc, spelling, writer.draft(), &path, &given, &reply)
             }
-            Asked::Opening { .. } => unreachable!(),
-            _ => only_in_scripts(alloc),
+            Ok(Asked::Opening { .. }) => unreachable!(),
+            Ok(_) => only_in_scripts(alloc),
+            Err(told) => Ok(told),
         }
     }
 }

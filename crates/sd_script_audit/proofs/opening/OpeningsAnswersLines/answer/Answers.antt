@@ -1,12 +1,25 @@
-use Rattle.std.proofs.Common.{string_bytes}
-use Rattle.sd_script_audit.proofs.Lines.{on_printed}
+use Rattle.std.proofs.Common.{false, string_bytes}
+use Rattle.std.proofs.lemmas.Result.{IfOk-weaker}
+use Rattle.sd_script.proofs.Timely.{line_opens}
+use Rattle.sd_script_audit.specs.Audit.{unopened}
+use Rattle.sd_script_audit.specs.Parts.{without_queries}
+use Rattle.sd_script_audit.proofs.Lines.{answered, on_printed}
 use Rattle.sd_script_audit.proofs.opening.OpeningsAnswersLines.answer.Goals as goal
+
+-- no store is open, so a line opens one
+pub open-requires-clause-opening : goal.open-requires-clause-opening
+open-requires-clause-opening c =
+    IfOk-weaker c.in_ok-found.found _ _ (λ asked asks. line_opens c.args.self.now.manner.notation false c.in-Some-None.line.now asked asks.2) c.in_ok-found.ensures.asks
 
 pub returns : goal.returns
 returns c =
+    let by = c.args.self.now in
     on_printed c.extend_from_slice.result _ _ _ (rw (c.as_bytes-2.ensures.value) at c.extend_from_slice.ensures.items) (λ grown. (
       string_bytes c.in_ok-answer.answer,
       grown,
-      rw (c.in-Some-None.is-0, c.in-Some-None.is-1)
-          (record { answered = c.in_ok-answer.ensures; counted = rw (c.as_bytes.ensures.value) at c.with-unopened.ensures }),
+      rw (c.in-Some-None.is-0, c.in-Some-None.is-1) (record {
+        answered = answered string_bytes by.workers (unopened by.manner) (without_queries by.manner by.workers c.open.new.opened) c.in-Some-None.line.now _ c.in_ok-found.found
+            c.in_ok-found.ensures.asks c.in_ok-found.ensures.told c.in_ok-answer.ensures;
+        counted = rw (c.as_bytes.ensures.value) at c.with-unopened.ensures;
+      }),
     ))

@@ -1,9 +1,9 @@
 use Rattle.std.proofs.Common.{◌++◌, refl, ◌∙◌, ap, append_assoc}
+use Rattle.std.proofs.lemmas.Result.{on_ok_weaker}
 use Rattle.sd_lines.proofs.InOrder.{seen_as}
 use Rattle.sd_script.specs.declared.session.Session.TheVariants.{Opened}
 use Rattle.sd_script_audit.specs.Audit.{IsNextInAudit, end_of}
 use Rattle.sd_script_audit.specs.Parts.{audited, machine_of}
-use Rattle.sd_script_audit.proofs.Lines.{map_ok}
 use Rattle.sd_script_audit.proofs.queries.Queries.answered.Goals as goal
 
 pub returns-clause-audited : goal.returns-clause-audited
@@ -13,7 +13,7 @@ returns-clause-audited g c =
     let said = c.in_ok-answer_text.ensures in
     let left = c.answer_text.new.state in
     let end = end_of (Opened by.notation (machine_of o by.workers left.writer)) left.queries.items in
-    map_ok c.publish_and_answer.result (λ more. (
+    on_ok_weaker c.publish_and_answer.result (λ more. (
       said.0 ++ end,
       more ∙ ap (λ l. l ++ end) said.1 ∙ append_assoc _ said.0 end,
       (

@@ -23,11 +23,11 @@ import_done : {X E : Type 0} (bytes : X → List ℕ) (r : Result X E) (notation
 import_done bytes (Ok text) notation workers old new queries e path given reply steps told = ((reply, new, steps, told, refl), refl)
 import_done bytes (Err error) notation workers old new queries e path given reply steps told = tt
 
-pub returns-in-Importing : goal.returns-in-Importing
-returns-in-Importing g c =
+pub returns-in-Ok-Importing : goal.returns-in-Ok-Importing
+returns-in-Ok-Importing g c =
     let workers = c.args.self.now.workers in
     let old = machine_of g.J.Naming.opening workers c.args.writer.now in
     let new = machine_of g.J.Naming.opening workers c.edit_reply-reply.new.writer in
-    rw (c.in-Importing.is) (import_done string_bytes c.import_line.result c.args.self.now.notation workers old new c.args.queries.now.items
-    c.in-Importing.edit c.in-Importing.path c.in-Importing.given c.edit_reply-reply.result
+    rw (c.in-Ok-Importing.is, c.in-Ok-Importing.field-0-is) (import_done string_bytes c.import_line.result c.args.self.now.notation workers old new c.args.queries.now.items
+    c.in-Ok-Importing.edit c.in-Ok-Importing.path c.in-Ok-Importing.given c.edit_reply-reply.result
     (c.edit_reply-reply.ensures workers) (c.import_line.ensures new (sym c.draft.ensures.opening) (sym c.draft.ensures.journal)))

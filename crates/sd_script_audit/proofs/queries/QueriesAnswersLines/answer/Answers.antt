@@ -1,11 +1,25 @@
-use Rattle.std.proofs.Common.{string_bytes}
-use Rattle.sd_script_audit.proofs.Lines.{on_printed}
+use Rattle.std.proofs.Common.{true, string_bytes}
+use Rattle.std.proofs.lemmas.Result.{IfOk-weaker}
+use Rattle.sd_script.proofs.Timely.{line_opens}
+use Rattle.sd_script_audit.specs.Parts.{progress}
+use Rattle.sd_script_audit.proofs.Lines.{answered, on_printed}
 use Rattle.sd_script_audit.proofs.queries.QueriesAnswersLines.answer.Goals as goal
+
+-- a store is open, so no line opens one
+pub done-requires : goal.done-requires
+done-requires g c =
+    IfOk-weaker c.in_ok-found.found _ _ (λ asked asks. line_opens c.args.self.now.notation true c.in-Some.line.now asked asks.2) c.in_ok-found.ensures.asks
 
 pub returns : goal.returns
 returns g c =
+    let by = c.args.self.now in
+    let old = progress by.notation g.J.Naming.opening by.workers c.args.open.now.writer c.args.open.now.queries.items in
+    let new = progress by.notation g.J.Naming.opening by.workers c.done.new.writer c.done.new.queries.items in
     on_printed c.extend_from_slice.result _ _ _ (rw (c.as_bytes-2.ensures.value) at c.extend_from_slice.ensures.items) (λ grown. (
       string_bytes c.in_ok-answer.answer,
       grown,
-      rw (c.in-Some.is) (record { answered = c.in_ok-answer.ensures; counted = rw (c.as_bytes.ensures.value) at c.with-open.ensures }),
+      rw (c.in-Some.is) (record {
+        answered = answered string_bytes by.workers old new c.in-Some.line.now _ c.in_ok-found.found c.in_ok-found.ensures.asks c.in_ok-found.ensures.told c.in_ok-answer.ensures;
+        counted = rw (c.as_bytes.ensures.value) at c.with-open.ensures;
+      }),
     ))

@@ -2,9 +2,9 @@
 use Rattle.std.proofs.Common.{◌≡◌, ◌++◌, take}
 use Rattle.std.specs.List.{flat_map}
 use Rattle.sd_script_audit.specs.Audit.{answer_line}
-use Rattle.sd_script_audit.proofs.answers.publish_and_answer.Given as goal
+use Rattle.sd_script_audit.proofs.queries.Queries.publish_and_answer.Given as goal
 
 abbrev pub invariant-loop-answer : goal.invariant-loop-answer
 invariant-loop-answer g l =
     l.printed.items ≡ l.initial.printed.items
-    ++ flat_map (answer_line l.notation.spelling g.J.Naming.opening (l.fn.writer.journal ++ l.fn.writer.pending)) (take l.answer-index l.queries)
+    ++ flat_map (answer_line l.self.notation.spelling g.J.Naming.opening (l.fn.writer.journal ++ l.fn.writer.pending)) (take l.answer-index l.queries)
