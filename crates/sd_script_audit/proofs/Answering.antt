@@ -1,11 +1,11 @@
 -- What answers a query of an audit.
 use Rattle.std.proofs.Common.{◌≡◌, ℕ, ◌+◌, ◌<◌, List, [], ◌∷◌, ◌++◌, length, take, slice_index_or, Some, sym, ap, ◌∙◌, append_assoc, append-nil, arith}
 use Rattle.std.proofs.Math.Nat.{mod-lt}
+use Rattle.std.proofs.Math.Seq.{take-append_seam}
 use Rattle.std.proofs.lemmas.Grind.{flat_map-append}
-use Rattle.std.proofs.lemmas.List.{take-append-le, take_all, take_more}
+use Rattle.std.proofs.lemmas.List.{take_more}
 use Rattle.std.specs.Prelude.{◌%◌}
 use Rattle.std.specs.List.{flat_map}
-use mathlib.Core.List.{IsPrefix}
 use Rattle.sd_tree.specs.declared.edit.Edit.{Edit}
 use Rattle.sd_tree.specs.declared.opening.Opening.{Opening}
 use Rattle.sd_versions.specs.declared.request.Reply.TheVariants.{Answered}
@@ -18,10 +18,6 @@ use Rattle.sd_answer.specs.declared.answer.Spelling.{Spelling}
 use Rattle.sd_script.specs.Reply.{check_line, reply_line, seen_line}
 use Rattle.sd_script_audit.specs.Audit.{answer_line}
 
--- the beginning of a list that has a beginning of that length
-take_begun : {A : Type 0} (xs ys : List A) → IsPrefix xs ys → take (length xs) ys ≡ xs
-take_begun xs ys p = ap (take (length xs)) (sym p.1) ∙ take-append-le (length xs) xs p.0 (omega arith) ∙ take_all (length xs) xs (omega arith)
-
 -- an answer that has seen just the journal replies by it
 pub replies_by : (o : Opening) (journal : List Edit) (queries : List Query) (olds news : List Sight) (answers : List Answer) (j : ℕ) (d : Answer) (q : Query)
     → 0 < length olds → HaveGrown o (length queries) journal olds news → AreAnswers o queries journal olds news answers → j < length answers
@@ -29,9 +25,10 @@ pub replies_by : (o : Opening) (journal : List Edit) (queries : List Query) (old
 replies_by o journal queries olds news answers j d q some grown are within seen =
     let i = j % length olds in
     let new = slice_index_or news i nobody in
+    let told = (grown i nobody (mod-lt j some)).told in
     (are j d nobody q within).0.reply
     ∙ ap (λ (floor : List Edit). reply_by o floor (slice_index_or queries j q))
-    (ap (λ n. take n new.floor) seen ∙ take_begun journal new.floor (grown i nobody (mod-lt j some)).told)
+    (ap (λ n. take n new.floor) seen ∙ ap (take (length journal)) (sym told.1) ∙ take-append_seam journal told.0)
 
 -- one answer more
 pub answered_more : (spelling : Spelling) (o : Opening) (journal : List Edit) (queries : List Query) (i : ℕ) (q : Query) (given : Answer) (out before grown line : List ℕ)

@@ -19,12 +19,13 @@ answered bytes workers old new line printed (Ok asked) asks told done = inr (ask
 answered bytes workers old new line printed (Err text) asks told done = inl (rw (done.0) told, done.1)
 
 -- lines, and those after them
-pub lines_before : (workers : ℕ) (old between : Audited) (front back : List (List ℕ)) (p q : List ℕ) (tally : Tally)
+pub lines_before : (workers : ℕ) (old between : Audited) (lines front back : List (List ℕ)) (printed p q : List ℕ) (tally : Tally)
+    → lines ≡ front ++ back → printed ≡ p ++ q
     → AreAnswered (IsNextInAudit workers) old front p between → AreAnsweredInAudit workers between back q tally
-    → AreAnsweredInAudit workers old (front ++ back) (p ++ q) tally
-lines_before workers old between front back p q tally first (last, answers, second, is, counted) =
+    → AreAnsweredInAudit workers old lines printed tally
+lines_before workers old between lines front back printed p q tally all whole first (last, answers, second, is, counted) =
     let end = end_of last.progress.store last.progress.queries in
-    (last, p ++ answers, joined (IsNextInAudit workers) old between last front back p answers first second, ap (λ l. p ++ l) is ∙ sym (append_assoc p answers end), counted)
+    (last, p ++ answers, rw all (joined (IsNextInAudit workers) old between last front back p answers first second), whole ∙ ap (λ l. p ++ l) is ∙ sym (append_assoc p answers end), counted)
 
 -- an answer is printed behind those before
 pub on_printed : {X E Q : Type 0} (r : Result X E) (grown whole old : List ℕ) → grown ≡ cond (is_ok r) whole old → (grown ≡ whole → Q) → OnOk r Q

@@ -1,6 +1,7 @@
 -- Audits of one text by two numbers of workers: once a store is open, what is printed is the same.
 use Rattle.std.proofs.Common.{◌≡◌, ◌⊎◌, ℕ, Bool, true, false, not, List, [], ◌∷◌, ◌++◌, Option, Some, Ok, Err, inl, inr, refl, sym, ◌∙◌, ap, subst, append_assoc, arith}
-use Rattle.std.specs.Prelude.{MatchBool, codes}
+use Rattle.std.specs.Prelude.{codes}
+use Rattle.std.proofs.lemmas.Bool.{cases_Bool}
 use Rattle.std.specs.Str.Lines.{lines}
 use Rattle.sd_acl.specs.declared.ace.Ace.{Ace}
 use Rattle.sd_tree.specs.Names.{Names}
@@ -16,9 +17,7 @@ use Rattle.sd_versions.specs.declared.request.Request.TheVariants as requests
 use Rattle.sd_versions.specs.declared.start.StartError.{StartError}
 use Rattle.sd_versions.specs.declared.start.StartError.TheVariants as starts
 use Rattle.sd_store.specs.declared.query.Query.{Query}
-use Rattle.sd_answer.specs.Answer.{fault_line}
 use Rattle.sd_answer.specs.declared.answer.Spelling.{Spelling}
-use Rattle.sd_script.specs.Command.{line_asks}
 use Rattle.sd_script.specs.Expect.{expects}
 use Rattle.sd_script.specs.Fault.{line_of_fault}
 use Rattle.sd_script.specs.Importing.{IsImported}
@@ -27,10 +26,8 @@ use Rattle.sd_script.specs.Output.{IsOpened, opening_in, opens}
 use Rattle.sd_script.specs.Reply.{counted_line, refused_line, reply_line, start_error_line}
 use Rattle.sd_script.specs.declared.asked.Asked.{Asked}
 use Rattle.sd_script.specs.declared.asked.Asked.TheVariants.{Opening as Opens, Asking, Importing}
-use Rattle.sd_script.specs.declared.fault.LineFault.{LineFault}
 use Rattle.sd_script.specs.declared.manner.Manner.{Manner}
 use Rattle.sd_script.specs.declared.manner.Notation.{Notation}
-use Rattle.sd_script.specs.declared.session.Session.{Session}
 use Rattle.sd_script.specs.declared.session.Session.TheVariants.{Opened}
 use Rattle.sd_script.specs.declared.tally.Tally.{Tally}
 use Rattle.sd_script.proofs.OneOutput.{no_error, imported-one, one_step}
@@ -67,7 +64,7 @@ module _ (spelling : Spelling) (m : Machine) (x y : Machine) (p q : List ℕ) wh
       → (p ≡ q) × (x ≡ y)
   requested_one asked r s one other first second =
       let same = one_step spelling m asked r x p one first ∙ sym (one_step spelling m asked s y q other second) in
-      (ap (λ (z : List ℕ × Machine). z.0) same, ap (λ (z : List ℕ × Machine). z.1) same)
+      (λ i. (same i).0, λ i. (same i).1)
 
   -- and so has an import
   imported_one : (e : Edit) (path : Names) (given : List Ace) (r s : Reply) → Steps m (requests.Edit e) r x → Steps m (requests.Edit e) s y
@@ -75,8 +72,8 @@ module _ (spelling : Spelling) (m : Machine) (x y : Machine) (p q : List ℕ) wh
   imported_one e path given replies.Edited replies.Edited one other first second =
       let same = one.1 ∙ sym other.1 in
       (imported-one spelling y path given p q (subst (λ n. IsImported spelling n path given replies.Edited p) same first) second, same)
-  imported_one e path given replies.Edited (replies.Refused refusal) one other first second = absurd (let no = sym one.0 ∙ other.0 in cc (no))
-  imported_one e path given (replies.Refused refusal) replies.Edited one other first second = absurd (let no = sym one.0 ∙ other.0 in cc (no))
+  imported_one e path given replies.Edited (replies.Refused refusal) one other first second = absurd (cc (one.0, other.0))
+  imported_one e path given (replies.Refused refusal) replies.Edited one other first second = absurd (cc (one.0, other.0))
   imported_one e path given (replies.Refused refusal) (replies.Refused later) one other first second =
       requested_one (requests.Edit e) (replies.Refused refusal) (replies.Refused later) one other first second
   imported_one e path given replies.Memory s one other first second = absurd (cc (first))
@@ -90,10 +87,6 @@ module _ (spelling : Spelling) (m : Machine) (x y : Machine) (p q : List ℕ) wh
 
 abbrev opened : Notation → Machine → List Query → Progress
 opened notation m queries = record { store = Opened notation m; queries = queries }
-
-progress_is : (a : Progress) (store : Session) (queries : List Query) → a.store ≡ store → a.queries ≡ queries → a ≡ record { store = store; queries = queries }
-progress_is a store queries first second =
-    subst (λ s. a ≡ record { store = s; queries = queries }) first (subst (λ (xs : List Query). a ≡ record { store = a.store; queries = xs }) second refl)
 
 -- both are open
 pub record AreAlike (a b : Progress) : Type 0 where
@@ -121,8 +114,8 @@ module _ (n m : ℕ) (notation : Notation) (x y : Machine) (queries : List Query
       one = v;
       other = w;
       queries = queries;
-      one_is = progress_is c _ _ first kept;
-      other_is = progress_is d _ _ second left;
+      one_is = λ i. record { store = first i; queries = kept i };
+      other_is = λ i. record { store = second i; queries = left i };
       alike = same.1;
     },
   )
@@ -154,32 +147,32 @@ module _ (n m : ℕ) (notation : Notation) (x y : Machine) (queries : List Query
 -- ---- lines
 
 module _ (notation : Notation) (is_open : Bool) (text : List ℕ) where
-  told_one : (silent expecting : Bool) (p q : List ℕ)
-      → MatchBool silent (p ≡ []) (MatchBool expecting (p ≡ fault_line (codes "audit")) ((fault : LineFault) × line_asks notation is_open text (Err fault) × (p ≡ line_of_fault fault)))
-      → MatchBool silent (q ≡ []) (MatchBool expecting (q ≡ fault_line (codes "audit")) ((fault : LineFault) × line_asks notation is_open text (Err fault) × (q ≡ line_of_fault fault)))
-      → p ≡ q
-  told_one true expecting p q one other = one ∙ sym other
-  told_one false true p q one other = one ∙ sym other
-  told_one false false p q one other =
-      let same = line-one notation is_open text (Err one.0) (Err other.0) one.1 other.1 in
-      let fault : one.0 ≡ other.0 = cc (same) in
-      one.2 ∙ ap line_of_fault fault ∙ sym other.2
+  told_one : (p q : List ℕ) → IsToldInAudit notation is_open text p → IsToldInAudit notation is_open text q → p ≡ q
+  told_one p q one other = elim (cases_Bool (is_silent text)) [
+    | inl silent ↦ (rw silent at one) ∙ sym (rw silent at other)
+    | inr loud ↦ elim (cases_Bool (expects text)) [
+      | inl expecting ↦ (rw (loud, expecting) at one) ∙ sym (rw (loud, expecting) at other)
+      | inr plain ↦
+          let first = rw (loud, plain) at one in
+          let second = rw (loud, plain) at other in
+          let fault : first.0 ≡ second.0 = cc (line-one notation is_open text (Err first.0) (Err second.0) first.1 second.1) in
+          first.2 ∙ ap line_of_fault fault ∙ sym second.2
+    ]
+  ]
 
   told_or_asked : (p : List ℕ) (asked : Asked) → IsToldInAudit notation is_open text p → AsksInAudit notation is_open text asked → ⊥
   told_or_asked p asked told asks =
-      let fault = rw (asks.0, asks.1) at told in
-      let no = line-one notation is_open text (Err fault.0) (Ok asked) fault.1 asks.2 in cc (no)
+      let fault = rw (asks.0, asks.1) at told in cc (line-one notation is_open text (Err fault.0) (Ok asked) fault.1 asks.2)
 
   -- a line that both are answered by asks both for the same
   line_alike : (R A B : Type 0) (D E : Asked → Type 0) (p q : List ℕ) → (p ≡ q → A → B → R) → ((asked : Asked) → opens asked ≡ not is_open → D asked → E asked → R)
       → (IsToldInAudit notation is_open text p × A) ⊎ ((asked : Asked) × AsksInAudit notation is_open text asked × D asked)
       → (IsToldInAudit notation is_open text q × B) ⊎ ((asked : Asked) × AsksInAudit notation is_open text asked × E asked) → R
-  line_alike R A B D E p q stay done (inl one) (inl other) = stay (told_one (is_silent text) (expects text) p q one.0 other.0) one.1 other.1
+  line_alike R A B D E p q stay done (inl one) (inl other) = stay (told_one p q one.0 other.0) one.1 other.1
   line_alike R A B D E p q stay done (inl one) (inr other) = absurd (told_or_asked p other.0 one.0 other.1)
   line_alike R A B D E p q stay done (inr one) (inl other) = absurd (told_or_asked q one.0 other.0 one.1)
   line_alike R A B D E p q stay done (inr one) (inr other) =
-      let same = line-one notation is_open text (Ok one.0) (Ok other.0) one.1.2 other.1.2 in
-      let asked : one.0 ≡ other.0 = cc (same) in
+      let asked : one.0 ≡ other.0 = cc (line-one notation is_open text (Ok one.0) (Ok other.0) one.1.2 other.1.2) in
       done other.0 (line_opens notation is_open text other.0 other.1.2) (subst D asked one.2) other.2
 
 open_alike : (n m : ℕ) (text : List ℕ) (a b : Progress) (p q : List ℕ) (c d : Progress) → AreAlike a b
@@ -232,8 +225,8 @@ module _ (manner : Manner) (n m : ℕ) (some : IsReaderCount n) (others : IsRead
       one = started (opening_in manner root) n;
       other = started (opening_in manner root) m;
       queries = [];
-      one_is = progress_is c _ _ one.3 none;
-      other_is = progress_is d _ _ other.3 nothing;
+      one_is = λ i. record { store = one.3 i; queries = none i };
+      other_is = λ i. record { store = other.3 i; queries = nothing i };
       alike = refl;
     })
     opening root (inl one, none) (inr other, nothing) = absurd (no_error other.0 m _ q others one.1 other.1 other.2)
@@ -241,10 +234,8 @@ module _ (manner : Manner) (n m : ℕ) (some : IsReaderCount n) (others : IsRead
     opening root (inr one, none) (inr other, nothing) =
         let first = root_error one.0 n _ p some one.1 one.2 in
         let second = root_error other.0 m _ q others other.1 other.2 in
-        let dues = sym first.1 ∙ second.1 in
-        let refusals : first.0 ≡ second.0 = cc (dues) in
-        let texts = sym first.2 ∙ ap (λ r. Some (refused_line r)) refusals ∙ second.2 in
-        closed (cc (texts)) (progress_is c _ _ one.3 none) (progress_is d _ _ other.3 nothing)
+        let refusals : first.0 ≡ second.0 = cc (first.1, second.1) in
+        closed (cc (refusals, first.2, second.2)) (λ i. record { store = one.3 i; queries = none i }) (λ i. record { store = other.3 i; queries = nothing i })
 
     opening_asked : (asked : Asked) → opens asked ≡ true → IsDoneInAudit n (unopened manner) asked p c → IsDoneInAudit m (unopened manner) asked q d → R
     opening_asked (Opens readers root) is one other = opening root one other

@@ -1,9 +1,9 @@
-use Rattle.std.proofs.Common.{◌≡◌, ◌++◌, [], None, Some, refl, ◌∙◌, ap, append-nil, inl, inr, subst, sym}
+use Rattle.std.proofs.Common.{◌≡◌, ◌++◌, [], None, Some, refl, ◌∙◌, ap, append-nil, inl, inr, sym}
 use Rattle.std.specs.Prelude.{is_some}
 use Rattle.std.specs.Str.Lines.{lines}
 use Rattle.sd_lines.specs.Answers.{AreAnswered}
 use Rattle.sd_lines.proofs.InOrder.{seen_as}
-use Rattle.sd_script_audit.specs.Audit.{AreAnsweredInAudit, IsNextInAudit, begun}
+use Rattle.sd_script_audit.specs.Audit.{IsNextInAudit, begun}
 use Rattle.sd_script_audit.specs.Parts.{before_queries}
 use Rattle.sd_script_audit.specs.declared.opening.Unopened.{Unopened}
 use Rattle.sd_script_audit.proofs.Lines.{lines_before}
@@ -21,9 +21,8 @@ returns-clause-printed g c =
     let first = rw (c.in-Some.is, c.of_no_lines.ensures) at seen in
     let whole : c.open_and_audit.new.printed.items ≡ said.1 ++ rest.0 =
     rest.1 ∙ ap (λ l. l ++ rest.0) (said.3 ∙ ap (λ l. l ++ said.1) c.new-printed.ensures.items) in
-    subst (λ ls. AreAnsweredInAudit n (begun manner) ls c.open_and_audit.new.printed.items c.in_ok-tally.tally) (sym said.2)
-    (subst (λ p. AreAnsweredInAudit n (begun manner) (said.0 ++ lines c.in_ok-after.after.now) p c.in_ok-tally.tally) (sym whole)
-    (lines_before n (begun manner) (before_queries manner n (Some c.in-Some.root) left.tally) said.0 (lines c.in_ok-after.after.now) said.1 rest.0 c.in_ok-tally.tally first rest.2))
+    lines_before n (begun manner) (before_queries manner n (Some c.in-Some.root) left.tally) _ said.0 (lines c.in_ok-after.after.now) _ said.1 rest.0 c.in_ok-tally.tally
+    said.2 whole first rest.2
 
 pub returns-in_default-clause-printed : goal.returns-in_default-clause-printed
 returns-in_default-clause-printed g c =
