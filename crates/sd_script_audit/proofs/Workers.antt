@@ -104,45 +104,34 @@ ends_alike a b alike =
     ∙ sym (ap (λ (e : Progress). end_of e.store e.queries) alike.other_is)
 
 module _ (n m : ℕ) (notation : Notation) (x y : Machine) (queries : List Query) (alike : unread x ≡ unread y) (p q : List ℕ) (c d : Progress) where
-  -- with these machines then
-  still : (v w : Machine) → c.store ≡ Opened notation v → c.queries ≡ queries → d.store ≡ Opened notation w → d.queries ≡ queries
-      → (p ≡ q) × (unread v ≡ unread w) → (p ≡ q) × AreAlike c d
-  still v w first kept second left same = (
-    same.0,
-    record {
-      notation = notation;
-      one = v;
-      other = w;
-      queries = queries;
-      one_is = λ i. record { store = first i; queries = kept i };
-      other_is = λ i. record { store = second i; queries = left i };
-      alike = same.1;
-    },
-  )
-
-  -- where both stay
-  stay : (more : List Query) → p ≡ q → c ≡ opened notation x more → d ≡ opened notation y more → (p ≡ q) × AreAlike c d
-  stay more same first second = (same, record { notation = notation; one = x; other = y; queries = more; one_is = first; other_is = second; alike = alike })
+  -- with these machines and queries then
+  are_alike : (v w : Machine) (more : List Query) → (p ≡ q) × (unread v ≡ unread w) → c ≡ opened notation v more → d ≡ opened notation w more
+      → (p ≡ q) × AreAlike c d
+  are_alike v w more same first second =
+      (same.0, record { notation = notation; one = v; other = w; queries = more; one_is = first; other_is = second; alike = same.1 })
 
   done_alike : (asked : Asked) → opens asked ≡ false → IsDoneInAudit n (opened notation x queries) asked p c → IsDoneInAudit m (opened notation y queries) asked q d
       → (p ≡ q) × AreAlike c d
   done_alike (Opens readers root) timely one other = absurd (cc (timely))
   done_alike (Asking (requests.Edit e)) timely (one, kept) (other, left) =
-      still one.1 other.1 one.4 kept other.4 left
+      are_alike one.1 other.1 queries
       (requested_one notation.spelling (unread y) (unread one.1) (unread other.1) p q (requests.Edit e) one.0 other.0
       (rw (← alike) (edit_unread x one.1 e one.0 one.2)) (edit_unread y other.1 e other.0 other.2) one.3 other.3)
+      (λ i. record { store = one.4 i; queries = kept i }) (λ i. record { store = other.4 i; queries = left i })
   done_alike (Asking requests.Publish) timely (one, kept) (other, left) =
-      still one.1 other.1 one.4 kept other.4 left
+      are_alike one.1 other.1 queries
       (requested_one notation.spelling (unread y) (unread one.1) (unread other.1) p q requests.Publish one.0 other.0
       (rw (← alike) (publish_unread x one.1 one.0 one.2)) (publish_unread y other.1 other.0 other.2) one.3 other.3)
+      (λ i. record { store = one.4 i; queries = kept i }) (λ i. record { store = other.4 i; queries = left i })
   done_alike (Importing e path given) timely (one, kept) (other, left) =
-      still one.1 other.1 one.4 kept other.4 left
+      are_alike one.1 other.1 queries
       (imported_one notation.spelling (unread y) (unread one.1) (unread other.1) p q e path given one.0 other.0
       (rw (← alike) (edit_unread x one.1 e one.0 one.2)) (edit_unread y other.1 e other.0 other.2)
       (import_unread notation.spelling one.1 path given one.0 p one.3) (import_unread notation.spelling other.1 path given other.0 q other.3))
+      (λ i. record { store = one.4 i; queries = kept i }) (λ i. record { store = other.4 i; queries = left i })
   done_alike (Asking (requests.Check reader path token asked)) timely one other =
-      stay (queries ++ record { path = path; token = token; asked = asked } ∷ []) (one.0 ∙ sym other.0) one.1 other.1
-  done_alike asked timely one other = stay queries (one.0 ∙ sym other.0) one.1 other.1
+      are_alike x y (queries ++ record { path = path; token = token; asked = asked } ∷ []) (one.0 ∙ sym other.0, alike) one.1 other.1
+  done_alike asked timely one other = are_alike x y queries (one.0 ∙ sym other.0, alike) one.1 other.1
 
 -- ---- lines
 
@@ -179,7 +168,7 @@ open_alike : (n m : ℕ) (text : List ℕ) (a b : Progress) (p q : List ℕ) (c 
     → IsAnsweredInAudit n a text p c → IsAnsweredInAudit m b text q d → (p ≡ q) × AreAlike c d
 open_alike n m text a b p q c d both one other =
     line_alike both.notation true text ((p ≡ q) × AreAlike c d) _ _ _ _ p q
-    (stay n m both.notation both.one both.other both.queries both.alike p q c d both.queries)
+    (λ same. are_alike n m both.notation both.one both.other both.queries both.alike p q c d both.one both.other both.queries (same, both.alike))
     (done_alike n m both.notation both.one both.other both.queries both.alike p q c d)
     (subst (λ e. IsAnsweredInAudit n e text p c) both.one_is one) (subst (λ e. IsAnsweredInAudit m e text q d) both.other_is other)
 
