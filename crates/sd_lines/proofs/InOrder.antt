@@ -1,5 +1,5 @@
 -- Lines that are answered one after the other.
-use Rattle.std.proofs.Common.{ℕ, List, [], ◌∷◌, ◌++◌, refl, sym, ap, append_assoc, append-nil}
+use Rattle.std.proofs.Common.{ℕ, List, [], ◌∷◌, ◌++◌, ap, append_assoc}
 use Rattle.sd_lines.specs.Answers.{AreAnswered}
 
 -- and then more lines
@@ -8,12 +8,6 @@ pub joined : {State : Type 0} (Next : State → List ℕ → List ℕ → State 
 joined Next old between last [] back p q (none, same) more = rw (none, ← same) more
 joined Next old between last (line ∷ front) back p q (first, next, rest, is, answered, whole) more =
     (first, next, rest ++ q, is, joined Next next between last front back rest q answered more, rw whole (append_assoc first rest q))
-
--- and then one
-pub one_more : {State : Type 0} (Next : State → List ℕ → List ℕ → State → Type 0) (old between last : State) (front : List (List ℕ)) (line p q : List ℕ)
-    → AreAnswered Next old front p between → Next between line q last → AreAnswered Next old (front ++ line ∷ []) (p ++ q) last
-one_more Next old between last front line p q answered is =
-    joined Next old between last front (line ∷ []) p q answered (q, last, [], is, (refl, refl), sym (append-nil q))
 
 -- each answer is one to what the states are seen as
 pub seen_as : {A B : Type 0} (Next : A → List ℕ → List ℕ → A → Type 0) (Other : B → List ℕ → List ℕ → B → Type 0) (seen : A → B)

@@ -49,15 +49,6 @@ asked_kept most form begun of enough shorter goes_on = by_length (cases_lt most 
       grind (arith, nat_tests)
   by_length (inr within) = rw (take_all most begun within) refl
 
-pub beginning_after : (a b c : Option (List ℕ)) (before text : List ℕ)
-    → Appends a b before → AppendsBeginning b c text → AppendsBeginning a c (before ++ text)
-beginning_after a b c before text first second = record {
-  done = before ++ second.done;
-  rest = second.rest;
-  parts = rw second.parts (sym (append_assoc before second.done second.rest));
-  appended = Appends-trans a b c before second.done first second.appended;
-}
-
 module _ {State : Type 0} {form : Form} {Answer : Answering State} {old : State} {start : Option (List ℕ)}
     {text line unwritten rest : List ℕ} {new : State} {now : Option (List ℕ)} (a : Answered form Answer old start text new line unwritten now rest) where
   -- a part of a line
@@ -170,7 +161,12 @@ module _ {State : Type 0} {form : Form} {Answer : Answering State} {old : State}
       parts = parts;
       whole = whole;
       output = (last, answered);
-      beginning = beginning_after start now after a.written printed a.appended beginning;
+      beginning = record {
+        done = a.written ++ beginning.done;
+        rest = beginning.rest;
+        parts = rw (beginning.parts) (sym (append_assoc a.written beginning.done beginning.rest));
+        appended = Appends-trans start now after a.written beginning.done a.appended beginning.appended;
+      };
     }
 
     pub leaves_part : AppendsBeginning now after unwritten → AnswersPart (Prints form Answer old) form input left start after

@@ -1,8 +1,8 @@
-use Rattle.std.proofs.Common.{◌++◌, ◌∷◌, [], inl, inr, arith, refl, sym, ◌∙◌, ap, append_assoc}
+use Rattle.std.proofs.Common.{◌++◌, ◌∷◌, [], inl, inr, arith, refl, sym, ◌∙◌, ap, append_assoc, append-nil}
 use Rattle.std.proofs.lemmas.Bool.Decides.{nat_tests}
 use Rattle.std.proofs.lemmas.List.{nil_from_length}
 use Rattle.sd_lines.specs.Answers.{of_form}
-use Rattle.sd_lines.proofs.InOrder.{one_more}
+use Rattle.sd_lines.proofs.InOrder.{joined}
 use Rattle.sd_lines.proofs.text.answer_until.Goals as goal
 use Rattle.sd_lines.proofs.text.answer_until.Goals.{then-loop-are_over-test+else-not-are_over, else-loop-are_over-test}
 
@@ -17,8 +17,8 @@ loop-are_over-preserved g c =
       cut = before.cut ∙ ap (λ l. before.lines ++ l) c.first_line.ensures.lines ∙ sym (append_assoc before.lines (line ∷ []) _);
       printed = answered.1 ∙ ap (λ l. l ++ answered.0) before.printed ∙ append_assoc _ before.added answered.0;
       answered =
-          one_more (of_form c.args.form (g.A.AnswersLines.answers c.args.answers.now)) _ _ _ before.lines line before.added answered.0 before.answered
-          (rw c.asked.ensures at answered.2);
+          joined (of_form c.args.form (g.A.AnswersLines.answers c.args.answers.now)) _ _ c.answer.new.state before.lines (line ∷ []) before.added answered.0 before.answered
+          (answered.0, c.answer.new.state, [], rw c.asked.ensures at answered.2, (refl, refl), sym (append-nil answered.0));
     }
 
 pub returns-clause-over : goal.returns-clause-over
