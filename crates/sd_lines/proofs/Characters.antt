@@ -1,23 +1,14 @@
 -- The characters at the front of bytes of UTF-16.
-use Rattle.std.proofs.Common.{◌≡◌, ℕ, ◌-◌, ◌<◌, ◌≤◌, ◌^◌, true, false, ◌&&◌, leb, ltb, List, [], ◌∷◌, ◌++◌, length, take, drop, get_or, Option, Some, None, refl, sym, ap, append_assoc, arith}
+use Rattle.std.proofs.Common.{◌≡◌, ℕ, ◌<◌, ◌≤◌, ◌^◌, true, false, ◌&&◌, leb, ltb, List, [], ◌∷◌, ◌++◌, length, get_or, Option, Some, None, refl, ap, append_assoc, arith}
 use Rattle.std.specs.Prelude.{MatchOption, SomeIff}
 use Rattle.std.specs.Char.{InScalarRange, IsScalar, OutOfScalarRange}
 use Rattle.std.specs.Char.Utf16.{is_high_surrogate, is_low_surrogate, lone_unit_char, surrogate_pair_char, utf16_chars}
 use Rattle.std.specs.List.{flat_map}
 use Rattle.std.proofs.lemmas.Bool.{and_parts}
 use Rattle.std.proofs.lemmas.Bool.Decides.{nat_tests}
-use Rattle.std.proofs.lemmas.List.{take_all}
 use Rattle.std.proofs.lemmas.Str.{utf16_chars-nil, utf16_chars_lone, utf16_chars_pair}
 use Rattle.sd_lines.specs.Utf16.{char_text, over_in, unfinished, unit, utf16_text}
 use Rattle.sd_lines.specs.declared.utf16.ByteOrder.{ByteOrder}
-
--- ---- at least two bytes
-
-pub two_bytes : (bytes : List ℕ) → 2 ≤ length bytes
-    → bytes ≡ get_or bytes 0 0 ∷ get_or bytes 1 0 ∷ take (length bytes - 2) (drop 2 bytes)
-two_bytes [] some = absurd (omega arith)
-two_bytes (a ∷ []) some = absurd (omega arith)
-two_bytes (a ∷ b ∷ rest) some = ap (λ l. a ∷ b ∷ l) (sym (take_all (length (a ∷ b ∷ rest) - 2) rest (omega arith)))
 
 -- ---- the first character
 
