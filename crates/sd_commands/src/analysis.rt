@@ -12,8 +12,9 @@ use crate::settings::Command;
 use crate::words::{argument, items_from};
 use sd_acl::Descriptor;
 use sd_analysis::{Base, Comparison, compare, who};
-use sd_answer::{TokenError, borrowed, compare_text, looked_at, read_base, read_mask_in};
-use sd_answer::{rights_asked, who_text};
+use sd_answer::{
+    TokenError, borrowed, compare_text, looked_at, read_base, read_mask_in, rights_asked, who_text,
+};
 use sd_check::GroupState;
 use sd_sid::{Mask, Sid};
 use std::alloc::AllocError;

@@ -58,7 +58,7 @@ impl Ending {
 }
 
 /// The first line of a text, and the text after it.
-pub(crate) fn first_line(ending: Ending, text: &[u8]) -> (&[u8], &[u8])
+pub fn first_line(ending: Ending, text: &[u8]) -> (&[u8], &[u8])
     requires { 0 < length text.now }
     ensures lines { lines_in ending text.now ≡ result.0.now ∷ lines_in ending result.1.now }
     ensures less { length result.1.now < length text.now }

@@ -34,7 +34,7 @@ mod watched;
 
 pub use answers::AnswersLines;
 pub use decoder::Decoder;
-pub use ending::{Ending, without_return};
+pub use ending::{Ending, first_line, without_return};
 pub use error::RunError;
 pub use form::Form;
 pub use input::{MAX_INPUT_BYTES, read_whole};
