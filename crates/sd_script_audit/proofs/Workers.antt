@@ -12,7 +12,6 @@ use Rattle.sd_versions.specs.Machine.{Machine, Steps, started}
 use Rattle.sd_versions.specs.Starts.{IsReaderCount, IsStartError}
 use Rattle.sd_versions.specs.declared.request.Reply.{Reply}
 use Rattle.sd_versions.specs.declared.request.Reply.TheVariants as replies
-use Rattle.sd_versions.specs.declared.request.Request.{Request}
 use Rattle.sd_versions.specs.declared.request.Request.TheVariants as requests
 use Rattle.sd_versions.specs.declared.start.StartError.{StartError}
 use Rattle.sd_versions.specs.declared.start.StartError.TheVariants as starts
@@ -23,14 +22,14 @@ use Rattle.sd_script.specs.Fault.{line_of_fault}
 use Rattle.sd_script.specs.Importing.{IsImported}
 use Rattle.sd_script.specs.Lines.{is_silent}
 use Rattle.sd_script.specs.Output.{IsOpened, opening_in, opens}
-use Rattle.sd_script.specs.Reply.{counted_line, refused_line, reply_line, start_error_line}
+use Rattle.sd_script.specs.Reply.{counted_line, refused_line, start_error_line}
 use Rattle.sd_script.specs.declared.asked.Asked.{Asked}
 use Rattle.sd_script.specs.declared.asked.Asked.TheVariants.{Opening as Opens, Asking, Importing}
 use Rattle.sd_script.specs.declared.manner.Manner.{Manner}
 use Rattle.sd_script.specs.declared.manner.Notation.{Notation}
 use Rattle.sd_script.specs.declared.session.Session.TheVariants.{Opened}
 use Rattle.sd_script.specs.declared.tally.Tally.{Tally}
-use Rattle.sd_script.proofs.OneOutput.{no_error, imported-one, one_step}
+use Rattle.sd_script.proofs.OneOutput.{no_error, requested-one, step-one}
 use Rattle.sd_script.proofs.OneReading.{line-one}
 use Rattle.sd_script.proofs.Timely.{line_opens}
 use Rattle.sd_script_audit.specs.Audit.{AreAnsweredInAudit, AsksInAudit, Audited, IsAnsweredInAudit, IsDoneInAudit, IsNextInAudit, IsToldInAudit, Progress, begun, end_of, unopened}
@@ -57,31 +56,6 @@ import_unread : (spelling : Spelling) (m : Machine) (path : Names) (given : List
     → IsImported spelling m path given reply p → IsImported spelling (unread m) path given reply p
 import_unread spelling m path given replies.Edited p is = is
 import_unread spelling m path given reply p is = is
-
-module _ (spelling : Spelling) (m : Machine) (x y : Machine) (p q : List ℕ) where
-  -- a request has one answer
-  requested_one : (asked : Request) (r s : Reply) → Steps m asked r x → Steps m asked s y → reply_line spelling r ≡ Some p → reply_line spelling s ≡ Some q
-      → (p ≡ q) × (x ≡ y)
-  requested_one asked r s one other first second =
-      let same = one_step spelling m asked r x p one first ∙ sym (one_step spelling m asked s y q other second) in
-      (λ i. (same i).0, λ i. (same i).1)
-
-  -- and so has an import
-  imported_one : (e : Edit) (path : Names) (given : List Ace) (r s : Reply) → Steps m (requests.Edit e) r x → Steps m (requests.Edit e) s y
-      → IsImported spelling x path given r p → IsImported spelling y path given s q → (p ≡ q) × (x ≡ y)
-  imported_one e path given replies.Edited replies.Edited one other first second =
-      let same = one.1 ∙ sym other.1 in
-      (imported-one spelling y path given p q (subst (λ n. IsImported spelling n path given replies.Edited p) same first) second, same)
-  imported_one e path given replies.Edited (replies.Refused refusal) one other first second = absurd (cc (one.0, other.0))
-  imported_one e path given (replies.Refused refusal) replies.Edited one other first second = absurd (cc (one.0, other.0))
-  imported_one e path given (replies.Refused refusal) (replies.Refused later) one other first second =
-      requested_one (requests.Edit e) (replies.Refused refusal) (replies.Refused later) one other first second
-  imported_one e path given replies.Memory s one other first second = absurd (cc (first))
-  imported_one e path given replies.Edited replies.Memory one other first second = absurd (cc (second))
-  imported_one e path given (replies.Refused refusal) replies.Memory one other first second = absurd (cc (second))
-  imported_one e path given replies.Edited s one other first second = absurd other
-  imported_one e path given (replies.Refused refusal) s one other first second = absurd other
-  imported_one e path given r s one other first second = absurd one
 
 -- ---- stores that differ in their readers alone
 
@@ -115,17 +89,17 @@ module _ (n m : ℕ) (notation : Notation) (x y : Machine) (queries : List Query
   done_alike (Opens readers root) timely one other = absurd (cc (timely))
   done_alike (Asking (requests.Edit e)) timely (one, kept) (other, left) =
       are_alike one.1 other.1 queries
-      (requested_one notation.spelling (unread y) (unread one.1) (unread other.1) p q (requests.Edit e) one.0 other.0
+      (requested-one notation.spelling (unread y) (unread one.1) (unread other.1) p q (requests.Edit e) one.0 other.0
       (rw (← alike) (edit_unread x one.1 e one.0 one.2)) (edit_unread y other.1 e other.0 other.2) one.3 other.3)
       (λ i. record { store = one.4 i; queries = kept i }) (λ i. record { store = other.4 i; queries = left i })
   done_alike (Asking requests.Publish) timely (one, kept) (other, left) =
       are_alike one.1 other.1 queries
-      (requested_one notation.spelling (unread y) (unread one.1) (unread other.1) p q requests.Publish one.0 other.0
+      (requested-one notation.spelling (unread y) (unread one.1) (unread other.1) p q requests.Publish one.0 other.0
       (rw (← alike) (publish_unread x one.1 one.0 one.2)) (publish_unread y other.1 other.0 other.2) one.3 other.3)
       (λ i. record { store = one.4 i; queries = kept i }) (λ i. record { store = other.4 i; queries = left i })
   done_alike (Importing e path given) timely (one, kept) (other, left) =
       are_alike one.1 other.1 queries
-      (imported_one notation.spelling (unread y) (unread one.1) (unread other.1) p q e path given one.0 other.0
+      (step-one notation.spelling (unread y) (unread one.1) (unread other.1) p q e path given one.0 other.0
       (rw (← alike) (edit_unread x one.1 e one.0 one.2)) (edit_unread y other.1 e other.0 other.2)
       (import_unread notation.spelling one.1 path given one.0 p one.3) (import_unread notation.spelling other.1 path given other.0 q other.3))
       (λ i. record { store = one.4 i; queries = kept i }) (λ i. record { store = other.4 i; queries = left i })
