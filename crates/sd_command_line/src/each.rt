@@ -5,7 +5,7 @@ ghost use Rattle.sd_lines.specs.Watched.{has_failed, inner_of};
 ghost use Rattle.sd_lines.specs.Streams.{is_read_error, is_write_error};
 ghost use Rattle.sd_commands.specs.Answer.{answer_of, outcome_status};
 ghost use Rattle.sd_command_line.specs.Answer.{AnswersLine, AnswersLineIn, AnswersNext, AnswersTold};
-ghost use Rattle.sd_command_line.specs.Answer.{after_answer, form_of, tagging_of};
+ghost use Rattle.sd_command_line.specs.Answer.{after_answer, form_of};
 ghost use Rattle.sd_command_line.specs.CommandLine.{Each, Runs, request_of};
 ghost use Rattle.sd_command_line.specs.Each.{after_key, has_key, key_len, key_of, no_line_note};
 ghost use Rattle.sd_command_line.specs.Each.{told_of_lines, with_line};
@@ -61,7 +61,12 @@ impl AnswersLines for LineQuestion<'_> {
         text: &mut Vec<u8>,
     ) -> Result<(), AllocError> {
         let answered = self.answer_in(alloc, line)?;
-        let printed = printed_as(alloc, self.is_json, self.tagging(), answered.printed)?;
+        let tagging = if self.has_keys {
+            Tagging::Key
+        } else {
+            Tagging::Nothing
+        };
+        let printed = printed_as(alloc, self.is_json, tagging, answered.printed)?;
         text.extend_from_slice(&printed)?;
         *lines = with_line(*lines, answered.outcome);
         Ok(())
@@ -69,16 +74,6 @@ impl AnswersLines for LineQuestion<'_> {
 }
 
 impl LineQuestion<'_> {
-    fn tagging(&self) -> Tagging
-        ensures { result ≡ tagging_of self.now.has_keys }
-    {
-        if self.has_keys {
-            Tagging::Key
-        } else {
-            Tagging::Nothing
-        }
-    }
-
     /// The answer to a line: where lines have keys and it is a key, a tab and a text, the text's, each line of which
     /// begins with the key and the tab. One without a key is a fault.
     fn answer_in(&self, alloc: Global, line: Option<&[u8]>) -> Result<Answered, AllocError>

@@ -5,7 +5,7 @@ ghost use Rattle.sd_text.specs.Grammar.{Spells};
 ghost use Rattle.sd_text.specs.Sid.{sid_text};
 ghost use Rattle.sd_command_line.specs.Options.{GivesDomain, GivesLimits, GivesManner, GivesNumber, GivesSettings};
 ghost use Rattle.sd_command_line.specs.Options.{HasBadValue, IsNoDomain, given, has, misplaced_in, no_options};
-ghost use Rattle.sd_command_line.specs.Options.{options_in, options_of, spelling_of, with_option, wrong_option};
+ghost use Rattle.sd_command_line.specs.Options.{options_in, options_of, with_option, wrong_option};
 ghost use Rattle.sd_command_line.specs.Mistake.{map_read};
 
 use crate::mistake::{Mistake, Wrong};
@@ -81,18 +81,23 @@ impl<'a> Options<'a> {
         let Some(mapping) = mapping_given(given) else {
             return Err(BadValue::NoMapping);
         };
+        let kind = kind_given(given);
         Ok(Settings {
-            spelling: self.spelling(),
             aliases: Aliases {
                 domain,
                 later: self.has(OptionName::Aliases),
             },
             mapping,
-            kind: kind_given(given),
+            kind,
             without_sacl: self.has(OptionName::WithoutSacl),
             require_dacl: self.has(OptionName::RequireDacl),
             risks: self.has(OptionName::Risks),
             points: self.has(OptionName::Caret),
+            spelling: if self.has(OptionName::Names) {
+                Spelling::Names(kind)
+            } else {
+                Spelling::Number
+            },
             bytes: if self.has(OptionName::Base64) {
                 ByteForm::Base64
             } else if self.has(OptionName::Loose) {
@@ -155,16 +160,6 @@ impl<'a> Options<'a> {
                 let points = self.has(OptionName::Caret);
                 Err(BadValue::NoDomain { text, points })
             }
-        }
-    }
-
-    fn spelling(self) -> Spelling
-        ensures { result ≡ spelling_of (options_of self.entry) }
-    {
-        if self.has(OptionName::Names) {
-            Spelling::Names(kind_given(self.given(OptionName::Mapping)))
-        } else {
-            Spelling::Number
         }
     }
 }
