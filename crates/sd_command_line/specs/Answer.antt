@@ -16,7 +16,6 @@ use Rattle.sd_lines.specs.declared.ending.Ending.TheVariants as endings
 use Rattle.sd_lines.specs.declared.form.Form.{Form}
 use Rattle.sd_command_line.specs.Scripts.{IsToldOfScript, script_outcome}
 use Rattle.sd_json.specs.Text.{printed_as}
-use Rattle.sd_json.specs.declared.tagging.Tagging.{Tagging}
 use Rattle.sd_json.specs.declared.tagging.Tagging.TheVariants.{Key, Nothing}
 use Rattle.sd_usage.specs.declared.row.OptionName.TheVariants.{Json, Strict}
 use Rattle.sd_usage.specs.declared.row.TextCommand.{TextCommand}
@@ -148,15 +147,12 @@ AnswersLineIn true settings request (Some line) printed outcome = MatchBool (has
     ((printed ≡ fault_line (codes "key") ++ after_answer request.question) × (outcome ≡ Refused))
 AnswersLineIn has_keys settings request told printed outcome = AnswersLine settings request told printed outcome
 
-abbrev pub tagging_of : Bool → Tagging
-tagging_of has_keys = if has_keys then Key else Nothing
-
 -- the same as it is printed, and what came of the lines up to this one
 abbrev pub AnswersNext : (has_keys is_json : Bool) → Result Settings BadValue → RequestValue → Option Outcome
     → Option (List ℕ) → List ℕ → Option Outcome → Type 0
 AnswersNext has_keys is_json settings request before told printed after =
     (plain : List ℕ) × (outcome : Outcome) × AnswersLineIn has_keys settings request told plain outcome
-    × (printed ≡ printed_as is_json (tagging_of has_keys) plain) × (after ≡ with_line before outcome)
+    × (printed ≡ printed_as is_json (if has_keys then Key else Nothing) plain) × (after ≡ with_line before outcome)
 
 -- the lines of an input, each of which a zero byte or a line feed ends. One that is too long is answered too
 abbrev pub form_of : Bool → Form
