@@ -39,37 +39,36 @@ help_stands_alone (name ∷ word ∷ next ∷ other ∷ words) h =
 pub verdict_keeps_texts : DashesKeepTexts questions.Verdict (codes "verdict")
 unfolding command_named option_named
 verdict_keeps_texts name word dashes sddl user mask words is dash =
-    rw (is, dash, le-leb 3 (length (sddl ∷ user ∷ mask ∷ words)) (omega arith), le-leb 3 (1 + length (user ∷ mask ∷ words)) (omega arith)) refl
+    rw (is, dash, le-leb 3 (length (sddl ∷ user ∷ mask ∷ words)) (omega arith)) refl
 
 pub why_keeps_texts : DashesKeepTexts questions.Why (codes "why")
 unfolding command_named option_named
 why_keeps_texts name word dashes sddl user mask words is dash =
-    rw (is, dash, le-leb 3 (length (sddl ∷ user ∷ mask ∷ words)) (omega arith), le-leb 3 (1 + length (user ∷ mask ∷ words)) (omega arith)) refl
+    rw (is, dash, le-leb 3 (length (sddl ∷ user ∷ mask ∷ words)) (omega arith)) refl
 
 pub options_keep_texts : OptionsKeepTexts
 unfolding command_named option_named takes_option
 options_keep_texts name option domain sid word dashes sddl user mask words names in_domain why dash =
-    rw (names, in_domain, why, why, dash, le-leb 3 (length (sddl ∷ user ∷ mask ∷ words)) (omega arith), le-leb 3 (1 + length (user ∷ mask ∷ words)) (omega arith)) refl
+    rw (names, in_domain, why, why, dash, le-leb 3 (length (sddl ∷ user ∷ mask ∷ words)) (omega arith)) refl
 
 -- ---- what is asked of a text
 
 -- where a command takes so many arguments, and options may go before it
 by_takes : (Invoked : RequestValue → InvocationValue) (takes : Bool) (found : Option Mistake) (text : List ℕ)
-    (given request : RequestValue) (fewer more other : Mistake)
+    (given request : RequestValue) (fewer other : Mistake)
     → ((a b : RequestValue) → Invoked a ≡ Invoked b → a ≡ b)
     → then_read (λ asked. unless found (Invoked asked)) (if takes then Ok given else Err fewer) ≡ Ok (Invoked request)
-    → (if takes then then_read (λ asked. unless found (Ask (Some text) asked)) (if takes then Ok given else Err more) else Err other)
-    ≡ Ok (Ask (Some text) request)
-by_takes Invoked true None text given request fewer more other one is = ap (λ asked. Ok (Ask (Some text) asked)) (one given request cc)
-by_takes Invoked true (Some mistake) text given request fewer more other one is = cc
-by_takes Invoked false found text given request fewer more other one is = cc
+    → (if takes then unless found (Ask (Some text) given) else Err other) ≡ Ok (Ask (Some text) request)
+by_takes Invoked true None text given request fewer other one is = ap (λ asked. Ok (Ask (Some text) asked)) (one given request cc)
+by_takes Invoked true (Some mistake) text given request fewer other one is = cc
+by_takes Invoked false found text given request fewer other one is = cc
 
 by_name : (Invoked : RequestValue → InvocationValue) (name : CommandName) (call : CallValue) (text : Bor (List ℕ)) (request : RequestValue)
     → ((a b : RequestValue) → Invoked a ≡ Invoked b → a ≡ b) → text_request Invoked name call ≡ Ok (Invoked request)
     → (if takes_count call.command (1 + length call.arguments)
     then request_by name (record call { arguments = text ∷ call.arguments }) (text ∷ call.arguments)
     else Err (miscounted call (1 + length call.arguments))) ≡ Ok (Ask (Some text.now) request)
-by_name Invoked (names.Ask question) call text request one is = by_takes Invoked _ _ _ _ _ _ _ _ one is
+by_name Invoked (names.Ask question) call text request one is = by_takes Invoked _ _ _ _ _ _ _ one is
 by_name Invoked names.Script call text request one is = cc
 by_name Invoked names.Serve call text request one is = cc
 by_name Invoked names.Audit call text request one is = cc

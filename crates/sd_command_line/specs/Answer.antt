@@ -16,7 +16,6 @@ use Rattle.sd_lines.specs.declared.ending.Ending.TheVariants as endings
 use Rattle.sd_lines.specs.declared.form.Form.{Form}
 use Rattle.sd_command_line.specs.Scripts.{IsToldOfScript, script_outcome}
 use Rattle.sd_json.specs.Text.{printed_as}
-use Rattle.sd_json.specs.declared.tagging.Tagging.{Tagging}
 use Rattle.sd_json.specs.declared.tagging.Tagging.TheVariants.{Key, Nothing}
 use Rattle.sd_usage.specs.declared.row.OptionName.TheVariants.{Json, Strict}
 use Rattle.sd_usage.specs.declared.row.TextCommand.{TextCommand}
@@ -62,17 +61,14 @@ IsBadValue NoEdits answer = IsBadOption (codes "edits") (codes "no number of edi
 abbrev pub IsInputFault : List ℕ → List ℕ → AnswerValue → Type 0
 IsInputFault name reason answer = IsFault (fault_line name) (told_line (codes "standard input") reason) answer
 
--- the command's answer, but a blank text is a fault
-abbrev pub AnswersFilled : Settings → RequestValue → List ℕ → AnswerValue → Type 0
-AnswersFilled settings request text answer = MatchBool (is_blank text)
-    (IsInputFault (codes "blank") (codes "blank") answer)
-    (AnswersQuestion settings request.question text request.arguments answer)
-
--- the answer to the text of an input. What is no character in it isn't UTF-8
+-- the command's answer to the text of an input, but a blank one is a fault. What is no character in it isn't UTF-8
 abbrev pub AnswersInput : Settings → RequestValue → List ℕ → AnswerValue → Type 0
 AnswersInput settings request input answer =
-    (IsUtf8 (without_end (decoded input)) × AnswersFilled settings request (without_end (decoded input)) answer)
-    ⊎ ((IsUtf8 (without_end (decoded input)) → ⊥) × MatchBool (is_utf16 input)
+    let text = without_end (decoded input) in
+    (IsUtf8 text × MatchBool (is_blank text)
+    (IsInputFault (codes "blank") (codes "blank") answer)
+    (AnswersQuestion settings request.question text request.arguments answer))
+    ⊎ ((IsUtf8 text → ⊥) × MatchBool (is_utf16 input)
     (IsInputFault (codes "utf16") (codes "not UTF-16") answer)
     (IsInputFault (codes "utf8") (codes "not UTF-8") answer))
 
@@ -120,16 +116,12 @@ AnswersScript run input options answer =
 
 -- the answer to a line's text is the one command's, but a blank line is a fault; no text is told of a line that is too
 -- long
-abbrev pub AnswersText : Result Settings BadValue → RequestValue → List ℕ → AnswerValue → Type 0
-AnswersText settings request text answer = MatchBool (is_blank text)
-    (IsFault (fault_line (codes "blank")) [] answer)
-    (MatchResult settings (λ said. AnswersQuestion said request.question text request.arguments answer)
-    (λ bad. IsBadValue bad answer))
-
 abbrev pub AnswersTold : Result Settings BadValue → RequestValue → Option (List ℕ) → AnswerValue → Type 0
 AnswersTold settings request None answer = IsFault (fault_line (codes "long")) [] answer
 AnswersTold settings request (Some text) answer =
-    (IsUtf8 text × AnswersText settings request text answer)
+    (IsUtf8 text × MatchBool (is_blank text) (IsFault (fault_line (codes "blank")) [] answer)
+    (MatchResult settings (λ said. AnswersQuestion said request.question text request.arguments answer)
+    (λ bad. IsBadValue bad answer)))
     ⊎ ((IsUtf8 text → ⊥) × IsFault (fault_line (codes "utf8")) [] answer)
 
 -- what follows each answer: an empty line, where an answer may have several lines
@@ -155,15 +147,12 @@ AnswersLineIn true settings request (Some line) printed outcome = MatchBool (has
     ((printed ≡ fault_line (codes "key") ++ after_answer request.question) × (outcome ≡ Refused))
 AnswersLineIn has_keys settings request told printed outcome = AnswersLine settings request told printed outcome
 
-abbrev pub tagging_of : Bool → Tagging
-tagging_of has_keys = if has_keys then Key else Nothing
-
 -- the same as it is printed, and what came of the lines up to this one
 abbrev pub AnswersNext : (has_keys is_json : Bool) → Result Settings BadValue → RequestValue → Option Outcome
     → Option (List ℕ) → List ℕ → Option Outcome → Type 0
 AnswersNext has_keys is_json settings request before told printed after =
     (plain : List ℕ) × (outcome : Outcome) × AnswersLineIn has_keys settings request told plain outcome
-    × (printed ≡ printed_as is_json (tagging_of has_keys) plain) × (after ≡ with_line before outcome)
+    × (printed ≡ printed_as is_json (if has_keys then Key else Nothing) plain) × (after ≡ with_line before outcome)
 
 -- the lines of an input, each of which a zero byte or a line feed ends. One that is too long is answered too
 abbrev pub form_of : Bool → Form

@@ -14,19 +14,21 @@ use Rattle.sd_usage.specs.declared.row.CommandName.{CommandName}
 use Rattle.sd_usage.specs.declared.row.CommandName.TheVariants as names
 use Rattle.sd_usage.specs.declared.row.OptionName.TheVariants.{Stdin}
 use Rattle.sd_usage.specs.declared.row.TextCommand.{TextCommand}
+use Rattle.sd_command_line.specs.declared.command_line.Call.{Call}
 use Rattle.sd_command_line.specs.declared.command_line.Asked.{Asked}
 use Rattle.sd_command_line.specs.declared.command_line.Asked.TheVariants as asked
-use Rattle.sd_command_line.specs.declared.command_line.Call.{Call}
 use Rattle.sd_command_line.specs.declared.command_line.CommandLine.{CommandLine}
 use Rattle.sd_command_line.specs.declared.command_line.Invocation.{Invocation}
 use Rattle.sd_command_line.specs.declared.command_line.Invocation.TheVariants as invocations
 use Rattle.sd_command_line.specs.declared.command_line.ScriptRun.{ScriptRun}
 use Rattle.sd_command_line.specs.declared.command_line.ScriptRun.TheVariants.{AtOnce, LineByLine, Audit}
 use Rattle.sd_command_line.specs.declared.command_line.TextRequest.{TextRequest}
-use Rattle.sd_command_line.specs.Flags.{flags_in, no_flags}
+use Rattle.sd_command_line.specs.Flags.{flags_in}
 use Rattle.sd_command_line.specs.declared.flags.GivenFlags.{GivenFlags}
+use Rattle.sd_command_line.specs.declared.flags.TheConstants.{NO_FLAGS}
 use Rattle.sd_command_line.specs.Mistake.{map_read, mistake, then_read, unless}
 use Rattle.sd_command_line.specs.declared.mistake.Mistake.{Mistake}
+use Rattle.sd_command_line.specs.declared.mistake.Wrong.{Wrong}
 use Rattle.sd_command_line.specs.declared.mistake.Wrong.TheVariants as wrongs
 use Rattle.sd_command_line.specs.Options.{OptionsValue, has, misplaced_in, no_options, options_in, options_of}
 
@@ -144,24 +146,27 @@ abbrev pub text_request : (RequestValue → InvocationValue) → CommandName →
 text_request Invoked name call = then_read (λ request. asks call (Invoked request)) (request_after name call)
 
 -- the one argument after `help` names no command
-abbrev pub is_unknown : List (Bor (List ℕ)) → Bool
-is_unknown (word ∷ []) = not (is_some (command_named word.now) || is_help word.now)
-is_unknown words = false
+abbrev pub asks_unknown : List (Bor (List ℕ)) → Bool
+asks_unknown (word ∷ name ∷ []) =
+    is_help word.now && not (is_some (command_named name.now) || is_help name.now)
+asks_unknown words = false
 
--- what begins with no command: after `help`, help or the version among other arguments, an option, or another text
+-- what begins with no command: help or the version among other arguments, an option, or another text
+abbrev pub wrong_in : List (Bor (List ℕ)) → Wrong
+wrong_in [] = wrongs.NoCommand
+wrong_in (word ∷ words) =
+    if is_help word.now || is_help_flag word.now || is_version_flag word.now then wrongs.NotAlone
+    else (if begins_with_hyphen word.now then wrongs.UnknownOption else wrongs.UnknownCommand)
+
 abbrev pub no_command : List (Bor (List ℕ)) → Mistake
-no_command [] = mistake 0 0 wrongs.NoCommand
-no_command (word ∷ words) =
-    if is_help word.now && is_unknown words then mistake (length words) 0 wrongs.UnknownCommand
-    else mistake (length (word ∷ words)) 0
-    (if is_help word.now || is_help_flag word.now || is_version_flag word.now then wrongs.NotAlone
-    else (if begins_with_hyphen word.now then wrongs.UnknownOption else wrongs.UnknownCommand))
+no_command words =
+    if asks_unknown words then mistake 1 0 wrongs.UnknownCommand else mistake (length words) 0 (wrong_in words)
 
 -- the command that the arguments begin with, its own options, and its arguments
 abbrev pub call_in : OptionsValue → (words rest : List (Bor (List ℕ))) → Result CallValue Mistake
 call_in options words [] = Err (no_command [])
 call_in options words (name ∷ rest) =
-    map_read (λ command. let own = flags_in command no_flags rest in record {
+    map_read (λ command. let own = flags_in command NO_FLAGS rest in record {
       options = options;
       words = words;
       name = name.now;
@@ -174,7 +179,7 @@ call_in options words (name ∷ rest) =
 -- what a command asks for with these arguments, as many as it takes
 abbrev pub request_by : CommandName → CallValue → List (Bor (List ℕ)) → Result InvocationValue Mistake
 request_by (names.Ask question) call (text ∷ arguments) =
-    text_request (Ask (Some text.now)) (names.Ask question) (record call { arguments = arguments })
+    asks call (Ask (Some text.now) (record { question = question; arguments = arguments }))
 request_by names.Script call arguments = asks call (Script AtOnce)
 request_by names.Serve call arguments = asks call (Script (LineByLine call.given.ids))
 request_by names.Audit call (workers ∷ arguments) =

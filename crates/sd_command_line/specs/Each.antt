@@ -13,12 +13,10 @@ use Rattle.sd_commands.specs.declared.answer.Outcome.TheVariants.{Refused}
 abbrev pub key_len : List ℕ → ℕ
 key_len line = position_or_len (λ b. b == 9) line
 
-abbrev pub has_feed : List ℕ → Bool
-has_feed key = list_any (λ b. b == 10) key
-
 -- a key is there: a tab ends it, and no line feed is in it
 abbrev pub has_key : List ℕ → Bool
-has_key line = nat_lt (key_len line) (length line) && not (has_feed (take (key_len line) line))
+has_key line =
+    nat_lt (key_len line) (length line) && not (list_any (λ b. b == 10) (take (key_len line) line))
 
 -- the key with its tab, and the text after it
 abbrev pub key_of : List ℕ → List ℕ

@@ -1,14 +1,11 @@
 -- A command's own options, which stand between it and its arguments.
-use Rattle.std.specs.Prelude.{ℕ, Bool, true, false, if◌then◌else◌, List, [], ◌∷◌, Some, None}
+use Rattle.std.specs.Prelude.{ℕ, Bool, true, if◌then◌else◌, List, [], ◌∷◌, Some, None}
 use Rattle.std.specs.Borrow.{Bor}
 use Rattle.sd_usage.specs.Table.{flag_named}
 use Rattle.sd_usage.specs.declared.row.Command.{Command}
 use Rattle.sd_usage.specs.declared.row.Flag.{Flag}
 use Rattle.sd_usage.specs.declared.row.Flag.TheVariants.{Ids, Key, Zero}
 use Rattle.sd_command_line.specs.declared.flags.GivenFlags.{GivenFlags}
-
-abbrev pub no_flags : GivenFlags
-no_flags = record { ids = false; zero = false; key = false }
 
 abbrev pub is_given : GivenFlags → Flag → Bool
 is_given given Ids = given.ids
@@ -30,6 +27,3 @@ flags_in command given (word ∷ words) =
           else flags_in command (with_flag given flag) words
       | None ↦ (given, word ∷ words)
     ]
-
-abbrev pub with_words : GivenFlags × Bor (List (Bor (List ℕ))) → GivenFlags × List (Bor (List ℕ))
-with_words (given, words) = (given, words.now)

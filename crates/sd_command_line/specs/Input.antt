@@ -15,10 +15,6 @@ abbrev pub without_end : List ℕ → List ℕ
 without_end text =
     if slice_index text (length text - 1) == 10 then strip_carriage_return (take (length text - 1) text) else text
 
--- a tab, the end of a line or a space
-abbrev pub is_white : ℕ → Bool
-is_white b = b == 9 || b == 10 || b == 13 || b == 32
-
--- nothing else is in the text
+-- nothing is in the text but tabs, ends of lines and spaces
 abbrev pub is_blank : List ℕ → Bool
-is_blank text = list_all is_white text
+is_blank text = list_all (λ b. b == 9 || b == 10 || b == 13 || b == 32) text

@@ -11,7 +11,6 @@ use Rattle.sd_text.specs.declared.domain.Domain.{Domain as DomainValue}
 use Rattle.sd_tree.specs.Limits.{IsLimits, LimitsValue, standard_limits}
 use Rattle.sd_script.specs.Argument.{IsNumber}
 use Rattle.sd_script.specs.declared.manner.Manner.{Manner}
-use Rattle.sd_script.specs.declared.paths.PathSpelling.{PathSpelling}
 use Rattle.sd_script.specs.declared.paths.PathSpelling.TheVariants as paths
 use Rattle.sd_answer.specs.declared.answer.Spelling.{Spelling}
 use Rattle.sd_answer.specs.declared.answer.Spelling.TheVariants.{Number, Names as ByNames}
@@ -23,7 +22,6 @@ use Rattle.sd_usage.specs.declared.row.OptionName.TheVariants.{Risks, WithoutSac
 use Rattle.sd_usage.specs.declared.row.ProgramOption.{ProgramOption}
 use Rattle.sd_usage.specs.declared.row.TheConstants.{OPTION_COUNT}
 use Rattle.sd_commands.specs.Mapping.{GivesMapping, GivesNoMapping, kind_given}
-use Rattle.sd_commands.specs.declared.settings.ByteForm.{ByteForm}
 use Rattle.sd_commands.specs.declared.settings.ByteForm.TheVariants as forms
 use Rattle.sd_command_line.specs.Mistake.{mistake, then_read}
 use Rattle.sd_command_line.specs.declared.mistake.Mistake.{Mistake}
@@ -103,24 +101,11 @@ misplaced_from false name named options (word ∷ words) =
 abbrev pub misplaced_in : List ℕ → ℕ → OptionsValue → List (Bor (List ℕ)) → Option Mistake
 misplaced_in = misplaced_from false
 
--- options beside words that are lent
-abbrev pub parted : Options × Bor (List (Bor (List ℕ))) → OptionsValue × List (Bor (List ℕ))
-parted (options, words) = (options_of options, words.now)
-
 -- ---- what they say
 
 -- how masks are told
 abbrev pub spelling_of : OptionsValue → Spelling
 spelling_of options = if has options Names then ByNames (kind_given (given options Mapping)) else Number
-
--- how bytes are spelled
-abbrev pub byte_form_of : OptionsValue → ByteForm
-byte_form_of options = if has options Base64 then forms.Base64 else if has options Loose then forms.Loose
-    else forms.Hex
-
--- how the paths of a script are spelled
-abbrev pub paths_of : OptionsValue → PathSpelling
-paths_of options = if has options Percent then paths.Percent else paths.Plain
 
 -- the text is the SID of this domain, or neither is there
 abbrev pub GivesDomain : Option (List ℕ) → Option DomainValue → Type 0
@@ -142,7 +127,8 @@ pub record AreSettings (options : OptionsValue) (settings : Settings) : Type 0 w
   pub without_sacl : settings.without_sacl ≡ has options WithoutSacl
   pub require_dacl : settings.require_dacl ≡ has options RequireDacl
   pub risks : settings.risks ≡ has options Risks
-  pub bytes : settings.bytes ≡ byte_form_of options
+  pub bytes : settings.bytes ≡ (if has options Base64 then forms.Base64
+      else (if has options Loose then forms.Loose else forms.Hex))
   pub points : settings.points ≡ has options Caret
 
 -- the value of an option isn't read: the domain's, or else the mapping's
@@ -187,7 +173,7 @@ GivesLimits options said =
 pub record IsManner (options : OptionsValue) (manner : Manner) : Type 0 where
   pub mapping : GivesMapping (given options Mapping) manner.mapping
   pub limits : GivesLimits options (Ok manner.limits)
-  pub paths : manner.notation.paths ≡ paths_of options
+  pub paths : manner.notation.paths ≡ (if has options Percent then paths.Percent else paths.Plain)
   pub spelling : manner.notation.spelling ≡ spelling_of options
   pub domain : GivesDomain (given options Domain) manner.notation.aliases.domain
   pub later : manner.notation.aliases.later ≡ has options Aliases

@@ -1,16 +1,15 @@
 //! The parser of a command line: what its arguments ask for, by the table of commands and options.
 ghost use Rattle.std.specs.Prelude.{◌≡◌, option_map};
-ghost use Rattle.sd_command_line.specs.CommandLine.{arguments_in, asked_by, asks, call_in, call_of, command_line_of};
-ghost use Rattle.sd_command_line.specs.CommandLine.{count_of, first_call, help_on, invocation_of, line_of, miscounted};
-ghost use Rattle.sd_command_line.specs.CommandLine.{parsed, request_after, request_of, request_on, shown_by};
-ghost use Rattle.sd_command_line.specs.CommandLine.{uses_input, workers_of};
+ghost use Rattle.sd_command_line.specs.CommandLine.{arguments_in, asked_by, asks, asks_unknown, call_in, call_of};
+ghost use Rattle.sd_command_line.specs.CommandLine.{command_line_of, first_call, help_on, invocation_of, line_of};
+ghost use Rattle.sd_command_line.specs.CommandLine.{miscounted, no_command, parsed, request_after, request_of};
+ghost use Rattle.sd_command_line.specs.CommandLine.{request_on, shown_by, workers_of, wrong_in};
 ghost use Rattle.sd_command_line.specs.Mistake.{map_read};
 ghost use Rattle.sd_command_line.specs.Options.{no_options, options_of};
 
-use crate::flags::{GivenFlags, flags_in};
+use crate::flags::{GivenFlags, NO_FLAGS, flags_in};
 use crate::mistake::{Mistake, Wrong};
 use crate::options::{Options, misplaced_in, options_in};
-use crate::words::{is_help, is_help_flag, is_version_flag, no_command};
 use sd_usage::{Command, CommandName, OptionName, TextCommand, command_named};
 
 /// What a command line asks for, and with which options.
@@ -77,18 +76,6 @@ struct Call<'a> {
     arguments: &'a [&'a str],
 }
 
-impl CommandLine<'_> {
-    /// Whether it is answered from the input.
-    pub(crate) fn uses_input(self) -> bool
-        ensures { result ≡ uses_input (command_line_of self.entry) }
-    {
-        match self.asked {
-            Asked::Runs(invocation) => !matches!(invocation, Invocation::Ask { text: Some(_), .. }),
-            _ => false,
-        }
-    }
-}
-
 impl<'a> Call<'a> {
     /// What is asked for, where each option before the command may go there.
     fn asks(self, invocation: Invocation<'a>) -> Result<Invocation<'a>, Mistake>
@@ -104,16 +91,15 @@ impl<'a> Call<'a> {
     fn miscounted(self, count: usize) -> Mistake
         ensures { result ≡ miscounted (call_of self.entry) count }
     {
-        match self.command.arguments.at(count) {
-            Some(argument) => {
-                let wrong = Wrong::MissingArgument(argument, self.command);
-                Mistake::new(0, self.named, wrong)
-            }
+        let arguments = self.command.arguments;
+        let (left, wrong) = match arguments.at(count) {
+            Some(argument) => (0, Wrong::MissingArgument(argument, self.command)),
             None => {
-                let left = count.saturating_sub(self.command.arguments.count());
-                Mistake::new(left, self.named, Wrong::SurplusArgument(self.command))
+                let left = count.saturating_sub(arguments.count());
+                (left, Wrong::SurplusArgument(self.command))
             }
-        }
+        };
+        Mistake::new(left, self.named, wrong)
     }
 
     /// What a command that answers a text asks of one that the arguments follow.
@@ -140,9 +126,12 @@ impl<'a> Call<'a> {
             return Err(self.miscounted(self.arguments.len()));
         }
         match (self.command.name, self.arguments) {
-            (CommandName::Ask(_), [text, arguments @ ..]) => {
-                let request = Call { arguments, ..self }.request_after()?;
+            (CommandName::Ask(question), [text, arguments @ ..]) => {
                 let text = Some(*text);
+                let request = TextRequest {
+                    question,
+                    arguments,
+                };
                 self.asks(Invocation::Ask { text, request })
             }
             (CommandName::Script, _) => self.asks(Invocation::Script(ScriptRun::AtOnce)),
@@ -207,12 +196,52 @@ fn shown_by<'a>(words: &[&str]) -> Option<Asked<'a>>
     ensures { option_map (line_of no_options) result ≡ shown_by words.now }
 {
     match words {
-        [word] if is_help_flag(word) || is_help(word) => Some(Asked::Help { command: None }),
-        [word] if is_version_flag(word) => Some(Asked::Version),
-        [word, next] if is_help(word) && is_help(next) => Some(Asked::Help { command: None }),
-        [word, next] if is_help(word) => help_on(next),
-        [word, flag] if is_help_flag(flag) => help_on(word),
+        ["-h" | "--help" | "help"] | ["help", "help"] => Some(Asked::Help { command: None }),
+        ["-V" | "--version"] => Some(Asked::Version),
+        ["help", name] => help_on(name),
+        [name, "-h"] => help_on(name),
+        [name, "--help"] => help_on(name),
         _ => None,
+    }
+}
+
+/// The help on the command that the text names.
+fn help_on<'a>(word: &str) -> Option<Asked<'a>>
+    ensures { option_map (line_of no_options) result ≡ help_on word.now }
+{
+    let command = Some(command_named(word)?.name);
+    Some(Asked::Help { command })
+}
+
+/// What is wrong where no command begins: no command is named after `help`, or what stands there.
+fn no_command(words: &[&str]) -> Mistake
+    ensures { result ≡ no_command words.now }
+{
+    if asks_unknown(words) {
+        return Mistake::new(1, 0, Wrong::UnknownCommand);
+    }
+    Mistake::new(words.len(), 0, wrong_in(words))
+}
+
+/// Whether help is asked for on what is no command.
+fn asks_unknown(words: &[&str]) -> bool
+    ensures { result ≡ asks_unknown words.now }
+{
+    match words {
+        ["help", name] => !(command_named(name).is_some() || *name == "help"),
+        _ => false,
+    }
+}
+
+/// Help or the version is asked for among other arguments, or there is an option or another text.
+fn wrong_in(words: &[&str]) -> Wrong
+    ensures { result ≡ wrong_in words.now }
+{
+    match words {
+        [] => Wrong::NoCommand,
+        ["help" | "-h" | "--help" | "-V" | "--version", ..] => Wrong::NotAlone,
+        [word, ..] if word.starts_with('-') => Wrong::UnknownOption,
+        _ => Wrong::UnknownCommand,
     }
 }
 
@@ -235,10 +264,8 @@ fn call_in<'a>(
     let [name, after @ ..] = rest else {
         return Err(no_command(rest));
     };
-    let Some(command) = command_named(name) else {
-        return Err(no_command(rest));
-    };
-    let (given, after) = flags_in(command, GivenFlags::none(), after);
+    let command = command_named(name).ok_or_else(|| no_command(rest))?;
+    let (given, after) = flags_in(command, NO_FLAGS, after);
     Ok(Call {
         options,
         words,
@@ -248,14 +275,6 @@ fn call_in<'a>(
         given,
         arguments: arguments_in(after),
     })
-}
-
-/// The help on the command that the text names.
-fn help_on<'a>(word: &str) -> Option<Asked<'a>>
-    ensures { option_map (line_of no_options) result ≡ help_on word.now }
-{
-    let command = Some(command_named(word)?.name);
-    Some(Asked::Help { command })
 }
 
 /// The arguments after a command, without a first `--`: a way to say that what follows is no flag.
@@ -272,17 +291,11 @@ fn arguments_in<'a>(words: &'a [&'a str]) -> &'a [&'a str]
 fn workers_in(word: &str) -> Option<u64>
     ensures { result ≡ workers_of word.now }
 {
-    match word.as_bytes() {
-        [ones] => count_in(b'0', *ones),
-        [tens, ones] => count_in(*tens, *ones),
-        _ => None,
-    }
-}
-
-/// The number that two decimal digits write, where it is one of 1 to 64.
-fn count_in(tens: u8, ones: u8) -> Option<u64>
-    ensures { result ≡ count_of tens ones }
-{
+    let (tens, ones) = match word.as_bytes() {
+        [ones] => (b'0', *ones),
+        [tens, ones] => (*tens, *ones),
+        _ => return None,
+    };
     if !tens.is_ascii_digit() || !ones.is_ascii_digit() {
         return None;
     }

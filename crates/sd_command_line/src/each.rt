@@ -4,10 +4,10 @@ ghost use Rattle.std.specs.Prelude.{option_map, string_bytes};
 ghost use Rattle.sd_lines.specs.Watched.{has_failed, inner_of};
 ghost use Rattle.sd_lines.specs.Streams.{is_read_error, is_write_error};
 ghost use Rattle.sd_commands.specs.Answer.{answer_of, outcome_status};
-ghost use Rattle.sd_command_line.specs.Answer.{AnswersLine, AnswersLineIn, AnswersNext, AnswersText, AnswersTold};
-ghost use Rattle.sd_command_line.specs.Answer.{after_answer, form_of, tagging_of};
+ghost use Rattle.sd_command_line.specs.Answer.{AnswersLine, AnswersLineIn, AnswersNext, AnswersTold};
+ghost use Rattle.sd_command_line.specs.Answer.{after_answer, form_of};
 ghost use Rattle.sd_command_line.specs.CommandLine.{Each, Runs, request_of};
-ghost use Rattle.sd_command_line.specs.Each.{after_key, has_feed, has_key, key_len, key_of, no_line_note};
+ghost use Rattle.sd_command_line.specs.Each.{after_key, has_key, key_len, key_of, no_line_note};
 ghost use Rattle.sd_command_line.specs.Each.{told_of_lines, with_line};
 ghost use Rattle.sd_command_line.specs.Options.{options_of};
 ghost use Rattle.sd_command_line.specs.Output.{AppendsAnswerTo, LeavesAfter};
@@ -61,7 +61,12 @@ impl AnswersLines for LineQuestion<'_> {
         text: &mut Vec<u8>,
     ) -> Result<(), AllocError> {
         let answered = self.answer_in(alloc, line)?;
-        let printed = printed_as(alloc, self.is_json, self.tagging(), answered.printed)?;
+        let tagging = if self.has_keys {
+            Tagging::Key
+        } else {
+            Tagging::Nothing
+        };
+        let printed = printed_as(alloc, self.is_json, tagging, answered.printed)?;
         text.extend_from_slice(&printed)?;
         *lines = with_line(*lines, answered.outcome);
         Ok(())
@@ -69,16 +74,6 @@ impl AnswersLines for LineQuestion<'_> {
 }
 
 impl LineQuestion<'_> {
-    fn tagging(&self) -> Tagging
-        ensures { result ≡ tagging_of self.now.has_keys }
-    {
-        if self.has_keys {
-            Tagging::Key
-        } else {
-            Tagging::Nothing
-        }
-    }
-
     /// The answer to a line: where lines have keys and it is a key, a tab and a text, the text's, each line of which
     /// begins with the key and the tab. One without a key is a fault.
     fn answer_in(&self, alloc: Global, line: Option<&[u8]>) -> Result<Answered, AllocError>
@@ -93,7 +88,7 @@ impl LineQuestion<'_> {
             return self.answer_line(alloc, None);
         };
         let Some((key, text)) = parted(bytes) else {
-            return self.ended(alloc, fault(alloc, "key", String::new(alloc))?);
+            return self.ended(fault(alloc, "key", String::new(alloc))?);
         };
         let answered = self.answer_line(alloc, Some(text))?;
         Ok(Answered {
@@ -107,22 +102,19 @@ impl LineQuestion<'_> {
         ensures { IfOk result (λ answered. AnswersLine self.now.settings (request_of self.now.request)
             (option_map (λ bytes. bytes.now) line.entry) answered.printed.items answered.outcome) }
     {
-        self.ended(alloc, self.answer_told(alloc, line)?)
+        self.ended(self.answer_told(alloc, line)?)
     }
 
     /// An answer, and what follows it.
-    fn ended(&self, alloc: Global, answer: Answer) -> Result<Answered, AllocError>
+    fn ended(&self, answer: Answer) -> Result<Answered, AllocError>
         ensures { IfOk result (λ ended. (ended.printed.items
             ≡ (answer_of answer).printed ++ after_answer self.now.request.question)
             × (ended.outcome ≡ answer.outcome)) }
     {
-        let mut printed = Vec::new(alloc);
-        printed.extend_from_slice(answer.text.as_bytes())?;
+        let Answer { text, outcome, .. } = answer;
+        let mut printed = text.into_bytes();
         printed.extend_from_slice(after_answer(self.request.question).as_bytes())?;
-        Ok(Answered {
-            printed,
-            outcome: answer.outcome,
-        })
+        Ok(Answered { printed, outcome })
     }
 
     /// The answer to a line, of which there is no text where it is too long.
@@ -136,15 +128,7 @@ impl LineQuestion<'_> {
         let Ok(text) = from_utf8(bytes) else {
             return fault(alloc, "utf8", String::new(alloc));
         };
-        self.answer_text(alloc, text)
-    }
-
-    /// The answer to a line's text.
-    fn answer_text(&self, alloc: Global, text: &str) -> Result<Answer, AllocError>
-        ensures { IfOk result (λ answer. AnswersText self.now.settings (request_of self.now.request)
-            text.now (answer_of answer)) }
-    {
-        if is_blank(text.as_bytes()) {
+        if is_blank(bytes) {
             return fault(alloc, "blank", String::new(alloc));
         }
         let TextRequest {
@@ -165,7 +149,7 @@ fn parted(line: &[u8]) -> Option<(&[u8], &[u8])>
     ensures none { IfNone result (has_key line.now ≡ false) }
 {
     let len = key_len(line);
-    if len < line.len() && !has_feed(&line[..len]) {
+    if len < line.len() && !line[..len].contains(&b'\n') {
         Some((&line[..len + 1], &line[len + 1..]))
     } else {
         None
@@ -179,12 +163,6 @@ fn key_len(line: &[u8]) -> usize
 {
     let len = line.iter().position(|byte| *byte == b'\t');
     len.unwrap_or(line.len())
-}
-
-fn has_feed(key: &[u8]) -> bool
-    ensures { result ≡ has_feed key.now }
-{
-    key.iter().any(|byte| *byte == b'\n')
 }
 
 /// What follows each answer: an empty line, where an answer may have several lines.

@@ -1,6 +1,6 @@
 //! A command's own options, which stand between it and its arguments.
 ghost use Rattle.std.specs.Prelude.{◌≡◌};
-ghost use Rattle.sd_command_line.specs.Flags.{flags_in, is_given, no_flags, with_flag, with_words};
+ghost use Rattle.sd_command_line.specs.Flags.{flags_in, is_given, with_flag};
 
 use sd_usage::{Command, Flag};
 
@@ -12,18 +12,14 @@ pub(crate) struct GivenFlags {
     pub(crate) key: bool,
 }
 
-impl GivenFlags {
-    /// None of them.
-    pub(crate) fn none() -> GivenFlags
-        ensures { result ≡ no_flags }
-    {
-        GivenFlags {
-            ids: false,
-            zero: false,
-            key: false,
-        }
-    }
+/// None of them.
+pub(crate) const NO_FLAGS: GivenFlags = GivenFlags {
+    ids: false,
+    zero: false,
+    key: false,
+};
 
+impl GivenFlags {
     fn has(self, flag: Flag) -> bool
         ensures { result ≡ is_given self flag }
     {
@@ -53,7 +49,7 @@ pub(crate) fn flags_in<'a>(
     given: GivenFlags,
     words: &'a [&'a str],
 ) -> (GivenFlags, &'a [&'a str])
-    ensures { with_words result ≡ flags_in command given words.entry.now }
+    ensures { (result.0, result.1.now) ≡ flags_in command given words.entry.now }
 {
     let [word, after @ ..] = words else {
         return (given, words);

@@ -1,11 +1,10 @@
 //! The answer to the one text that an input is, in UTF-8, or in UTF-16 after a byte order mark.
 ghost use Rattle.std.specs.Prelude.{◌≡◌, IfOk};
-ghost use Rattle.std.specs.Str.Lines.{strip_carriage_return};
 ghost use Rattle.sd_commands.specs.Answer.{answer_of};
 ghost use Rattle.sd_lines.specs.Decoder.{decoded};
-ghost use Rattle.sd_command_line.specs.Answer.{AnswersFilled, AnswersInput, IsInputFault};
+ghost use Rattle.sd_command_line.specs.Answer.{AnswersInput, IsInputFault};
 ghost use Rattle.sd_command_line.specs.CommandLine.{request_of};
-ghost use Rattle.sd_command_line.specs.Input.{is_blank, is_utf16, is_white, without_end};
+ghost use Rattle.sd_command_line.specs.Input.{is_blank, is_utf16, without_end};
 
 use crate::command_line::TextRequest;
 use sd_commands::{Answer, Settings, answer_question, fault, told_line};
@@ -26,7 +25,8 @@ pub(crate) fn answer_input(
 {
     let bytes = decoded(alloc, input)?;
     match from_utf8(without_end(&bytes)) {
-        Ok(text) => answer_filled(alloc, settings, request, text),
+        Ok(text) if is_blank(text.as_bytes()) => input_fault(alloc, "blank", "blank"),
+        Ok(text) => answer_question(alloc, settings, request.question, text, request.arguments),
         Err(_) if is_utf16(input) => input_fault(alloc, "utf16", "not UTF-16"),
         Err(_) => input_fault(alloc, "utf8", "not UTF-8"),
     }
@@ -41,21 +41,6 @@ fn decoded(alloc: Global, input: &[u8]) -> Result<Vec<u8>, AllocError>
     decoder.decode(alloc, input, &mut text)?;
     decoder.end(&mut text)?;
     Ok(text)
-}
-
-fn answer_filled(
-    alloc: Global,
-    settings: Settings,
-    request: TextRequest<'_>,
-    text: &str,
-) -> Result<Answer, AllocError>
-    ensures { IfOk result
-        (λ answer. AnswersFilled settings (request_of request.entry) text.now (answer_of answer)) }
-{
-    if is_blank(text.as_bytes()) {
-        return input_fault(alloc, "blank", "blank");
-    }
-    answer_question(alloc, settings, request.question, text, request.arguments)
 }
 
 /// The answer to an input that is no text for a command.
@@ -76,17 +61,8 @@ fn is_utf16(input: &[u8]) -> bool
 fn without_end(text: &[u8]) -> &[u8]
     ensures { result.now ≡ without_end text.now }
 {
-    match text.split_last() {
-        Some((b'\n', front)) => without_return(front),
-        _ => text,
-    }
-}
-
-fn without_return(text: &[u8]) -> &[u8]
-    ensures { result.now ≡ strip_carriage_return text.now }
-{
-    match text.split_last() {
-        Some((b'\r', front)) => front,
+    match text {
+        [front @ .., b'\r', b'\n'] | [front @ .., b'\n'] => front,
         _ => text,
     }
 }
@@ -95,11 +71,6 @@ fn without_return(text: &[u8]) -> &[u8]
 pub(crate) fn is_blank(text: &[u8]) -> bool
     ensures { result ≡ is_blank text.now }
 {
-    text.iter().all(|byte| is_white(*byte))
-}
-
-fn is_white(byte: u8) -> bool
-    ensures { result ≡ is_white byte }
-{
-    matches!(byte, b'\t' | b'\n' | b'\r' | b' ')
+    text.iter()
+        .all(|byte| matches!(byte, b'\t' | b'\n' | b'\r' | b' '))
 }

@@ -14,6 +14,7 @@ pub fn names_are_distinct()
 {}
 
 /// Help and the version answer two arguments after the program's name at most, so no verdict's arguments ask for them.
+#[tactic(auto, using(crate::proofs::LawProofs::help_stands_alone))]
 pub fn help_stands_alone()
     ensures { HelpStandsAlone }
 {}

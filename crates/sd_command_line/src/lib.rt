@@ -23,7 +23,6 @@ mod perform;
 mod program;
 mod scripts;
 mod version;
-mod words;
 
 pub use laws::{dashes_keep_texts, each_asks_the_command, help_stands_alone, names_are_distinct};
 pub use program::{asks_help, drive, is_command_line, reads_input};

@@ -4,9 +4,8 @@ ghost use Rattle.sd_text.specs.Domain.{domain_sid};
 ghost use Rattle.sd_text.specs.Grammar.{Spells};
 ghost use Rattle.sd_text.specs.Sid.{sid_text};
 ghost use Rattle.sd_command_line.specs.Options.{GivesDomain, GivesLimits, GivesManner, GivesNumber, GivesSettings};
-ghost use Rattle.sd_command_line.specs.Options.{HasBadValue, IsNoDomain, byte_form_of, given, has, misplaced_in};
-ghost use Rattle.sd_command_line.specs.Options.{no_options, options_in, options_of, parted, paths_of, spelling_of};
-ghost use Rattle.sd_command_line.specs.Options.{with_option, with_value, wrong_option};
+ghost use Rattle.sd_command_line.specs.Options.{HasBadValue, IsNoDomain, given, has, misplaced_in, no_options};
+ghost use Rattle.sd_command_line.specs.Options.{options_in, options_of, with_option, wrong_option};
 ghost use Rattle.sd_command_line.specs.Mistake.{map_read};
 
 use crate::mistake::{Mistake, Wrong};
@@ -60,15 +59,6 @@ impl<'a> Options<'a> {
         self.given(option).is_some()
     }
 
-    /// These, and this one.
-    fn with_value(self, option: OptionName, value: &'a str) -> Options<'a>
-        ensures { options_of result ≡ with_value (options_of self.entry) option value.now }
-    {
-        let mut values = self.values;
-        values[option.place()] = Some(value);
-        Options { values }
-    }
-
     /// These and one more, from which on there are so many arguments, unless it is one of these already.
     fn with_option(self, left: usize, option: OptionName, value: &'a str) -> Result<Self, Mistake>
         ensures { map_read options_of result ≡ with_option (options_of self.entry) left option value.now }
@@ -76,7 +66,9 @@ impl<'a> Options<'a> {
         if self.has(option) {
             return Err(Mistake::new(left, 0, Wrong::RepeatedOption));
         }
-        Ok(self.with_value(option, value))
+        let mut values = self.values;
+        values[option.place()] = Some(value);
+        Ok(Options { values })
     }
 
     /// What they say of a descriptor, or whose value isn't read: first `--domain`'s, which is a domain's SID ([MS-DTYP]
@@ -89,19 +81,30 @@ impl<'a> Options<'a> {
         let Some(mapping) = mapping_given(given) else {
             return Err(BadValue::NoMapping);
         };
+        let kind = kind_given(given);
         Ok(Settings {
-            spelling: self.spelling(),
             aliases: Aliases {
                 domain,
                 later: self.has(OptionName::Aliases),
             },
             mapping,
-            kind: kind_given(given),
+            kind,
             without_sacl: self.has(OptionName::WithoutSacl),
             require_dacl: self.has(OptionName::RequireDacl),
             risks: self.has(OptionName::Risks),
-            bytes: self.byte_form(),
             points: self.has(OptionName::Caret),
+            spelling: if self.has(OptionName::Names) {
+                Spelling::Names(kind)
+            } else {
+                Spelling::Number
+            },
+            bytes: if self.has(OptionName::Base64) {
+                ByteForm::Base64
+            } else if self.has(OptionName::Loose) {
+                ByteForm::Loose
+            } else {
+                ByteForm::Hex
+            },
         })
     }
 
@@ -116,11 +119,15 @@ impl<'a> Options<'a> {
             mapping: settings.mapping,
             limits,
             notation: Notation {
-                paths: self.paths(),
                 spelling: settings.spelling,
                 aliases: settings.aliases,
                 without_sacl: settings.without_sacl,
                 is_json: self.has(OptionName::Json),
+                paths: if self.has(OptionName::Percent) {
+                    PathSpelling::Percent
+                } else {
+                    PathSpelling::Plain
+                },
             },
         })
     }
@@ -144,47 +151,15 @@ impl<'a> Options<'a> {
         ensures given { IfOk result (GivesDomain (given (options_of self.entry) OptionName.Domain)) }
         ensures bad { IfErr result (HasBadValue (options_of self.entry)) }
     {
-        match self.given(OptionName::Domain) {
-            None => Ok(None),
-            Some(text) => match domain_in(text) {
-                Some(domain) => Ok(Some(domain)),
-                None => {
-                    let points = self.has(OptionName::Caret);
-                    Err(BadValue::NoDomain { text, points })
-                }
-            },
-        }
-    }
-
-    fn byte_form(self) -> ByteForm
-        ensures { result ≡ byte_form_of (options_of self.entry) }
-    {
-        if self.has(OptionName::Base64) {
-            ByteForm::Base64
-        } else if self.has(OptionName::Loose) {
-            ByteForm::Loose
-        } else {
-            ByteForm::Hex
-        }
-    }
-
-    fn paths(self) -> PathSpelling
-        ensures { result ≡ paths_of (options_of self.entry) }
-    {
-        if self.has(OptionName::Percent) {
-            PathSpelling::Percent
-        } else {
-            PathSpelling::Plain
-        }
-    }
-
-    fn spelling(self) -> Spelling
-        ensures { result ≡ spelling_of (options_of self.entry) }
-    {
-        if self.has(OptionName::Names) {
-            Spelling::Names(kind_given(self.given(OptionName::Mapping)))
-        } else {
-            Spelling::Number
+        let Some(text) = self.given(OptionName::Domain) else {
+            return Ok(None);
+        };
+        match domain_in(text) {
+            Some(domain) => Ok(Some(domain)),
+            None => {
+                let points = self.has(OptionName::Caret);
+                Err(BadValue::NoDomain { text, points })
+            }
         }
     }
 }
@@ -202,19 +177,14 @@ pub(crate) fn misplaced_in(
     let [word, after @ ..] = words else {
         return None;
     };
-    let Some(option) = option_named(word) else {
-        return None;
-    };
+    let option = option_named(word)?;
     if let Some(wrong) = wrong_option(name, options, option) {
         return Some(Mistake::new(words.len(), named, wrong));
     }
-    let Some(_) = option.value else {
-        return misplaced_in(name, named, options, after);
-    };
-    let [_, after @ ..] = after else {
-        return None;
-    };
-    misplaced_in(name, named, options, after)
+    match after {
+        [_value, after @ ..] if option.value.is_some() => misplaced_in(name, named, options, after),
+        _ => misplaced_in(name, named, options, after),
+    }
 }
 
 /// Why the option may not go before the command, or not beside the others, if it may not.
@@ -260,7 +230,8 @@ pub(crate) fn options_in<'a>(
     options: Options<'a>,
     words: &'a [&'a str],
 ) -> Result<(Options<'a>, &'a [&'a str]), Mistake>
-    ensures { map_read parted result ≡ options_in (options_of options.entry) words.entry.now }
+    ensures { map_read (λ read. (options_of read.0, read.1.now)) result
+        ≡ options_in (options_of options.entry) words.entry.now }
 {
     let [word, after @ ..] = words else {
         return Ok((options, words));
@@ -268,12 +239,10 @@ pub(crate) fn options_in<'a>(
     let Some(option) = option_named(word) else {
         return Ok((options, words));
     };
-    let Some(_) = option.value else {
-        let options = options.with_option(words.len(), option.name, "")?;
-        return options_in(options, after);
-    };
-    let [value, after @ ..] = after else {
-        return Err(Mistake::new(words.len(), 0, Wrong::NoValue));
+    let (value, after) = match after {
+        _ if option.value.is_none() => ("", after),
+        [value, after @ ..] => (*value, after),
+        [] => return Err(Mistake::new(words.len(), 0, Wrong::NoValue)),
     };
     let options = options.with_option(words.len(), option.name, value)?;
     options_in(options, after)

@@ -8,7 +8,7 @@ ghost use Rattle.sd_command_line.specs.Laws.{shows};
 ghost use Rattle.sd_command_line.specs.Mistake.{message};
 ghost use Rattle.sd_command_line.specs.Output.{AppendsAnswer, AppendsPartOfAnswer, IsDue, LeavesByLine, error_line};
 
-use crate::command_line::{Asked, read_command_line};
+use crate::command_line::{Asked, Invocation, read_command_line};
 use crate::mistake::{Mistake, message};
 use crate::perform::{Ended, perform};
 use sd_lines::{RunError, Watched, write_whole};
@@ -94,7 +94,11 @@ pub fn reads_input(words: &[&str]) -> bool
     ensures { result ≡ asks_input words.now }
 {
     match read_command_line(words) {
-        Ok(line) => line.uses_input(),
+        Ok(line) => match line.asked {
+            Asked::Runs(Invocation::Ask { text, .. }) => text.is_none(),
+            Asked::Runs(_) => true,
+            _ => false,
+        },
         Err(_) => false,
     }
 }
@@ -110,10 +114,7 @@ pub fn is_command_line(words: &[&str]) -> bool
 pub fn asks_help(words: &[&str]) -> bool
     ensures { result ≡ shows (reading words.now) }
 {
-    match read_command_line(words) {
-        Ok(line) => matches!(line.asked, Asked::Help { .. } | Asked::Version),
-        Err(_) => false,
-    }
+    read_command_line(words).is_ok_and(|line| !matches!(line.asked, Asked::Runs(_)))
 }
 
 /// Tells standard error. What stands, stands also where the errors can't be written.

@@ -1,6 +1,6 @@
 //! What comes of a script beside its output.
 ghost use Rattle.std.specs.Prelude.{◌≡◌, IfOk, string_bytes};
-ghost use Rattle.sd_command_line.specs.Scripts.{IsToldOfScript, expect_note, has_failed, line_if, line_note};
+ghost use Rattle.sd_command_line.specs.Scripts.{IsToldOfScript, expect_note, line_if, line_note};
 ghost use Rattle.sd_command_line.specs.Scripts.{script_notes, script_outcome};
 
 use crate::perform::Ended;
@@ -19,21 +19,15 @@ pub(crate) fn end_of_script(alloc: Global, strict: bool, tally: &Tally) -> Ended
     ensures outcome { result.outcome ≡ script_outcome strict tally.now }
 {
     let told = script_notes(alloc, strict, tally).unwrap_or(String::new(alloc));
-    let outcome = if tally.first_unmet.is_some() || (strict && has_failed(tally)) {
+    let failed = tally.first_fault.is_some()
+        || tally.first_difference.is_some()
+        || tally.first_reordered.is_some();
+    let outcome = if tally.first_unmet.is_some() || (strict && failed) {
         Outcome::Refused
     } else {
         Outcome::Done
     };
     Ended { told, outcome }
-}
-
-/// Whether some line had a fault or was refused, or imported a node whose entries aren't as they were elsewhere.
-fn has_failed(tally: &Tally) -> bool
-    ensures { result ≡ has_failed tally.now }
-{
-    tally.first_fault.is_some()
-        || tally.first_difference.is_some()
-        || tally.first_reordered.is_some()
 }
 
 fn script_notes(alloc: Global, strict: bool, tally: &Tally) -> Result<String, AllocError>
@@ -80,17 +74,12 @@ fn expect_note(
 ) -> Result<String, AllocError>
     ensures { IfOk result (λ text. string_bytes text ≡ expect_note expected unmet first) }
 {
-    match first {
-        None if expected == 0 => Ok(String::new(alloc)),
-        None => {
-            let what = format!(in alloc; "{expected} expected, all met")?;
-            told_line(alloc, "expect", what.as_str())
-        }
+    let what = match first {
+        None if expected == 0 => return Ok(String::new(alloc)),
+        None => format!(in alloc; "{expected} expected, all met")?,
         Some(line) => {
-            let what = format!(in alloc;
-                "{expected} expected, {unmet} not met, the first in line {line}"
-            )?;
-            told_line(alloc, "expect", what.as_str())
+            format!(in alloc; "{expected} expected, {unmet} not met, the first in line {line}")?
         }
-    }
+    };
+    told_line(alloc, "expect", what.as_str())
 }

@@ -1,5 +1,5 @@
 -- What an error leaves of the output, it leaves of the answer.
-use Rattle.std.proofs.Common.{None, inr}
+use Rattle.std.proofs.Common.{None}
 use Rattle.std.proofs.lemmas.Result.{err_from_is_err_and}
 use Rattle.sd_command_line.specs.Options.{options_of}
 use Rattle.sd_command_line.specs.declared.command_line.ScriptRun.TheVariants.{AtOnce, Audit}
@@ -17,9 +17,3 @@ returns-in_err-tally-in-Audit-clause-err g c =
     let refused = err_from_is_err_and c.from_residual-in_err-tally-in-Audit.result c.from_residual-in_err-tally-in-Audit.ensures.1 in
     rw (c.in-Audit.is, refused.1)
     (output_leaves (Audit c.in-Audit.workers) (options_of c.args.options) c.in-Ok.manner c.in-Ok.ensures _ None _ _ _ c.in_err-tally-in-Audit.ensures.err)
-
-pub returns-in_err-tally-in-LineByLine-clause-err : goal.returns-in_err-tally-in-LineByLine-clause-err
-returns-in_err-tally-in-LineByLine-clause-err g c =
-    let refused = err_from_is_err_and c.from_residual-in_err-tally-in-LineByLine.result c.from_residual-in_err-tally-in-LineByLine.ensures.1 in
-    rw (c.in-LineByLine.is, refused.1, refused.2)
-    (inr (inr (c.in-Ok.manner, c.in-Ok.ensures, c.in_err-tally-in-LineByLine.ensures.err)))
