@@ -8,7 +8,7 @@ ghost use Rattle.sd_command_line.specs.Input.{is_blank, is_utf16, without_end};
 
 use crate::command_line::TextRequest;
 use sd_commands::{Answer, Settings, answer_question, fault, told_line};
-use sd_lines::Decoder;
+use sd_lines::{Decoder, without_return};
 use std::alloc::{AllocError, Global};
 use std::str::from_utf8;
 
@@ -62,7 +62,7 @@ fn without_end(text: &[u8]) -> &[u8]
     ensures { result.now ≡ without_end text.now }
 {
     match text {
-        [front @ .., b'\r', b'\n'] | [front @ .., b'\n'] => front,
+        [front @ .., b'\n'] => without_return(front),
         _ => text,
     }
 }
