@@ -16,6 +16,7 @@ use sd_tree::{Edit, Entries, NodeKind, Path, RootSpec};
 use sd_versions::Request;
 
 /// What a line asks for.
+// (A token makes it large: more than one caller of a function here, or a match on two values at once, moves it more.)
 #[derive(Debug, Drop)]
 pub enum Asked {
     /// A store for so many readers, with this root.
@@ -73,17 +74,28 @@ impl Parser {
     pub(crate) fn asked(self, command: Command<'_>) -> Parsed
         ensures { Parses self.notation (asks command.entry.name (texts command.entry.arguments.now)) result }
     {
-        let arguments = command.arguments;
         match command.name {
-            ScriptCommand::Who => match arguments {
-                [path, mask, words @ ..] => self.granted(path, mask, words),
-                _ => Ok(None),
-            },
-            ScriptCommand::Delete => match arguments {
-                [reader, path, user, words @ ..] => self.deleting(reader, path, user, words),
-                _ => Ok(None),
-            },
-            name => self.taking(name, arguments),
+            ScriptCommand::Who => self.who(command.arguments),
+            ScriptCommand::Delete => self.deletion(command.arguments),
+            _ => self.taking(command.name, command.arguments),
+        }
+    }
+
+    fn who(self, arguments: &[&str]) -> Parsed
+        ensures { Parses self.notation (asks ScriptCommand.Who (texts arguments.now)) result }
+    {
+        match arguments {
+            [path, mask, words @ ..] => self.granted(path, mask, words),
+            _ => Ok(None),
+        }
+    }
+
+    fn deletion(self, arguments: &[&str]) -> Parsed
+        ensures { Parses self.notation (asks ScriptCommand.Delete (texts arguments.now)) result }
+    {
+        match arguments {
+            [reader, path, user, words @ ..] => self.deleting(reader, path, user, words),
+            _ => Ok(None),
         }
     }
 
@@ -141,7 +153,8 @@ impl Parser {
             ScriptCommand::Publish => Ok(Some(Asked::Asking(Request::Publish))),
             ScriptCommand::Tell => Ok(Some(Asked::Asking(Request::Tell))),
             ScriptCommand::Dump => view(View::Dump),
-            ScriptCommand::ListNodes | ScriptCommand::Review => self.on_one(name, "/"),
+            ScriptCommand::ListNodes => self.on_one(name, "/"),
+            ScriptCommand::Review => self.on_one(name, "/"),
             _ => Ok(None),
         }
     }
@@ -219,8 +232,11 @@ impl Parser {
     fn on_three(self, name: ScriptCommand, kind: &str, path: &str, sddl: &str) -> Parsed
         ensures { Parses self.notation (asks_taking name (kind.now ∷ path.now ∷ sddl.now ∷ [])) result }
     {
-        match (name, kind_named(kind)) {
-            (ScriptCommand::ImportNode, Some(kind)) => self.importing(kind, path, sddl),
+        match name {
+            ScriptCommand::ImportNode => match kind_named(kind) {
+                Some(kind) => self.importing(kind, path, sddl),
+                None => Ok(None),
+            },
             _ => Ok(None),
         }
     }
