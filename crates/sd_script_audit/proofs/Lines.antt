@@ -1,6 +1,6 @@
 -- The answers to the lines of an audit.
-use Rattle.std.proofs.Common.{◌≡◌, ℕ, List, ◌++◌, cond, Result, Ok, Err, inl, inr, ◌∙◌, ap, sym, append_assoc}
-use Rattle.std.specs.Prelude.{IfErr, IfOk, OnOk}
+use Rattle.std.proofs.Common.{◌≡◌, ℕ, List, ◌++◌, cond, Option, Some, None, Result, Ok, Err, inl, inr, ◌∙◌, ap, sym, append_assoc}
+use Rattle.std.specs.Prelude.{IfErr, IfOk, IfSome, OnOk}
 use Rattle.std.specs.Result.{is_ok}
 use Rattle.sd_lines.specs.Answers.{AreAnswered}
 use Rattle.sd_lines.proofs.InOrder.{joined}
@@ -11,12 +11,13 @@ use Rattle.sd_script_audit.specs.Audit.{AreAnsweredInAudit, AsksInAudit, Audited
 use Rattle.sd_script_audit.specs.Parts.{IsDoneOrTold}
 
 -- a line is answered as what it asks for is done, or by what it is told
-pub answered : {X : Type 0} (bytes : X → List ℕ) (workers : ℕ) (old new : Progress) (line printed : List ℕ) (found : Result Asked X)
+pub answered : {X : Type 0} (bytes : X → List ℕ) (workers : ℕ) (old new : Progress) (line printed : List ℕ) (found : Result Asked (Option X))
     → IfOk found (λ asked. AsksInAudit (manner_of old.store).notation (is_open old.store) line asked)
-    → IfErr found (λ text. IsToldInAudit (manner_of old.store).notation (is_open old.store) line (bytes text))
+    → IfErr found (λ told. IfSome told (λ text. IsToldInAudit (manner_of old.store).notation (is_open old.store) line (bytes text)))
     → IsDoneOrTold bytes workers old found printed new → IsAnsweredInAudit workers old line printed new
 answered bytes workers old new line printed (Ok asked) asks told done = inr (asked, asks, done)
-answered bytes workers old new line printed (Err text) asks told done = inl (rw (done.0) told, done.1)
+answered bytes workers old new line printed (Err (Some text)) asks told done = inl (rw (done.0) told, done.1)
+answered bytes workers old new line printed (Err None) asks told done = absurd done
 
 -- lines, and those after them
 pub lines_before : (workers : ℕ) (old between : Audited) (lines front back : List (List ℕ)) (printed p q : List ℕ) (tally : Tally)

@@ -14,10 +14,12 @@ use Rattle.sd_script.specs.declared.session.Session.TheVariants.{Closed, Opened}
 use Rattle.sd_script.specs.declared.tally.Tally.{Tally}
 use Rattle.sd_script_audit.specs.Audit.{Audited, IsDoneInAudit, Progress}
 
--- what a line asks for is done, or what it is told is printed
-abbrev pub IsDoneOrTold : {X : Type 0} → (X → List ℕ) → ℕ → Progress → Result Asked X → List ℕ → Progress → Type 0
+-- what a line asks for is done, or what it is told is printed; out of memory it is told nothing, and isn't answered
+abbrev pub IsDoneOrTold : {X : Type 0} → (X → List ℕ) → ℕ → Progress → Result Asked (Option X) → List ℕ → Progress
+    → Type 0
 IsDoneOrTold bytes workers old (Ok asked) printed new = IsDoneInAudit workers old asked printed new
-IsDoneOrTold bytes workers old (Err told) printed new = (printed ≡ bytes told) × (new ≡ old)
+IsDoneOrTold bytes workers old (Err (Some told)) printed new = (printed ≡ bytes told) × (new ≡ old)
+IsDoneOrTold bytes workers old (Err None) printed new = ⊥
 
 -- no store is open, or one with this root that nothing was asked of
 abbrev pub store_of : Manner → ℕ → Option RootSpec → Session

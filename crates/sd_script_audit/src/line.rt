@@ -1,6 +1,6 @@
 //! What a line of an audit asks for.
 
-ghost use Rattle.std.specs.Prelude.{◌≡◌, IfErr, IfOk, codes, string_bytes};
+ghost use Rattle.std.specs.Prelude.{◌≡◌, IfErr, IfOk, IfSome, codes, string_bytes};
 ghost use Rattle.sd_answer.specs.Answer.{fault_line};
 ghost use Rattle.sd_script_audit.specs.Audit.{AsksInAudit, IsToldInAudit};
 
@@ -9,7 +9,7 @@ use sd_script::{Asked, LineStop, Notation, expects, is_silent, line_of_fault, re
 use std::alloc::{AllocError, Global};
 
 /// What a line asks for, or else what it is told: nothing if it is silent, and a fault if it expects an answer, which
-/// scripts alone do, or has one.
+/// scripts alone do, or has one. Without a text it is out of memory.
 // (inlined, since what a line asks for is large, and a call would move it once more)
 #[inline(always)]
 pub(crate) fn asked_or_told(
@@ -17,21 +17,21 @@ pub(crate) fn asked_or_told(
     notation: Notation,
     is_open: bool,
     line: &[u8],
-) -> Result<Result<Asked, String>, AllocError>
-    ensures asks { IfOk result (λ found. IfOk found (λ asked. AsksInAudit notation is_open line.now asked)) }
-    ensures told { IfOk result (λ found. IfErr found
+) -> Result<Asked, Option<String>>
+    ensures asks { IfOk result (λ asked. AsksInAudit notation is_open line.now asked) }
+    ensures told { IfErr result (λ told. IfSome told
         (λ text. IsToldInAudit notation is_open line.now (string_bytes text))) }
 {
     if is_silent(line) {
-        return Ok(Err(String::new(alloc)));
+        return Err(Some(String::new(alloc)));
     }
     if expects(line) {
-        return Ok(Err(only_in_scripts(alloc)?));
+        return Err(only_in_scripts(alloc).ok());
     }
     match read_line(alloc, notation, is_open, line) {
-        Ok(asked) => Ok(Ok(asked)),
-        Err(LineStop::Fault(fault)) => Ok(Err(line_of_fault(alloc, fault)?)),
-        Err(LineStop::Memory) => Err(AllocError),
+        Ok(asked) => Ok(asked),
+        Err(LineStop::Fault(fault)) => Err(line_of_fault(alloc, fault).ok()),
+        Err(LineStop::Memory) => Err(None),
     }
 }
 

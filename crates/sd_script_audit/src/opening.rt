@@ -46,7 +46,7 @@ impl AnswersLines for Openings {
             // (no line is too long, and those after the opening are left)
             return Err(AllocError);
         };
-        let found = asked_or_told(alloc, self.manner.notation, false, line)?;
+        let found = asked_or_told(alloc, self.manner.notation, false, line);
         let answer = self.open(alloc, &mut unopened.root, found)?;
         unopened.tally = unopened.tally.with(line, answer.as_bytes());
         text.extend_from_slice(answer.as_bytes())
@@ -60,7 +60,7 @@ impl Openings {
         &self,
         alloc: Global,
         opened: &mut Option<RootSpec>,
-        found: Result<Asked, String>,
+        found: Result<Asked, Option<String>>,
     ) -> Result<String, AllocError>
         requires opening { IfOk found (λ asked. opens asked ≡ true) }
         requires closed { opened.old ≡ None }
@@ -70,7 +70,7 @@ impl Openings {
         let root = match found {
             Ok(Asked::Opening { readers: _, root }) => root,
             Ok(_) => unreachable!(),
-            Err(told) => return Ok(told),
+            Err(told) => return told.ok_or(AllocError),
         };
         let Manner {
             mapping,

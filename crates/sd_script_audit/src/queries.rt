@@ -54,7 +54,7 @@ impl<J: Naming, T: Wait> AnswersLines for Queries<'_, J, T> {
             // (no line is too long)
             return Err(AllocError);
         };
-        let found = asked_or_told(alloc, self.notation, true, line)?;
+        let found = asked_or_told(alloc, self.notation, true, line);
         let answer = self.done(alloc, &mut open.writer, &mut open.queries, found)?;
         open.tally = open.tally.with(line, answer.as_bytes());
         text.extend_from_slice(answer.as_bytes())
@@ -69,7 +69,7 @@ impl<J: Naming, T: Wait> Queries<'_, J, T> {
         alloc: Global,
         writer: &mut StoreWriter<J>,
         queries: &mut Vec<Query>,
-        found: Result<Asked, String>,
+        found: Result<Asked, Option<String>>,
     ) -> Result<String, AllocError>
         requires { IfOk found (λ asked. opens asked ≡ false) }
         ensures { IfOk result (λ text. IsDoneOrTold string_bytes self.now.workers
@@ -104,7 +104,7 @@ impl<J: Naming, T: Wait> Queries<'_, J, T> {
             }
             Ok(Asked::Opening { .. }) => unreachable!(),
             Ok(_) => only_in_scripts(alloc),
-            Err(told) => Ok(told),
+            Err(told) => told.ok_or(AllocError),
         }
     }
 }

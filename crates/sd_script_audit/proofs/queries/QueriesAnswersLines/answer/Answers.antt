@@ -8,7 +8,7 @@ use Rattle.sd_script_audit.proofs.queries.QueriesAnswersLines.answer.Goals as go
 -- a store is open, so no line opens one
 pub done-requires : goal.done-requires
 done-requires g c =
-    IfOk-weaker c.in_ok-found.found _ _ (λ asked asks. line_opens c.args.self.now.notation true c.in-Some.line.now asked asks.2) c.in_ok-found.ensures.asks
+    IfOk-weaker c.asked_or_told-found.result _ _ (λ asked asks. line_opens c.args.self.now.notation true c.in-Some.line.now asked asks.2) c.asked_or_told-found.ensures.asks
 
 pub returns : goal.returns
 returns g c =
@@ -19,7 +19,7 @@ returns g c =
       string_bytes c.in_ok-answer.answer,
       grown,
       rw (c.in-Some.is) (record {
-        answered = answered string_bytes by.workers old new c.in-Some.line.now _ c.in_ok-found.found c.in_ok-found.ensures.asks c.in_ok-found.ensures.told c.in_ok-answer.ensures;
+        answered = answered string_bytes by.workers old new c.in-Some.line.now _ c.asked_or_told-found.result c.asked_or_told-found.ensures.asks c.asked_or_told-found.ensures.told c.in_ok-answer.ensures;
         counted = rw (c.as_bytes.ensures.value) at c.with-open.ensures;
       }),
     ))
