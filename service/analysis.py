@@ -1,29 +1,35 @@
-"""Questions about many nodes, or about all tokens: each is answered beside the loop, by views of its own.
+"""Questions about many nodes, or about all tokens: each is answered beside the loop, by views of its own, and up to a
+deadline.
 
 The lines are those of a script (docs/SCRIPT.md) and of `sdstore compare` (docs/ANALYSIS.md)."""
 
 from collections.abc import Iterable, Iterator, Sequence
 from dataclasses import dataclass, field
 
-from hudarin import Descriptor, Group, Refused, Token, View
+from hudarin import Descriptor, Group, Refused, Token, Verdict, View
 
+from deadline import Deadline
 from errors import Fault
 from spelling import fault_of, path_of, spelled
 from tree import Mapping, dumped
 
-#: The most characters of one answer.
-_ANSWER_LENGTH = 1 << 28
+#: The most bytes of one answer, and how many more are counted at once.
+ANSWER_BYTES, _STEP = 1 << 28, 1 << 20
+#: The words of tokens that are looked at, one by one for each node, between two looks at the deadline.
+_WORDS_AT_ONCE = 4_096
 
 
-def text_of(lines: Iterable[str]) -> str:
-    """The answer of these lines. Fault: it is too long."""
-    kept, length = [], 0
-    for line in lines:
-        kept.append(line)
-        length += len(line)
-        if length > _ANSWER_LENGTH:
-            raise Fault("unavailable large")
-    return "\n".join(kept)
+def gathered(pieces: Iterable[bytes], deadline: Deadline, most: int = ANSWER_BYTES) -> bytes:
+    """The answer of these pieces. Fault: it is too long, or too late."""
+    kept, counted = bytearray(), 0
+    for piece in deadline.paced(pieces):
+        kept += piece
+        if len(kept) >= counted + _STEP:
+            counted = len(kept)
+            if counted > most:
+                raise Fault("unavailable large")
+            deadline.hold(counted)
+    return kept
 
 
 def descriptor_in(view: View, path: str) -> Descriptor | None:
@@ -40,32 +46,43 @@ def _is_within(top: str, path: str) -> bool:
     return top == "/" or path == top or path.startswith(top + "/")
 
 
-def dump(view: View) -> Iterator[str]:
+def dump(view: View, deadline: Deadline) -> Iterator[str]:
     with view:
-        yield from dumped(view)
+        yield from deadline.paced(dumped(view))
 
 
-def listed(view: View, top: str) -> Iterator[str]:
+def listed(view: View, top: str, deadline: Deadline) -> Iterator[str]:
     """The nodes at and below the path."""
     with view:
         if descriptor_in(view, top) is None:
             yield "nonode"
             return
-        for node in view.nodes():
+        for node in deadline.paced(view.nodes()):
             if _is_within(top, node.path):
                 kind = "container" if node.is_container else "object"
                 yield f"{kind} {spelled(node.path)} {view.descriptor(node.path)}"
 
 
-def found(view: View, top: str, token: Token, asked: int) -> Iterator[str]:
-    """The paths of the nodes at and below the path that grant what is asked."""
+def found(view: View, top: str, token: Token, words: int, asked: int, deadline: Deadline) -> Iterator[str]:
+    """The paths of the nodes at and below the path that grant what is asked to the token of so many words."""
     with view, token:
         if descriptor_in(view, top) is None:
             yield "nonode"
             return
         yield "found"
-        paths = [path for path in view.paths() if _is_within(top, path)]
-        yield from (spelled(path) for path, verdict in zip(paths, view.check_all(paths, token, asked)) if verdict)
+        paths = [path for path in deadline.paced(view.paths()) if _is_within(top, path)]
+        verdicts = checked(view, paths, token, words, asked, deadline)
+        yield from (spelled(path) for path, verdict in zip(paths, verdicts) if verdict)
+
+
+def checked(
+    view: View, paths: Sequence[str], token: Token, words: int, asked: int, deadline: Deadline
+) -> Iterator[Verdict | None]:
+    """The verdict at each path for the token of so many words."""
+    at_once = max(1, _WORDS_AT_ONCE // (words + 1))
+    for at in range(0, len(paths), at_once):
+        deadline.require()
+        yield from view.check_all(paths[at : at + at_once], token, asked)
 
 
 def granted(view: View, path: str, asked: int, base: Sequence[Group], mapping: Mapping) -> Iterator[str]:
@@ -82,7 +99,7 @@ def compared(view: View, path: str, new: Descriptor, base: Sequence[Group], mapp
     """What such tokens gain and lose if the descriptor takes the place of the node's."""
     with view:
         descriptor = descriptor_in(view, path)
-    yield "nonode" if descriptor is None else str(descriptor.compare(new, base, mapping))
+    yield from ["nonode"] if descriptor is None else str(descriptor.compare(new, base, mapping)).split("\n")
 
 
 # What a publish would change
@@ -98,17 +115,19 @@ class Pending:
     new_length: int
 
 
-def reviewed(pending: Pending, lines: Iterable[str], top: str, mapping: Mapping) -> Iterator[str]:
+def reviewed(
+    pending: Pending, lines: Iterable[str], top: str, mapping: Mapping, deadline: Deadline
+) -> Iterator[str]:
     """What the pending edits, of these lines, change at and below the path."""
     old, new = pending.old, pending.new
     with old, new:
-        was, now = list(old.paths()), list(new.paths())
+        was, now = list(deadline.paced(old.paths())), list(deadline.paced(new.paths()))
         stood, stands = frozenset(was), frozenset(now)
         if descriptor_in(new, top) is None and top not in stood:
             yield "nonode"
             return
-        origins = _Origins(was, lines)
-        for path in now:
+        origins = _Origins(deadline.paced(was), deadline.paced(lines))
+        for path in deadline.paced(now):
             if _is_within(top, path):
                 before = path if path in stood else origins.of(path)
                 yield from _changes(old, new, before, path, mapping)
@@ -141,10 +160,11 @@ class _Node:
 class _Origins:
     """Where each node was before the pending edits."""
 
-    def __init__(self, was: Sequence[str], lines: Iterable[str]) -> None:
+    def __init__(self, was: Iterable[str], lines: Iterable[str]) -> None:
         self._root = _Node("/")
-        for path in was[1:]:
-            self._put(path, _Node(path))
+        for path in was:
+            if path != "/":
+                self._put(path, _Node(path))
         for line in lines:
             name, *words = line.split(" ")
             if name in ("addc", "addo"):

@@ -1,6 +1,7 @@
 """The commands of sdstored."""
 
 import argparse
+import signal
 import sqlite3
 import sys
 from collections.abc import Callable, Sequence
@@ -24,6 +25,10 @@ def main(words: Sequence[str] | None = None) -> int:
     """Carries out a command, and returns the status."""
     arguments = _parser().parse_args(words)
     work: Callable[[argparse.Namespace], int] = arguments.work
+    if work is not _run:
+        # What isn't ready is removed then, as by SIGINT.
+        for each in (signal.SIGTERM, signal.SIGHUP):
+            signal.signal(each, signal.default_int_handler)
     try:
         return work(arguments)
     except ServiceError as error:
@@ -56,7 +61,7 @@ def _parser() -> argparse.ArgumentParser:
     init.add_argument("folder", type=Path, metavar="FOLDER",
                       help="the store's folder, which must not exist or be empty")
     init.add_argument("--mapping", choices=tuple(MAPPINGS), default="file", help="what the generic rights stand for")
-    run = command("run", lambda arguments: serve(arguments.config), "serve a store")
+    run = command("run", _run, "serve a store")
     run.add_argument("config", type=Path, metavar="CONFIG", help="the configuration, a TOML file")
     verify = command("verify", _verify, "replay a journal, and compare it with its snapshots")
     verify.add_argument("where", type=Path, metavar="FOLDER", help="a store's folder, which may be served, or a backup")
@@ -66,6 +71,8 @@ def _parser() -> argparse.ArgumentParser:
     restore = command("restore", _restore, "make a store of a backup, with an id of its own")
     restore.add_argument("file", type=Path, metavar="FILE")
     restore.add_argument("folder", type=Path, metavar="FOLDER", help="the folder, which must not exist or be empty")
+    downgrade = command("downgrade", _downgrade, "make a store one that the version before serves")
+    downgrade.add_argument("folder", type=Path, metavar="FOLDER", help="a store that isn't served")
     seed = command("seed", _seed, "put a store into Redis, for the services that share its stream")
     seed.add_argument("config", type=Path, metavar="CONFIG", help="a configuration with a table 'redis'")
     return parser
@@ -81,6 +88,10 @@ def _init(arguments: argparse.Namespace) -> int:
     return 0
 
 
+def _run(arguments: argparse.Namespace) -> int:
+    return serve(arguments.config)
+
+
 def _verify(arguments: argparse.Namespace) -> int:
     return _say_state(stores.verified(arguments.where))
 
@@ -91,6 +102,10 @@ def _backup(arguments: argparse.Namespace) -> int:
 
 def _restore(arguments: argparse.Namespace) -> int:
     return _say_state(stores.restore(arguments.file, arguments.folder))
+
+
+def _downgrade(arguments: argparse.Namespace) -> int:
+    return _say_state(stores.downgrade(arguments.folder))
 
 
 def _seed(arguments: argparse.Namespace) -> int:

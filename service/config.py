@@ -1,6 +1,7 @@
 """The configuration, a TOML file. What it doesn't know it rejects."""
 
 import ipaddress
+import os
 import tomllib
 from dataclasses import dataclass, field, fields
 from pathlib import Path
@@ -13,6 +14,8 @@ _T = TypeVar("_T")
 #: What a client may do: each role includes those before it.
 ROLES = ("watch", "check", "follow", "edit")
 PROTOCOLS = ("lines", "http")
+#: The most bytes of a Unix socket's path, of which the system has an array with a zero at its end.
+_SOCKET_BYTES = 107
 
 
 @dataclass(frozen=True)
@@ -25,13 +28,23 @@ class Limits:
     request_seconds: int = 10
     #: The seconds after which a client without a request is disconnected.
     idle_seconds: int = 600
-    #: The clients at once.
+    #: Connections at once: in all, of which one of eight is for who may follow or edit; at each place to listen; and
+    #: of each client.
     connections: int = 2_048
+    connections_of_listener: int = 1_024
+    connections_of_client: int = 256
+    #: Where certificates are shown: the clients at once that haven't shown theirs yet, and the seconds that they have.
+    handshakes: int = 32
+    handshake_seconds: int = 3
+    #: The bytes that all connections hold: requests that aren't whole, answers in the making, answers not taken.
+    held_bytes: int = 1 << 29
     #: The edits that one client, and all clients, may have in progress.
     edits_of_client: int = 256
     edits: int = 4_096
-    #: The questions about many nodes, or about all tokens, that are answered at once.
+    #: The questions about many nodes, or about all tokens, that are answered at once: of checkers, and of those who may
+    #: edit; and as many of replicas. And the seconds in which there is an answer.
     long_answers: int = 2
+    long_seconds: int = 60
     #: After so many lines a new epoch starts, and after 900,000 at the latest.
     lines_in_epoch: int = 100_000
 
@@ -147,6 +160,8 @@ def _place(given: dict[str, Any], where: str) -> tuple[str, tuple[str, int]]:
     unix, tcp = _typed(given, "unix", str, ""), _typed(given, "tcp", str, "")
     if (unix == "") == (tcp == ""):
         raise ValueError(f"{where}: either 'unix' or 'tcp' is required")
+    if len(os.fsencode(unix)) > _SOCKET_BYTES:
+        raise ValueError(f"{where}: unix: {unix!a} has more than {_SOCKET_BYTES} bytes, as no socket's path may have")
     return unix, _address(tcp) if tcp else ("", 0)
 
 

@@ -18,13 +18,13 @@ class Edit:
     arguments: tuple[Any, ...]
     words: Sequence[str]
 
-    def make(self, store: Store) -> str:
-        """Makes it: `ok`, or why the library refuses it, and then the store is as it was."""
+    def make(self, store: Store) -> str | None:
+        """Makes it, or says why the library refuses it, and then the store is as it was."""
         try:
             _EDITS[self.name][1](store, *self.arguments)
         except Refused as refused:
             return fault_of(refused)
-        return "ok"
+        return None
 
     def line(self) -> str:
         """The one line that spells it: parsed again it is the same edit."""
@@ -66,6 +66,16 @@ def edit_of(words: Sequence[str], view: View) -> Edit:
         require_paths(view, [given for given in arguments if isinstance(given, str)])
         raise
     return Edit(words[0], tuple(arguments), words[1:])
+
+
+def is_same(made: str, line: str, view: View) -> bool:
+    """Whether two lines are one edit: an earlier version may have spelled the first otherwise."""
+    if made == line or PUBLISH in (made, line):
+        return made == line
+    try:
+        return edit_of(made.split(" "), view).line() == line
+    except (Fault, KeyError):
+        return False
 
 
 def require_paths(view: View, paths: Sequence[str]) -> None:

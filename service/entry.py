@@ -12,13 +12,21 @@ def new_store() -> str:
     return secrets.token_hex(16)
 
 
+def length_of(outcome: str) -> int:
+    """The length that an outcome has, 0 for an edit. ValueError: it is no outcome."""
+    length = 0 if outcome == "ok" else int(outcome.removeprefix("published "))
+    if outcome != "ok" and (length < 1 or outcome != f"published {length}"):
+        raise ValueError(f"{outcome!a:.100} is no outcome of a line")
+    return length
+
+
 def is_store(text: str) -> bool:
     """Whether it is the id of a store."""
     return re.fullmatch("[0-9a-f]{32}", text) is not None
 
 
 class Line(NamedTuple):
-    """An accepted edit, or a publish, with its answer."""
+    """An accepted edit, or a publish of at least one. How it was answered isn't part of it."""
 
     epoch: int
     number: int
@@ -28,11 +36,17 @@ class Line(NamedTuple):
     #: The key by which its client may send it again, or an empty text.
     key: str
     line: str
-    answer: str
+    #: Of a publish the published length, which is at least 1; of an edit 0.
+    length: int
+
+    @property
+    def outcome(self) -> str:
+        """What a chain and a row have of it. It never changes, whatever a client is answered."""
+        return f"published {self.length}" if self.length else "ok"
 
     def chained(self, store: str, before: bytes) -> bytes:
         """The digest of the chain before the line, and of the line in the store of this id."""
-        return hashlib.sha256(before + "\n".join(map(str, (store, *self))).encode()).digest()
+        return hashlib.sha256(before + "\n".join(map(str, (store, *self[:-1], self.outcome))).encode()).digest()
 
 
 class Place(NamedTuple):

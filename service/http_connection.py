@@ -1,18 +1,19 @@
 """HTTP/1.1: requests with a JSON object, or none, and their answers. What isn't understood is rejected, and the
 connection then ends."""
 
-import asyncio
 import json
-from collections.abc import Callable
 from dataclasses import dataclass
 from http import HTTPStatus
 
-from api import Response, route
-from connection import Connection
-from service import Caller, Service
+from api import route
+from api_request import Request, Response
+from connection import Connection, Place
+from service import Service
 
 _HEAD_BYTES = 16 << 10
 _END = b"\r\n\r\n"
+#: An answer of fewer bytes is sent together with its head.
+_SMALL = 1 << 15
 _CONTINUE = b"HTTP/1.1 100 Continue\r\n\r\n"
 _NAME = frozenset(b"!#$%&'*+-.^_`|~0123456789abcdefghijklmnopqrstuvwxyzABCDEFGHIJKLMNOPQRSTUVWXYZ")
 
@@ -47,17 +48,12 @@ class Head:
 class HttpConnection(Connection):
     """One request after the other; the next one is read once its answer is there."""
 
-    def __init__(
-        self,
-        service: Service,
-        caller_of: Callable[[asyncio.BaseTransport], Caller],
-        connections: set[Connection],
-    ) -> None:
-        super().__init__(service, caller_of, connections)
+    def __init__(self, service: Service, place: Place) -> None:
+        super().__init__(service, place)
         self._head: Head | None = None
 
     def answer_waiting(self) -> bool:
-        while self.may_answer and not self.in_progress and not self.transport.is_closing():
+        while not self.in_progress and not self.transport.is_closing() and self.may_answer:
             try:
                 request = self._next()
             except BadRequest as bad:
@@ -105,16 +101,17 @@ class HttpConnection(Connection):
         self.in_progress += 1
 
         def reply(response: Response) -> None:
-            if not self.transport.is_closing():
-                self._answer(response, head.closes)
+            self._answer(response, head.closes)
             self.finished()
 
-        route(self.service, self.caller, head.method, head.target, head.fields, body, reply)
+        route(Request(self.service, self.caller, reply, self), head.method, head.target, head.fields, body)
 
     def _answer(self, response: Response, closes: bool) -> None:
-        body = response.body if isinstance(response.body, str) else json.dumps(response.body)
-        kind = "text/plain; version=0.0.4; charset=utf-8" if isinstance(response.body, str) else "application/json"
-        content = body.encode()
+        kind, content = "application/json", response.body
+        if isinstance(content, str):
+            kind, content = "text/plain; version=0.0.4; charset=utf-8", content.encode()
+        elif isinstance(content, dict):
+            content = json.dumps(content).encode()
         lines = [
             f"HTTP/1.1 {response.status.value} {response.status.phrase}",
             f"Content-Type: {kind}",
@@ -122,9 +119,11 @@ class HttpConnection(Connection):
             "Cache-Control: no-store",
             *(["Connection: close"] if closes else []),
         ]
-        self.transport.write("\r\n".join(lines).encode() + _END + content)
+        self.send("\r\n".join(lines).encode() + _END + (content if len(content) < _SMALL else b""))
+        if len(content) >= _SMALL:
+            self.send(content)
         if closes:
-            self.transport.close()
+            self.finish()
 
 
 def head_of(text: bytes) -> Head:
@@ -134,13 +133,17 @@ def head_of(text: bytes) -> Head:
         method, target, version = first.split(" ")
     except ValueError:
         raise BadRequest(HTTPStatus.BAD_REQUEST, "head") from None
+    if not method or not _NAME.issuperset(method.encode()) or not first.isprintable():
+        raise BadRequest(HTTPStatus.BAD_REQUEST, "head")
     if version != "HTTP/1.1":
         raise BadRequest(HTTPStatus.HTTP_VERSION_NOT_SUPPORTED, "version")
     fields: dict[str, str] = {}
     for line in others:
         name, colon, value = line.partition(":")
         name = name.lower()
-        if not colon or not name or not _NAME.issuperset(name.encode()) or name in fields or "\r" in value:
+        # (of what isn't printable a value has tabs alone: neither a line feed, which others take for the end of a line)
+        is_field = colon and name and _NAME.issuperset(name.encode()) and value.replace("\t", " ").isprintable()
+        if not is_field or name in fields:
             raise BadRequest(HTTPStatus.BAD_REQUEST, "head")
         fields[name] = value.strip(" \t")
     if "transfer-encoding" in fields:

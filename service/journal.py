@@ -10,11 +10,11 @@ from collections.abc import Iterator, Sequence
 from contextlib import closing, contextmanager
 from pathlib import Path
 
+import formats
 from entry import Line, Place, Snapshot
 from errors import Failed, Mismatch
 from mark import Mark
 
-VERSION = 1
 #: A line that isn't needed to make the tree is kept while it is one of the last so many: so long a client's key counts.
 KEPT_LINES = 65_536
 #: The most lines of one commit: SQLite takes 32,766 values.
@@ -23,18 +23,7 @@ MOST_LINES = 1_000
 _LINES_IN_ROW = 256
 DATABASE, MARK = "journal.sqlite", "mark"
 
-_TABLES = """
-CREATE TABLE store (one INTEGER PRIMARY KEY CHECK (one = 1), version INTEGER NOT NULL, id TEXT NOT NULL,
-    mapping TEXT NOT NULL, number INTEGER NOT NULL, chain BLOB NOT NULL) STRICT;
-CREATE TABLE epochs (epoch INTEGER PRIMARY KEY, number INTEGER NOT NULL, chain BLOB NOT NULL,
-    length INTEGER NOT NULL, digest BLOB NOT NULL) STRICT;
-CREATE TABLE snapshot (epoch INTEGER NOT NULL, place INTEGER NOT NULL, lines TEXT NOT NULL,
-    PRIMARY KEY (epoch, place)) STRICT, WITHOUT ROWID;
-CREATE TABLE lines (number INTEGER PRIMARY KEY, epoch INTEGER NOT NULL, time INTEGER NOT NULL, who TEXT NOT NULL,
-    key TEXT NOT NULL, line TEXT NOT NULL, answer TEXT NOT NULL, chain BLOB NOT NULL) STRICT;
-CREATE UNIQUE INDEX lines_by_key ON lines (key) WHERE key <> '';
-"""
-_LINE = "epoch, number, time, who, key, line, answer"
+_LINE = "epoch, number, time, who, key, line, length"
 _INSERT, _ROW = f"INSERT INTO lines ({_LINE}, chain) VALUES", "(?, ?, ?, ?, ?, ?, ?, ?)"
 
 
@@ -51,13 +40,13 @@ class Journal:
         marked = mark.read() if mark is not None else None
         self._database = _opened(file, only_reads)
         with _named(file):
-            row = self._database.execute("SELECT version, id, mapping, number, chain FROM store").fetchone()
-        if row is None or row[0] != VERSION:
-            raise Mismatch(f"{file}: it is no journal of version {VERSION}")
+            row = self._database.execute("SELECT version, id, mapping FROM store").fetchone()
+            is_known = formats.opened(self._database, None if row is None else row[0])
+            self._database.execute(f"PRAGMA query_only={'ON' if only_reads else 'OFF'}")
+        if not is_known:
+            raise Mismatch(f"{file}: it is no journal of version {' or '.join(map(str, formats.VERSIONS))}")
         self.store: str = row[1]
         self.mapping: str = row[2]
-        #: The place before the first line that is kept.
-        self.start = Place(row[3], row[4])
         if marked is not None and marked[0] != self.store:
             raise Mismatch(f"{file}: its mark is that of another store")
         #: The place of the mark, if the journal has one.
@@ -70,6 +59,12 @@ class Journal:
         self._database.close()
 
     # Reads
+
+    @property
+    def start(self) -> Place:
+        """The place before the first line that is kept, as it is on disk."""
+        with _named(self.file):
+            return Place(*self._database.execute("SELECT number, chain FROM store").fetchone())
 
     def require_whole(self) -> None:
         """Mismatch: SQLite finds a fault in the file."""
@@ -106,9 +101,20 @@ class Journal:
             (number,) = self._database.execute("SELECT max(number) FROM lines").fetchone()
         return self.start.number if number is None else int(number)
 
+    def place_at(self, number: int) -> Place | None:
+        """The place of the line with this number, or the one before the first line. None: neither is kept."""
+        start = self.start
+        if number == start.number:
+            return start
+        with _named(self.file):
+            row = self._database.execute("SELECT number, chain FROM lines WHERE number = ?", (number,)).fetchone()
+        return None if row is None else Place(*row)
+
     def by_key(self, key: str) -> Line | None:
-        """The line that was accepted with this key."""
-        row = self._database.execute(f"SELECT {_LINE} FROM lines WHERE key = ?", (key,)).fetchone()
+        """The last line that was accepted with this key."""
+        # The index is of lines with a key alone, and without the second term SQLite looks at all lines.
+        query = f"SELECT {_LINE} FROM lines WHERE key = ? AND key <> '' ORDER BY number DESC LIMIT 1"
+        row = self._database.execute(query, (key,)).fetchone()
         return None if row is None else Line(*row)
 
     def bytes_on_disk(self) -> int:
@@ -155,7 +161,11 @@ class Journal:
         if row is not None:
             self._database.execute("DELETE FROM lines WHERE number <= ?", (last,))
             self._database.execute("UPDATE store SET number = ?, chain = ?", row)
-            self.start = Place(*row)
+
+    def convert(self, version: int) -> None:
+        """Makes the file one of this version of the format, by one commit."""
+        with self._transaction():
+            formats.converted(self._database, version)
 
     @contextmanager
     def _transaction(self) -> Iterator[None]:
@@ -184,13 +194,13 @@ class Journal:
             other.execute("PRAGMA journal_mode=DELETE")
 
 
-def create(file: Path, store: str, mapping: str, snapshot: Snapshot) -> None:
-    """Makes the database of a new store, complete and on disk at the return."""
+def create(file: Path, store: str, mapping: str, snapshot: Snapshot, first: Place) -> None:
+    """Makes the database of a new store, whose lines begin after `first`. It is on disk at the return."""
     with closing(sqlite3.connect(file, isolation_level=None)) as database:
         database.execute("PRAGMA synchronous=FULL")
-        database.executescript(_TABLES)
-        place = snapshot.place
-        row = (1, VERSION, store, mapping, place.number, place.chain)
+        for statement in formats.TABLES:
+            database.execute(statement)
+        row = (1, formats.VERSION, store, mapping, *first)
         database.execute("INSERT INTO store VALUES (?, ?, ?, ?, ?, ?)", row)
     with Journal(file) as journal, journal._transaction():
         journal._write_snapshot(snapshot)
@@ -207,16 +217,23 @@ def _named(file: Path) -> Iterator[None]:
 
 def _opened(file: Path, only_reads: bool) -> sqlite3.Connection:
     with _named(file):
-        database = sqlite3.connect(f"file:{_quoted(file)}?mode=rw", uri=True, isolation_level=None, timeout=10,
-                                   check_same_thread=False)
+        database = sqlite3.connect(f"file:{_quoted(file)}?mode={_mode(file, only_reads)}", uri=True,
+                                   isolation_level=None, timeout=10, check_same_thread=False)
         database.execute("PRAGMA trusted_schema=OFF")
         if only_reads:
-            database.execute("PRAGMA query_only=ON")
             database.execute("BEGIN")
         else:
             database.execute("PRAGMA journal_mode=WAL")
             database.execute("PRAGMA synchronous=FULL")
         return database
+
+
+def _mode(file: Path, only_reads: bool) -> str:
+    """How SQLite opens the file: for writes too, since whoever closes it last takes the log away. On a read-only mount
+    that isn't possible; without a log nobody appends elsewhere either, and the file alone is read."""
+    if not only_reads or not os.statvfs(file).f_flag & os.ST_RDONLY:
+        return "rw"
+    return "ro" if os.path.exists(f"{file}-wal") else "ro&immutable=1"
 
 
 def _quoted(file: Path) -> str:

@@ -8,6 +8,11 @@ from errors import Fault
 from spelling import spelled
 
 
+#: The marks of a body, each of which may be that of a value: the most edits, or checks and groups, have far fewer. More
+#: would take long to parse, and nobody is answered meanwhile.
+_MARKS, _MOST_MARKS = (b",", b"[", b"{"), 50_000
+
+
 class Given:
     """An object's values by their names. Fault: a value isn't what is asked for; its name is that of the fault."""
 
@@ -21,6 +26,8 @@ class Given:
         """The object of a body of this content type, in which no name is there twice."""
         if kind.partition(";")[0].strip().lower() != "application/json":
             raise Fault("fault content-type")
+        if sum(map(body.count, _MARKS)) > _MOST_MARKS:
+            raise Fault("fault values")
         try:
             value = json.loads(body.decode(), object_pairs_hook=_once, parse_constant=_no_number)
         except (ValueError, RecursionError):

@@ -1,30 +1,28 @@
 """Lines with ids, as `sdstore --percent serve --ids` answers them (docs/SCRIPT.md), and the commands of `script`."""
 
-import asyncio
 from collections import deque
-from collections.abc import Callable
+from collections.abc import Iterator, Sequence
 
-from connection import Connection
+from connection import Connection, Place
 from errors import Fault
-from script import CHANGES, LONG, OF_LINES, Reader
-from service import Caller, Service
-from writer import Task
+from script import CHANGES, FEW_WORDS, LONG, OF_LINES, Reader
+from service import Service
+from task import Task
 
 #: What stands for bytes that aren't UTF-8.
 _REPLACED = "\ufffd"
+#: The most bytes of an id, which each line of an answer has.
+_ID_BYTES = 100
 
 
 class LineConnection(Connection):
     """Lines are answered in their order. Edits that follow one another are sent to the writer without waiting."""
 
-    def __init__(
-        self,
-        service: Service,
-        caller_of: Callable[[asyncio.BaseTransport], Caller],
-        connections: set[Connection],
-    ) -> None:
-        super().__init__(service, caller_of, connections)
+    def __init__(self, service: Service, place: Place) -> None:
+        super().__init__(service, place)
         self._lines: deque[bytes] = deque()
+        #: The bytes of what was received since there was no line left.
+        self._line_bytes = 0
         self._reader = Reader()
         #: Another thread makes an answer.
         self._is_long = False
@@ -36,18 +34,25 @@ class LineConnection(Connection):
                 lines[0] = bytes(self._buffer) + lines[0]
                 self._buffer.clear()
             self._lines += lines
+            self._line_bytes += len(data)
             self._owes_since = None
         if rest:
             self._buffer += rest
             if len(self._buffer) > self.service.limits.request_bytes:
                 self.reject("line too long")
 
+    @property
+    def received(self) -> int:
+        return len(self._buffer) + self._line_bytes
+
     def answer_waiting(self) -> bool:
         said: list[str] = []
-        while self._lines and self.may_answer and not self._is_long and self._answer(self._lines[0], said):
+        while self._lines and not self._is_long and self.may_answer and self._answer(self._lines[0], said):
             self._lines.popleft()
+        if not self._lines:
+            self._line_bytes = 0
         if said:
-            self.transport.write("".join(said).encode())
+            self.send("".join(said).encode())
         return bool(self._lines) or self._is_long
 
     def _answer(self, line: bytes, said: list[str]) -> bool:
@@ -60,6 +65,9 @@ class LineConnection(Connection):
         if not words:
             return True
         try:
+            if len(tag) > _ID_BYTES + 1:
+                tag, words = "", [""]
+                raise Fault("fault id")
             if _REPLACED in text:
                 require_utf8(line)
             if "" in words:
@@ -68,7 +76,7 @@ class LineConnection(Connection):
                 return self._submit(words, tag)
             if self.in_progress:
                 return False
-            if words[0] in LONG:
+            if words[0] in LONG or len(words) > FEW_WORDS and self.service.takes_long(words):
                 self._start_long(words, tag)
                 return True
             answer = self.service.answer(words, self.caller, self._reader)
@@ -84,25 +92,39 @@ class LineConnection(Connection):
             return False
 
         def reply(task: Task) -> None:
-            if not self.transport.is_closing():
-                self.transport.write(f"{tag}{task.answer}\n".encode())
+            self.send(f"{tag}{task.answer}\n".encode())
             self.finished()
 
-        self.service.submit(words, self.caller, reply)
+        self.service.submit([words], self.caller, reply)
         self.in_progress += 1
         return True
 
     def _start_long(self, words: list[str], tag: str) -> None:
         self._is_long = True
         self.in_progress += 1
-        task = asyncio.get_running_loop().create_task(self.service.long_answer(words, self.caller, self._reader))
-        task.add_done_callback(lambda done: self._end_long(done, tag, words[0]))
+        self.start_long(self._answer_long(words, tag))
 
-    def _end_long(self, done: "asyncio.Task[str]", tag: str, command: str) -> None:
-        self._is_long = False
-        if not done.cancelled() and not self.transport.is_closing():
-            self.transport.write(_lines_of(tag, done.result(), command).encode())
+    async def _answer_long(self, words: Sequence[str], tag: str) -> None:
+        try:
+            if words[0] in LONG:
+                answer = await self.service.long_answer(
+                    words, self.caller, self._reader, lambda _, lines: _pieces(tag, lines), self.hold
+                )
+            else:
+                _, said = await self.service.long_checks([words], self.caller, self._reader, self.hold)
+                answer = _lines_of(tag, said[0], words[0]).encode()
+        except Fault as fault:
+            answer = _lines_of(tag, fault.answer, words[0]).encode()
+        finally:
+            self._is_long = False
+        self.send(answer)
         self.finished()
+
+
+def _pieces(tag: str, lines: Iterator[str]) -> Iterator[bytes]:
+    """The lines of an answer of lines, each with the tag, and an empty one."""
+    yield from (f"{tag}{line}\n".encode() for line in lines)
+    yield f"{tag}\n".encode()
 
 
 def _lines_of(tag: str, answer: str, command: str) -> str:

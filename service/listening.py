@@ -1,28 +1,46 @@
 """Where clients connect: Unix sockets with the system's word on who connects, and TCP with certificates of both sides.
 
-Who isn't in the list of `allow` is disconnected, and so is anybody beyond the limit of connections."""
+Who isn't in the list of `allow` is disconnected, and so is anybody beyond the limits of connections. Until a client has
+shown its certificate it has one of a few places, for a short time."""
 
 import asyncio
 import contextlib
+import functools
+import math
 import os
 import socket
-import ssl
 import stat
 import struct
 import time
+from collections import Counter
+from dataclasses import dataclass
 
+from caller import Caller
+from certificates import Certificates, name_and_end
 from config import ROLES, Listen
 from connection import Connection
 from errors import Failed, Fault
 from http_connection import HttpConnection
 from line_connection import LineConnection
-from service import Caller, Service
+from service import Service
 
 _KINDS: dict[str, type[Connection]] = {"lines": LineConnection, "http": HttpConnection}
 _SO_PEERGROUPS = 59
 #: Python asks for no more bytes. Of a process in more groups than these the primary one alone counts.
 _GROUPS_BYTES = 1024
 _BACKLOG = 1024
+#: A handshake has so many seconds, though others wait for its place.
+_LEAST_SECONDS = 0.25
+_TOO_SLOW = "handshake too slow"
+
+
+@dataclass(eq=False)
+class _Handshake:
+    """A client that hasn't shown its certificate yet."""
+
+    address: str
+    began: float
+    task: "asyncio.Task[None]"
 
 
 class Listener:
@@ -31,66 +49,105 @@ class Listener:
     def __init__(self, listen: Listen, service: Service) -> None:
         self._service = service
         self.connections: set[Connection] = set()
+        #: The clients that are being admitted, the oldest first.
+        self._handshakes: dict[_Handshake, None] = {}
+        self._certificates: Certificates | None = None
         self.configure(self.configured(listen))
         self._socket = _bound(listen)
-        self._admissions: set[asyncio.Task[None]] = set()
         self._accepting = asyncio.get_running_loop().create_task(self._accept())
 
-    def configured(self, listen: Listen) -> tuple[Listen, ssl.SSLContext | None]:
-        """What `configure` takes. Failed: a certificate isn't readable."""
-        return listen, _context(listen) if listen.certificate else None
+    @property
+    def name(self) -> str:
+        return self.listen.name
 
-    def configure(self, configured: tuple[Listen, ssl.SSLContext | None]) -> None:
-        """Takes the certificates and the list from here on; who is connected and no longer in it is disconnected."""
-        self.listen, self._context = configured
+    def configured(self, listen: Listen) -> tuple[Listen, Certificates | None]:
+        """What `configure` takes. Failed: a certificate isn't readable."""
+        return listen, Certificates.read(listen) if listen.certificate else None
+
+    def configure(self, configured: tuple[Listen, Certificates | None]) -> None:
+        """Takes the certificates and the list from here on. Who is connected and no longer in it is disconnected; so is
+        everybody if the authority is another one, or lacks a certificate that it had."""
+        self.listen, certificates = configured
+        before, self._certificates = self._certificates, certificates
+        keeps = certificates is None or certificates.accepts_all_of(before)
         for connection in list(self.connections):
-            connection.admit_again(self._caller)
+            if keeps:
+                connection.admit_again()
+            else:
+                connection.reject("authority replaced")
+        if not keeps:
+            for handshake in self._handshakes:
+                handshake.task.cancel()
 
     async def _accept(self) -> None:
         loop = asyncio.get_running_loop()
         while True:
             try:
-                client, _ = await loop.sock_accept(self._socket)
+                client, address = await loop.sock_accept(self._socket)
             except OSError:
                 # Too many open files, or the client is gone already.
                 await asyncio.sleep(0.05)
                 continue
-            task = loop.create_task(self._admit(client))
-            self._admissions.add(task)
-            task.add_done_callback(self._admissions.discard)
+            if self._certificates:
+                await self._make_room()
+            host = address[0] if isinstance(address, tuple) else ""
+            handshake = _Handshake(host, time.monotonic(), loop.create_task(self._admit(client)))
+            self._handshakes[handshake] = None
+            handshake.task.add_done_callback(functools.partial(self._end, handshake))
+
+    def _end(self, handshake: _Handshake, task: "asyncio.Task[None]") -> None:
+        self._handshakes.pop(handshake, None)
+
+    async def _make_room(self) -> None:
+        """Returns once there is a place for a handshake: that of the oldest one of an address that has most is taken,
+        if it had some time."""
+        while len(self._handshakes) >= self._service.limits.handshakes:
+            counts = Counter(each.address for each in self._handshakes)
+            most = max(counts.values())
+            oldest = next(each for each in self._handshakes if counts[each.address] == most)
+            left = oldest.began + _LEAST_SECONDS - time.monotonic()
+            if left <= 0:
+                oldest.task.cancel()
+                self._handshakes.pop(oldest)
+                self._service.metrics.rejected[_TOO_SLOW] += 1
+            await asyncio.sleep(max(left, 0))
 
     async def _admit(self, client: socket.socket) -> None:
         """Makes a connection of a client. Whether it is allowed to is known once it is there."""
-        metrics, limits = self._service.metrics, self._service.limits
-        if metrics.connections >= limits.connections:
-            client.close()
-            metrics.rejected["too many connections"] += 1
-            return
-        metrics.connections += 1
+        metrics, certificates = self._service.metrics, self._certificates
         client.setblocking(False)
-        seconds = limits.request_seconds if self._context else None
+        seconds = self._service.limits.handshake_seconds if certificates else None
         try:
             await asyncio.get_running_loop().connect_accepted_socket(
-                self._made, client, ssl=self._context, ssl_handshake_timeout=seconds, ssl_shutdown_timeout=seconds
+                self._made, client, ssl=certificates.context if certificates else None,
+                ssl_handshake_timeout=seconds, ssl_shutdown_timeout=seconds,
             )
         except OSError as error:
             client.close()
-            metrics.connections -= 1
-            metrics.rejected["no certificate"] += 1
-            self._service.log.event("rejected", who="", reason="no certificate", error=str(error), at=self.listen.name)
+            reason = _TOO_SLOW if isinstance(error, ConnectionAbortedError) else "no certificate"
+            metrics.rejected[reason] += 1
+            self._service.log.few("rejected", who="", reason=reason, error=str(error), at=self.name)
+        except asyncio.CancelledError:
+            client.close()
+            raise
 
     def _made(self) -> Connection:
-        return _KINDS[self.listen.protocol](self._service, self._caller, self.connections)
+        return _KINDS[self.listen.protocol](self._service, self)
 
-    def _caller(self, transport: asyncio.BaseTransport) -> Caller:
+    def caller(self, transport: asyncio.BaseTransport) -> Caller:
         """Who the client is. Fault: it isn't in the list."""
         if self.listen.is_plain:
             return Caller("loopback", "watch")
-        names = _certificate_names(transport) if self._context else _peer_names(transport)
+        if self._certificates:
+            name, until = name_and_end(transport)
+            return self._allowed([name], until)
+        return self._allowed(_peer_names(transport), math.inf)
+
+    def _allowed(self, names: list[str], until: float) -> Caller:
         roles = [self.listen.allow[name] for name in names if name in self.listen.allow]
         if not roles:
             raise Fault(f"not allowed: {' '.join(names[:4])}")
-        return Caller(names[0], max(roles, key=ROLES.index))
+        return Caller(names[0], max(roles, key=ROLES.index), until)
 
     def tick(self) -> None:
         now = time.monotonic()
@@ -99,25 +156,14 @@ class Listener:
 
     async def close(self) -> None:
         """Admits nobody any more. Those that are there stay."""
-        self._accepting.cancel()
+        for task in (self._accepting, *(each.task for each in self._handshakes)):
+            task.cancel()
         with contextlib.suppress(asyncio.CancelledError):
             await self._accepting
         self._socket.close()
         if self.listen.unix:
             with contextlib.suppress(OSError):
                 os.unlink(self.listen.unix)
-
-
-def _context(listen: Listen) -> ssl.SSLContext:
-    """Both sides show certificates; nobody without one gets further than the handshake."""
-    try:
-        context = ssl.create_default_context(ssl.Purpose.CLIENT_AUTH, cafile=listen.clients)
-        context.load_cert_chain(listen.certificate, listen.key)
-    except OSError as error:
-        raise Failed(f"{listen.name}: its certificates: {error}") from error
-    context.minimum_version = ssl.TLSVersion.TLSv1_2
-    context.verify_mode = ssl.CERT_REQUIRED
-    return context
 
 
 def _peer_names(transport: asyncio.BaseTransport) -> list[str]:
@@ -129,15 +175,6 @@ def _peer_names(transport: asyncio.BaseTransport) -> list[str]:
         groups = client.getsockopt(socket.SOL_SOCKET, _SO_PEERGROUPS, _GROUPS_BYTES)
     others = struct.unpack(f"{len(groups) // 4}I", groups)
     return [f"uid:{uid}", f"gid:{gid}", *(f"gid:{each}" for each in others if each != gid)]
-
-
-def _certificate_names(transport: asyncio.BaseTransport) -> list[str]:
-    """The one common name of the client's certificate, which its authority has signed."""
-    certificate = transport.get_extra_info("peercert") or {}
-    names = [value for part in certificate.get("subject", ()) for name, value in part if name == "commonName"]
-    if len(names) != 1:
-        raise Fault("not allowed: the certificate hasn't one common name")
-    return [f"cn:{names[0]}"]
 
 
 def _bound(listen: Listen) -> socket.socket:
@@ -154,7 +191,7 @@ def _bound(listen: Listen) -> socket.socket:
         made.listen(_BACKLOG)
     except OSError as error:
         made.close()
-        raise Failed(f"{listen.name}: {error.strerror}") from error
+        raise Failed(f"{listen.name}: {error.strerror or error}") from error
     made.setblocking(False)
     return made
 

@@ -15,11 +15,12 @@ _BYTES = 128
 class Mark:
     """The mark in an open file."""
 
-    def __init__(self, file: Path) -> None:
+    def __init__(self, file: Path, only_reads: bool = False) -> None:
         """Mismatch: there is none."""
         self._name = file
         try:
-            self._file = os.open(file, os.O_RDWR | os.O_CLOEXEC | os.O_NOFOLLOW)
+            access = os.O_RDONLY if only_reads else os.O_RDWR
+            self._file = os.open(file, access | os.O_CLOEXEC | os.O_NOFOLLOW)
         except FileNotFoundError:
             raise Mismatch(f"{file}: the mark of the journal is missing: was it copied without it?") from None
         except OSError as error:

@@ -19,13 +19,16 @@ _HELP = {
     "connections": "Open connections.",
     "edits_in_progress": "Edits that aren't answered yet.",
     "epoch": "The epoch of the store.",
+    "held_bytes": "What connections hold: requests that aren't whole, answers in the making or not taken.",
     "journal_age_seconds": "The age of the journal's last line.",
     "journal_bytes": "The size of the journal on disk.",
+    "log_lost_total": "Events that the log didn't take; records of edits aren't among them.",
+    "log_waiting_bytes": "What the log's stream hasn't taken.",
     "published_length": "The length of the published journal.",
     "published_line": "The number of the line that published it.",
-    "replica_age_seconds": "For how long the replica has known nothing of its source.",
+    "replica_age_seconds": "How long ago the replica had all lines of its source.",
     "replica_lag_lines": "The lines of its source that the replica lacks, as far as it knows.",
-    "takes_edits": "Whether edits are taken: not after a failed commit, nor by a replica.",
+    "takes_edits": "Whether edits are taken: not after a failed commit, nor without a log, nor by a replica.",
 }
 
 
@@ -58,11 +61,19 @@ class Metrics:
     edits: Counter[str] = field(default_factory=Counter)
     publishes: int = 0
     rejected: Counter[str] = field(default_factory=Counter)
-    connections: int = 0
     check_seconds: Histogram = field(default_factory=Histogram)
     edit_seconds: Histogram = field(default_factory=Histogram)
 
-    def text(self, gauges: dict[str, float]) -> str:
+    def count_edit(self, is_publish: bool, answer: str, seconds: float) -> None:
+        """An edit or a publish that is answered; one that is refused by the role didn't get to the writer."""
+        if answer != "fault role":
+            self.edit_seconds.add(seconds)
+        if not is_publish:
+            self.edits[_label(answer)] += 1
+        elif answer.startswith("published"):
+            self.publishes += 1
+
+    def text(self, gauges: dict[str, float], log_lost: int) -> str:
         """All lines; `gauges` has what is measured now."""
         lines: list[str] = []
         for name, label, counts in (
@@ -72,8 +83,9 @@ class Metrics:
         ):
             lines += _head(name, "counter")
             lines += (f'sdstored_{name}{{{label}="{value}"}} {count}' for value, count in sorted(counts.items()))
-        lines += [*_head("publishes_total", "counter"), f"sdstored_publishes_total {self.publishes}"]
-        for name, value in sorted((gauges | {"connections": self.connections}).items()):
+        for name, count in (("publishes_total", self.publishes), ("log_lost_total", log_lost)):
+            lines += [*_head(name, "counter"), f"sdstored_{name} {count}"]
+        for name, value in sorted(gauges.items()):
             lines += [*_head(name, "gauge"), f"sdstored_{name} {value}"]
         lines += self.check_seconds.lines("check_seconds") + self.edit_seconds.lines("edit_seconds")
         return "\n".join(lines) + "\n"
@@ -82,3 +94,9 @@ class Metrics:
 def seconds_since(milliseconds: int) -> float:
     """The seconds since a time in milliseconds since 1970."""
     return max(0.0, time.time() - milliseconds / 1000)
+
+
+def _label(answer: str) -> str:
+    """An answer without its numbers: `ok`, a refusal's name, `fault` or `unavailable`."""
+    words = answer.split(" ")
+    return words[-1] if words[0] == "refused" else words[0]

@@ -4,15 +4,17 @@ tokens."""
 import functools
 from collections import OrderedDict
 from collections.abc import Sequence
+from dataclasses import replace
 
 import hudarin
 from hudarin import Group, KeptDescriptor, Refused, Sid, Token, Verdict
 
-from analysis import descriptor_in
+from analysis import checked, descriptor_in
+from deadline import Deadline
 from edits import require_paths
 from errors import Fault
 from spelling import fault_of, sid_of
-from tree import MAPPINGS
+from tree import Mapping
 from writer import Shown
 
 #: The most words of a token: a Windows token has at most 1,024 groups.
@@ -44,6 +46,16 @@ class Tokens:
                 token = self._keep(words, _token(user, words[1:]))
         self._kept.move_to_end(words)
         return token, bits
+
+    def has(self, words: tuple[str, ...]) -> bool:
+        """Whether the token is kept."""
+        return words in self._kept
+
+    def adopt(self, other: "Tokens") -> None:
+        """Keeps what the other one does, which isn't used any more."""
+        for words, token in other._kept.items():
+            if words not in self._kept:
+                self._keep(words, token)
 
     def _mask(self, word: str) -> int:
         bits = mask_of(word)
@@ -115,9 +127,15 @@ def _verdict_text(verdict: Verdict | None) -> str:
 class Questions:
     """Answers by what readers see. Each raises a Fault for the first fault of its words, arguments from the left."""
 
-    def __init__(self, shown: Shown, store: str, mapping: str) -> None:
+    def __init__(self, shown: Shown, store: str, mapping: Mapping, deadline: Deadline | None = None) -> None:
         self.shown, self.store = shown, store
-        self.tokens, self.mapping = Tokens(), MAPPINGS[mapping]
+        self.tokens, self.mapping = Tokens(), mapping
+        self._deadline = deadline
+
+    def beside(self, deadline: Deadline) -> "Questions":
+        """The same, by a view of its own that is closed by itself: for a thread, up to the deadline."""
+        shown = replace(self.shown, view=self.shown.view.share())
+        return Questions(shown, self.store, self.mapping, deadline)
 
     def _token(self, mask: str, words: tuple[str, ...], paths: Sequence[str]) -> tuple[Token, int]:
         """The token of the words, a user first, and the mask. The paths come before them."""
@@ -160,7 +178,10 @@ class Questions:
         shown = self.shown
         token, bits = self._token(mask, words, paths)
         try:
-            verdicts = shown.view.check_all(paths, token, bits)
+            if self._deadline is None:
+                verdicts = shown.view.check_all(paths, token, bits)
+            else:
+                verdicts = list(checked(shown.view, paths, token, len(words), bits, self._deadline))
         except Refused as refused:
             raise Fault(fault_of(refused)) from None
         return f"seen {shown.length} {', '.join(map(_verdict_text, verdicts))}"

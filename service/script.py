@@ -4,10 +4,11 @@ The store has one reader, number 0, for each client. Besides the commands of a s
 several paths at once, `compare`, `status`, and `once KEY` before an edit or a publish, which is then made once however
 often it is sent."""
 
-from collections.abc import Callable, Iterable, Sequence
+from collections.abc import Callable, Iterator, Sequence
 from dataclasses import dataclass
 
 import analysis
+from deadline import Deadline
 from edits import NAMES, PUBLISH, require_paths
 from errors import Fault
 from questions import Questions, base_of, mask_of
@@ -23,10 +24,8 @@ REVIEW = "review"
 _KEY_LENGTH = 100
 #: The most paths of one request: its answer delays others by a few milliseconds.
 MOST_PATHS = 1_000
-
-
-#: Makes an answer. Fault: there is none.
-Work = Callable[[], str]
+#: So does one about a token of so many words. To parse more takes long, and so does a check at a long list.
+FEW_WORDS = 256
 
 
 @dataclass(slots=True)
@@ -59,12 +58,22 @@ def answer(words: Sequence[str], questions: Questions, reader: Reader) -> str:
     return ask(words, questions, reader)
 
 
-def long_work(words: Sequence[str], questions: Questions, reader: Reader) -> Work:
-    """What another thread does to answer a question that may take long. Fault: its first fault."""
+def long_lines(words: Sequence[str], questions: Questions, reader: Reader, deadline: Deadline) -> Iterator[str]:
+    """The lines that answer a question that may take long, for another thread. Fault: its first fault."""
     least, most, prepare = _LONG_QUESTIONS[words[0]]
     if not least <= len(words) - 1 <= most:
         raise Fault("fault words")
-    return prepare(words, questions, reader)
+    return prepare(words, questions, reader, deadline)
+
+
+def takes_long(words: Sequence[str], questions: Questions) -> bool:
+    """Whether a question about a token is answered by another thread: the token has many words, and isn't just checked
+    at one path after it was parsed before."""
+    if words[0] == "checks":
+        is_several = len(words) > 2 and words[2].isascii() and words[2].isdigit() and len(words[2]) < 5
+        return len(words) - (int(words[2]) if is_several else 0) > FEW_WORDS
+    is_kept = words[0] == "check" and questions.tokens.has((words[3], *words[5:]))
+    return len(words) > FEW_WORDS and not is_kept
 
 
 def reviewed_path(words: Sequence[str], questions: Questions) -> str:
@@ -151,42 +160,45 @@ def _status(words: Sequence[str], questions: Questions, reader: Reader) -> str:
 # Questions that may take long
 
 
-def _work(lines: Iterable[str]) -> Work:
-    return lambda: analysis.text_of(lines)
-
-
-def _find(words: Sequence[str], questions: Questions, reader: Reader) -> Work:
+def _find(words: Sequence[str], questions: Questions, reader: Reader, deadline: Deadline) -> Iterator[str]:
     number = number_of(words[1])
     shown, path = questions.shown, _path(words[2], questions)
     token, bits = questions.tokens.parsed(words[4], (words[3], *words[5:]))
     seen = _by_reader(number, f"seen {shown.length} ", questions, reader)
     if not seen.startswith("seen "):
-        return lambda: seen
-    lines = analysis.found(shown.view.share(), path, token.share(), bits)
-    return lambda: seen + analysis.text_of(lines)
+        return iter([seen])
+    lines = analysis.found(shown.view.share(), path, token.share(), len(words) - 4, bits, deadline)
+    return _after(seen, lines)
 
 
-def _list(words: Sequence[str], questions: Questions, reader: Reader) -> Work:
+def _after(front: str, lines: Iterator[str]) -> Iterator[str]:
+    """The lines, the first of which has this before it."""
+    for line in lines:
+        yield front + line
+        front = ""
+
+
+def _list(words: Sequence[str], questions: Questions, reader: Reader, deadline: Deadline) -> Iterator[str]:
     path = _path(words[1] if words[1:] else "/", questions)
-    return _work(analysis.listed(questions.shown.view.share(), path))
+    return analysis.listed(questions.shown.view.share(), path, deadline)
 
 
-def _dump(words: Sequence[str], questions: Questions, reader: Reader) -> Work:
-    return _work(analysis.dump(questions.shown.view.share()))
+def _dump(words: Sequence[str], questions: Questions, reader: Reader, deadline: Deadline) -> Iterator[str]:
+    return analysis.dump(questions.shown.view.share(), deadline)
 
 
-def _who(words: Sequence[str], questions: Questions, reader: Reader) -> Work:
+def _who(words: Sequence[str], questions: Questions, reader: Reader, deadline: Deadline) -> Iterator[str]:
     path, bits, base = _path(words[1], questions), mask_of(words[2]), base_of(words[3:])
-    return _work(analysis.granted(questions.shown.view.share(), path, bits, base, questions.mapping))
+    return analysis.granted(questions.shown.view.share(), path, bits, base, questions.mapping)
 
 
-def _compare(words: Sequence[str], questions: Questions, reader: Reader) -> Work:
+def _compare(words: Sequence[str], questions: Questions, reader: Reader, deadline: Deadline) -> Iterator[str]:
     path, new, base = _path(words[1], questions), descriptor_of(words[2]), base_of(words[3:])
-    return _work(analysis.compared(questions.shown.view.share(), path, new, base, questions.mapping))
+    return analysis.compared(questions.shown.view.share(), path, new, base, questions.mapping)
 
 
 _Ask = Callable[[Sequence[str], Questions, Reader], str]
-_Prepare = Callable[[Sequence[str], Questions, Reader], Work]
+_Prepare = Callable[[Sequence[str], Questions, Reader, Deadline], Iterator[str]]
 _MOST = 1 << 20
 #: The least and the most arguments of a question, and its answer.
 _QUESTIONS: dict[str, tuple[int, int, _Ask]] = {

@@ -7,43 +7,48 @@ import math
 import secrets
 import socket
 import sqlite3
+import threading
 import time
-from collections.abc import Callable, Sequence
-from concurrent.futures import ThreadPoolExecutor
-from dataclasses import dataclass
+import weakref
+from collections.abc import Awaitable, Callable, Iterable, Iterator, Sequence
 
 import analysis
+import clock
 import leading
 import script
-from config import ROLES, Config
+from caller import Caller
+from config import Config
+from deadline import Deadline
 from edits import PUBLISH, edit_of
 from errors import Fault, Mismatch, ServiceError
 from following import Following, feed_of, stream_of
+from held import Held
 from journal import Journal
 from loading import Loaded
 from logs import Log
+from long_answers import BUSY, STOPPING, LongAnswers, Work
 from metrics import Metrics, seconds_since
 from questions import Questions
-from writer import NO_LEADER, NO_MEMORY, UNAVAILABLE, Shown, Task, Writer
+from rarely import Rarely
+from slots import Slots
+from task import NO_MEMORY, UNMADE, Task
+from tree import MAPPINGS
+from turn import Turn
+from writer import NO_LEADER, UNAVAILABLE, Shown, Writer
 
-#: The answer to a question that raised what nothing expects.
-FAILED = "unavailable failed"
-
-_RANKS = {role: rank for rank, role in enumerate(ROLES)}
+#: The answer to a question that raised what nothing expects, and to what has no record in the log.
+FAILED, NO_RECORD = "unavailable failed", "unavailable log"
+#: What makes the bytes of an answer of its lines, by what was published then; and what learns how many there are.
+Form = Callable[[Shown, Iterator[str]], Iterable[bytes]]
+Hold = Callable[[int], None]
+#: Of an edit of a client that may not edit the log has so many characters.
+_REFUSED_LENGTH = 1_000
+_COUNTED = ("check", "checks")
 _VERDICTS = ("granted", "denied", "reserved", "empty", "nonode")
-
-
-@dataclass(frozen=True, slots=True)
-class Caller:
-    """Who a client is, by the system or its certificate, and what it may do."""
-
-    who: str
-    role: str
-
-    def require(self, role: str) -> None:
-        """Fault: the client may not do so."""
-        if _RANKS[self.role] < _RANKS[role]:
-            raise Fault("fault role")
+#: The most characters of all edits in progress.
+_EDIT_LENGTH = 1 << 26
+#: A warning is in the log after so many seconds, or isn't waited for.
+_WARNING_SECONDS = 1.0
 
 
 class Service:
@@ -52,19 +57,23 @@ class Service:
     def __init__(self, config: Config, journal: Journal, state: Loaded, log: Log) -> None:
         self.limits, self.log, self.metrics = config.limits, log, Metrics()
         self._logs_denials = config.logs_denials
-        self._loop = asyncio.get_running_loop()
+        self._loop, self._thread = asyncio.get_running_loop(), threading.get_ident()
         self._journal = journal
         source, name = config.source, f"{socket.gethostname()} {secrets.token_hex(8)}"
         feed = None if source is None else feed_of(source, name, journal.store)
         self._writer = Writer(
-            journal, state, self._done, self._warn, config.limits.lines_in_epoch,
+            journal, state, self._done, Rarely(self._warn), config.limits.lines_in_epoch,
             leads=source is None,
             fresh_until=math.inf if source is None else -math.inf,
             stream=stream_of(source, name) if source is not None and source.stream else None,
         )
-        self._questions = Questions(self._writer.shown, journal.store, journal.mapping)
-        self._pool = ThreadPoolExecutor(config.limits.long_answers)
-        self._edits = self._long_answers = 0
+        self._questions = Questions(self._writer.shown, journal.store, MAPPINGS[journal.mapping])
+        self._long_answers = LongAnswers(config.limits.long_answers, config.limits.long_seconds)
+        self.slots, self.held = Slots(config.limits), Held(config.limits.held_bytes)
+        self._turns: weakref.WeakValueDictionary[str, Turn] = weakref.WeakValueDictionary()
+        self._edits = self._edit_length = 0
+        #: The commits so far, and those that readers see.
+        self._commits = self._shown_commits = 0
         self.is_stopping = False
         self._writer.start()
         self._following = None
@@ -82,17 +91,24 @@ class Service:
     @property
     def is_ready(self) -> bool:
         """Whether it does what it is for: edits are taken, or a replica knows enough of its source."""
-        does = self.takes_edits if self._following is None else time.monotonic() <= self.shown.fresh_until
+        does = self.takes_edits if self._following is None else clock.now() <= self.shown.fresh_until
         return does and not self.is_stopping
 
     @property
     def takes_edits(self) -> bool:
-        return self.shown.takes_edits and not self.is_stopping
+        return self.shown.takes_edits and not self.is_stopping and self.log.takes_records
 
     @property
     def failure(self) -> Mismatch | None:
         """Why nothing more is served."""
         return self._writer.failure
+
+    def turn_of(self, who: str) -> Turn:
+        """The time of the loop that a client has."""
+        turn = self._turns.get(who)
+        if turn is None:
+            turn = self._turns[who] = Turn()
+        return turn
 
     def answer(self, words: Sequence[str], caller: Caller, reader: script.Reader) -> str:
         """The answer to a question that doesn't take long."""
@@ -105,11 +121,12 @@ class Service:
             return fault.answer
         except MemoryError:
             return NO_MEMORY
-        if words[0] in ("check", "checks") and said.startswith("seen "):
-            self._count(words, said, caller, began)
-        return said
+        return self._counted(words, said, caller, began) if words[0] in _COUNTED else said
 
-    def _count(self, words: Sequence[str], said: str, caller: Caller, began: float) -> None:
+    def _counted(self, words: Sequence[str], said: str, caller: Caller, began: float) -> str:
+        """The answer to a check, once it is counted, and logged if it is to be: otherwise there is none."""
+        if not said.startswith("seen "):
+            return said
         if words[0] == "check":
             self.metrics.checks[said.split(" ", 3)[2]] += 1
         else:
@@ -117,110 +134,219 @@ class Service:
                 self.metrics.checks[verdict] += said.count(verdict)
         self.metrics.check_seconds.add(time.perf_counter() - began)
         if self._logs_denials and ("denied" in said or "reserved" in said):
-            self.log.event("denial", who=caller.who, asked=" ".join(words), answer=said)
+            if not self.log.event("denial", who=caller.who, asked=" ".join(words), answer=said):
+                return NO_RECORD
+        return said
 
-    async def long_answer(self, words: Sequence[str], caller: Caller, reader: script.Reader) -> str:
-        """The answer to a question that may take long, or to a replica, made in another thread."""
-        if self._long_answers >= 4 * self.limits.long_answers:
-            return "unavailable busy"
-        self._long_answers += 1
-        try:
-            work = await self._review(words, caller) if words[0] == script.REVIEW else self._work(words, caller, reader)
-            return await self._loop.run_in_executor(self._pool, work)
-        except Fault as fault:
-            return fault.answer
-        except MemoryError:
-            return NO_MEMORY
-        except (ServiceError, sqlite3.Error, OSError) as error:
-            self._warn(f"the journal isn't readable: {error}")
-            return UNAVAILABLE
-        except Exception as error:  # (a fault of this program: whoever asked isn't left without an answer)
-            self._warn(f"a question failed: {error!r}")
-            return FAILED
-        finally:
-            self._long_answers -= 1
+    def takes_long(self, words: Sequence[str]) -> bool:
+        """Whether a question that isn't about many nodes is answered by `long_checks`."""
+        return script.takes_long(words, self._questions)
 
-    def _work(self, words: Sequence[str], caller: Caller, reader: script.Reader) -> script.Work:
+    async def long_answer(
+        self, words: Sequence[str], caller: Caller, reader: script.Reader, form: Form, hold: Hold
+    ) -> bytes:
+        """The answer to a question that may take long, or to a replica: its lines by `form`. Fault: there is none."""
         if words[0] in script.OF_JOURNAL:
             caller.require("follow")
-            return functools.partial(leading.answer, self._journal.file, words)
-        caller.require("check")
-        self.require_fresh()
-        return script.long_work(words, self._questions, reader)
+            self.require_fresh()
+            # (replicas that are the same client don't wait for one another)
+            who, kind, most = f"{caller.who} {id(reader)}", "follow", self.limits.held_bytes
+        else:
+            self._require_reads(caller)
+            who, kind, most = caller.who, "edit" if caller.role == "edit" else "check", analysis.ANSWER_BYTES
 
-    async def _review(self, words: Sequence[str], caller: Caller) -> script.Work:
-        caller.require("check")
-        self.require_fresh()
+        async def prepare(deadline: Deadline) -> Work:
+            shown, lines = self.shown, await self._lines(words, caller, reader, deadline)
+            return lambda: analysis.gathered(form(shown, lines), deadline, most)
+
+        return await self._made(kind, who, prepare, hold)
+
+    async def long_checks(
+        self, lines: Sequence[Sequence[str]], caller: Caller, reader: script.Reader, hold: Hold
+    ) -> tuple[Shown, list[str]]:
+        """The answers to questions that take long, though they aren't about many nodes: all as of one moment, and what
+        was published then. Fault: there is none."""
+        self._require_reads(caller)
+        began, found = time.perf_counter(), list[tuple[Questions, list[str]]]()
+
+        async def prepare(deadline: Deadline) -> Work:
+            self._require_reads(caller)
+            return functools.partial(_answer_beside, lines, self._questions.beside(deadline), reader, found)
+
+        await self._made("edit" if caller.role == "edit" else "check", caller.who, prepare, hold)
+        [(questions, answers)] = found
+        self._questions.tokens.adopt(questions.tokens)
+        return questions.shown, [self._counted(words, said, caller, began) if words[0] in _COUNTED else said
+                       for words, said in zip(lines, answers)]
+
+    async def _made(
+        self, kind: str, who: str, prepare: Callable[[Deadline], Awaitable[Work]], hold: Hold
+    ) -> bytes:
+        try:
+            return await self._long_answers.made(kind, who, prepare, hold)
+        except MemoryError:
+            raise Fault(NO_MEMORY) from None
+        except (ServiceError, sqlite3.Error, OSError) as error:
+            self._warn(f"the journal isn't readable: {error}")
+            raise Fault(UNAVAILABLE) from error
+        except (Fault, asyncio.CancelledError):
+            raise
+        except Exception as error:  # (a fault of this program: whoever asked isn't left without an answer)
+            self._warn(f"a question failed: {error!r}")
+            raise Fault(FAILED) from error
+
+    async def _lines(
+        self, words: Sequence[str], caller: Caller, reader: script.Reader, deadline: Deadline
+    ) -> Iterator[str]:
+        """The lines of an answer, which a thread makes one by one."""
+        if words[0] in script.OF_JOURNAL:
+            self.require_fresh()
+            age = 0.0 if self._following is None else self._following.age(self.shown.fresh_until)
+            return _lines_of(lambda: leading.answer(self._journal.file, words, age))
+        self._require_reads(caller)
+        if words[0] == script.REVIEW:
+            return await self._review(words, deadline)
+        return _lines_beside(words, self._questions.beside(deadline), reader, deadline)
+
+    async def _review(self, words: Sequence[str], deadline: Deadline) -> Iterator[str]:
         path = script.reviewed_path(words, self._questions)
-        if self.is_stopping:
-            raise Fault("unavailable stopping")
         pending, between = await asyncio.wrap_future(self._writer.look())
         lines = leading.made_between(self._journal.file, *between)
-        reviewed = analysis.reviewed(pending, lines, path, self._questions.mapping)
-        return lambda: analysis.text_of(reviewed)
+        return analysis.reviewed(pending, lines, path, self._questions.mapping, deadline)
+
+    def _require_reads(self, caller: Caller) -> None:
+        """Fault: the client may not ask, or a replica knows too little."""
+        caller.require("check")
+        self.require_fresh()
 
     def require_fresh(self) -> None:
         """Fault: a replica, which doesn't know enough of its leader."""
-        if time.monotonic() > self.shown.fresh_until:
+        if clock.now() > self.shown.fresh_until:
             raise Fault("unavailable behind")
 
-    def submit(self, words: list[str], caller: Caller, reply: Callable[[Task], None]) -> None:
-        """Has the writer make an edit or publish, and calls `reply` once it is answered. Fault: it isn't carried out,
-        and there is no reply."""
-        caller.require("edit")
-        key, words = script.without_key(words)
-        if words[0] == PUBLISH and len(words) > 1:
-            raise Fault("fault words")
-        try:
-            edit = None if words[0] == PUBLISH else edit_of(words, self.shown.view)
-            line = PUBLISH if edit is None else edit.line()
-        except MemoryError:
-            raise Fault(NO_MEMORY) from None
+    def submit(
+        self, lines: Sequence[list[str]], caller: Caller, reply: Callable[[Task], None], only_if: int | None = None
+    ) -> None:
+        """Has the writer make an edit or publish, or several, all or none and only if so many edits are published; and
+        calls `reply` once that is answered. Fault: nothing is carried out, and there is no reply."""
+        if not caller.may("edit"):
+            self.refuse(" ".join(lines[0]), caller, reply)
+            return
+        parts = [self._task(words, caller, reply) for words in lines]
+        task = parts[0]
+        if len(parts) > 1 or only_if is not None:
+            task = Task(None, "", "", caller.who, reply, parts=parts, only_if=only_if)
+            if any(part.answer for part in parts):
+                task.settle(UNMADE)
+                reply(task)
+                return
+        elif task.answer:
+            raise Fault(task.answer)
+        self._begin(task)
+        self._writer.put(task)
+
+    def _begin(self, task: Task) -> None:
+        """The edits are in progress. Fault: they aren't taken now."""
+        count, length = len(task.each), sum([len(each.line) for each in task.each])
         if not self._writer.leads:
             raise Fault(NO_LEADER)
         if self.is_stopping:
-            raise Fault("unavailable stopping")
-        if self._edits >= self.limits.edits:
-            raise Fault("unavailable busy")
+            raise Fault(STOPPING)
+        if not self.log.takes_records:
+            raise Fault(NO_RECORD)
+        if self._edits + count > self.limits.edits or self._edit_length + length > _EDIT_LENGTH:
+            raise Fault(BUSY)
+        self._edits += count
+        self._edit_length += length
+
+    def _task(self, words: list[str], caller: Caller, reply: Callable[[Task], None]) -> Task:
+        """An edit or publish of these words, or one that is answered by its fault."""
+        try:
+            key, words = script.without_key(words)
+            if words[0] == PUBLISH and len(words) > 1:
+                raise Fault("fault words")
+            edit = None if words[0] == PUBLISH else edit_of(words, self.shown.view)
+            return Task(edit, PUBLISH if edit is None else edit.line(), key, caller.who, reply)
+        except (Fault, MemoryError) as error:
+            return Task(None, "", "", caller.who, reply, error.answer if isinstance(error, Fault) else NO_MEMORY)
+
+    def refuse(self, asked: str, caller: Caller, reply: Callable[[Task], None]) -> None:
+        """Answers an edit of a client that may not edit: `fault role`, once its record is written. Fault: none is."""
+        if not self.log.takes_records:
+            raise Fault(NO_RECORD)
+        if self.log.left_out("edit") is None:
+            raise Fault(BUSY)
+        task = Task(None, asked[:_REFUSED_LENGTH], "", caller.who, reply, "fault role")
         self._edits += 1
-        self._writer.put(Task(edit, line, key, caller.who, reply))
+        self._edit_length += len(task.line)
+        if self._record([task], functools.partial(self._reply, [task])):
+            self._loop.call_soon(self._reply, [task], True)
 
     def _done(self, tasks: list[Task], shown: Shown) -> None:
-        """In the writer's thread: the audit record of each edit is written before its answer goes out."""
-        self.log.events("edit", [
-            {"who": task.who, "key": task.key, "line": task.line, "answer": task.answer, "number": task.number}
-            for task in tasks
-        ])
-        self._loop.call_soon_threadsafe(self._deliver, tasks, shown)
+        """In the writer's thread, after each commit. The audit record of each edit is written before its answer goes
+        out: without it the answer is another one."""
+        self._commits += 1
+        deliver = functools.partial(self._deliver, tasks, self._commits, shown)
+        for task in tasks:
+            if task.parts:
+                task.settle()
+        if self._record(tasks, deliver):
+            self._loop.call_soon_threadsafe(deliver, True)
+        else:
+            self._loop.call_soon_threadsafe(self._show, self._commits, shown)
+
+    def _record(self, tasks: list[Task], then: Callable[[bool], None]) -> bool:
+        """Whether the records of the edits are written; otherwise the loop calls `then` with whether they are."""
+        return self.log.records("edit", [
+            {"who": each.who, "key": each.key, "line": each.line, "answer": each.answer, "number": each.number}
+            for task in tasks for each in task.parts or (task,)
+        ], functools.partial(self._loop.call_soon_threadsafe, then))
+
+    def _show(self, commits: int, shown: Shown) -> None:
+        """Readers see it from here on, unless they see what was committed later."""
+        old = self.shown
+        if commits > self._shown_commits:
+            self._shown_commits, self._questions.shown = commits, shown
+            if old.view is not shown.view:
+                self._writer.retired.append(old.view)
+
+    def _deliver(self, tasks: list[Task], commits: int, shown: Shown, is_written: bool) -> None:
+        self._show(commits, shown)
+        self._reply(tasks, is_written)
+
+    def _reply(self, tasks: list[Task], is_written: bool) -> None:
+        now = time.perf_counter()
+        for task in tasks:
+            if not is_written:
+                task.settle(NO_RECORD)
+            for each in task.parts or (task,):
+                self._edits -= 1
+                self._edit_length -= len(each.line)
+                self.metrics.count_edit(each.line == PUBLISH, each.answer, now - each.began)
+            task.reply(task)
 
     def _warn(self, text: str) -> None:
         self.log.event("warning", text=text)
+        if threading.get_ident() != self._thread:
+            # (the writer may end the process then)
+            self.log.flush(_WARNING_SECONDS)
 
-    def _deliver(self, tasks: list[Task], shown: Shown) -> None:
-        old, self._questions.shown = self.shown, shown
-        if old.view is not shown.view:
-            self._writer.retired.append(old.view)
-        self._edits -= len(tasks)
-        now = time.perf_counter()
-        for task in tasks:
-            self.metrics.edit_seconds.add(now - task.began)
-            if task.edit is None:
-                self.metrics.publishes += 1
-            else:
-                self.metrics.edits[_label(task.answer)] += 1
-            task.reply(task)
+    def tick(self) -> None:
+        """Once a second."""
+        self.log.expire()
 
     async def stop(self) -> None:
         """Takes no more edits, and returns once those in progress are answered and the journal is at rest."""
         self.is_stopping = True
+        await self._long_answers.stop()
         if self._following is not None:
             await self._loop.run_in_executor(None, self._following.stop)
         await self._loop.run_in_executor(None, self._writer.stop)
         while self._edits:
+            self.tick()
             await asyncio.sleep(0.01)
-        self._pool.shutdown()
         with contextlib.suppress(sqlite3.Error):
-            self._journal.close_log()
+            await self._loop.run_in_executor(None, self._journal.close_log)
 
     def metrics_text(self) -> str:
         shown = self.shown
@@ -230,13 +356,33 @@ class Service:
             "published_line": shown.place.number,
             "epoch": shown.epoch,
             "takes_edits": int(self.takes_edits),
+            "connections": len(self.slots),
             "edits_in_progress": self._edits,
+            "held_bytes": self.held.total,
+            "log_waiting_bytes": self.log.waiting_bytes,
             "journal_bytes": self._journal.bytes_on_disk(),
             "journal_age_seconds": seconds_since(shown.time) if shown.time else 0,
-        })
+        }, self.log.lost)
 
 
-def _label(answer: str) -> str:
-    """An answer without its numbers: `ok`, a refusal's name, `fault` or `unavailable`."""
-    words = answer.split(" ")
-    return words[-1] if words[0] == "refused" else words[0]
+def _lines_of(make: Callable[[], str]) -> Iterator[str]:
+    """The lines of a text that is made once the first one is asked for."""
+    yield from make().split("\n")
+
+
+def _answer_beside(
+    lines: Sequence[Sequence[str]], questions: Questions, reader: script.Reader,
+    found: list[tuple[Questions, list[str]]],
+) -> bytes:
+    """In a thread: finds the answers to the lines, by a view of its own."""
+    with questions.shown.view:
+        found.append((questions, [script.answer(words, questions, reader) for words in lines]))
+    return b""
+
+
+def _lines_beside(
+    words: Sequence[str], questions: Questions, reader: script.Reader, deadline: Deadline
+) -> Iterator[str]:
+    """The lines of a long answer. Once the first one is asked for, by a thread, the words are parsed."""
+    with questions.shown.view:
+        yield from script.long_lines(words, questions, reader, deadline)

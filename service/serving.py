@@ -11,15 +11,16 @@ import time
 from pathlib import Path
 from typing import Any
 
+import formats
 from config import Config, read_config
-from errors import Invalid, Mismatch, ServiceError
-from following import fetch
+from errors import Failed, Invalid, Mismatch, ServiceError
+from following import make_replica
 from journal import DATABASE, Journal
 from listening import Listener
 from loading import Loaded, load
 from logs import Log
 from service import Service
-from stores import make, opened
+from stores import opened
 
 #: At a SIGTERM clients have so many seconds to take their answers.
 _DRAIN_SECONDS = 5
@@ -32,14 +33,23 @@ _SWITCH_SECONDS = 0.0005
 def serve(file: Path) -> int:
     """Serves until a SIGTERM, and returns the status."""
     config = read_config(file)
-    log = Log()
-    _raise_limit(config.limits.connections + _OTHER_FILES)
+    if sys.stderr is None:
+        # A file that is opened later would have its number, and get the log.
+        raise Failed("standard error is closed: the log is there")
+    log = Log(sys.stderr.fileno())
+    with contextlib.closing(log):
+        return _serve_with(file, config, log)
+
+
+def _serve_with(file: Path, config: Config, log: Log) -> int:
+    _raise_limit(config.limits.connections + len(config.listen) * config.limits.handshakes + _OTHER_FILES)
     sys.setswitchinterval(_SWITCH_SECONDS)
     began = time.monotonic()
     if config.source is not None and not (config.folder / DATABASE).exists():
-        make(config.folder, *fetch(config.source))
+        make_replica(config.source, config.folder)
     with opened(config.folder) as journal:
         state = load(journal)
+        journal.convert(formats.VERSION)
         seconds = round(time.monotonic() - began, 3)
         place = {"epoch": state.epoch, "line": state.last.number, "length": state.tree.length}
         log.event("loaded", store=journal.store, **place, seconds=seconds)
@@ -59,10 +69,11 @@ async def _serve(file: Path, config: Config, journal: Journal, state: Loaded, lo
             listeners.append(Listener(listen, service))
         stop = _on_signals(file, listeners, log)
         _notify("READY=1")
-        log.event("ready", listen=[each.listen.name for each in listeners])
+        log.event("ready", listen=[each.name for each in listeners])
         while not stop.is_set() and service.failure is None:
             with contextlib.suppress(asyncio.TimeoutError):
                 await asyncio.wait_for(stop.wait(), 1)
+            service.tick()
             for each in listeners:
                 each.tick()
     finally:
@@ -107,7 +118,7 @@ async def _drain(listeners: list[Listener]) -> None:
     end = time.monotonic() + _DRAIN_SECONDS
     connections = [connection for each in listeners for connection in each.connections]
     for connection in connections:
-        connection.transport.close()
+        connection.finish()
     while any(each.connections for each in listeners) and time.monotonic() < end:
         await asyncio.sleep(0.01)
     for connection in connections:

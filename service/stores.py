@@ -1,18 +1,18 @@
 """The files of a store: made, opened, verified, copied while it is served, and made again from a copy."""
 
 import os
-import secrets
-import time
-from collections.abc import Iterator, Sequence
+from collections.abc import Iterable, Iterator, Sequence
 from contextlib import contextmanager
 from itertools import islice
 from pathlib import Path
 
+import clock
+import formats
 from entry import Line, Place, Snapshot, new_store
 from errors import Fault, Invalid, Mismatch
-from folders import locked, make_folder, sync_folder
+from folders import locked, make_folder, sync_folder, unfinished
 from journal import DATABASE, MARK, MOST_LINES, Journal, create
-from loading import Loaded, verify
+from loading import Loaded, load, verify
 from mark import Mark, create_mark
 from tree import MAPPINGS, built, dumped
 
@@ -39,7 +39,7 @@ def init(folder: Path, mapping: str, lines: Sequence[str]) -> int:
     except (Mismatch, Fault) as error:
         raise Invalid(str(error)) from error
     snapshot = Snapshot(1, Place(0, b""), tree.length, made)
-    make(folder, new_store(), mapping, snapshot)
+    make(folder, new_store(), mapping, snapshot, snapshot.place)
     return tree.length
 
 
@@ -47,7 +47,7 @@ def verified(where: Path) -> Loaded:
     """The state of a store, in its folder, or of a backup, in a file. It may be served meanwhile. Mismatch: a line or a
     snapshot isn't what was written."""
     if where.is_dir():
-        mark = Mark(where / MARK)
+        mark = Mark(where / MARK, only_reads=True)
         try:
             with Journal(where / DATABASE, mark, only_reads=True) as journal:
                 return verify(journal)
@@ -61,8 +61,8 @@ def backup(folder: Path, file: Path) -> Loaded:
     """Copies a store, which may be served meanwhile, into a new file, and verifies the copy."""
     if os.path.lexists(file):
         raise Invalid(f"{file}: there is a file already")
-    part = file.with_name(f".{file.name}.{secrets.token_hex(4)}")
-    try:
+    with unfinished(file.parent) as room:
+        part = room / DATABASE
         with Journal(folder / DATABASE, only_reads=True) as journal:
             journal.copy_to(part)
         state = verified(part)
@@ -70,8 +70,6 @@ def backup(folder: Path, file: Path) -> Loaded:
             os.fsync(copy.fileno())
         os.link(part, file)
         sync_folder(file.parent)
-    finally:
-        part.unlink(missing_ok=True)
     return state
 
 
@@ -82,19 +80,32 @@ def restore(file: Path, folder: Path) -> Loaded:
         pending = [line for line, _ in journal.lines(state.published.number)]
         mapping = journal.mapping
     snapshot = Snapshot(state.epoch + 1, state.published, state.tree.length, tuple(dumped(state.tree.view)))
-    make(folder, new_store(), mapping, snapshot, pending)
+    store = new_store()
+    make(folder, store, mapping, snapshot, snapshot.place, _chained(store, snapshot, pending))
     return state
 
 
-def make(folder: Path, store: str, mapping: str, snapshot: Snapshot, pending: Sequence[Line] = ()) -> None:
-    """A new store of a snapshot and the pending edits after it."""
+def downgrade(folder: Path) -> Loaded:
+    """Makes a store that nobody serves one of the version before, for the programs of then."""
+    with opened(folder) as journal:
+        state = load(journal)
+        journal.convert(formats.BEFORE)
+        journal.close_log()
+    return state
+
+
+def make(
+    folder: Path, store: str, mapping: str, snapshot: Snapshot, first: Place, lines: Iterable[tuple[Line, bytes]] = ()
+) -> None:
+    """A new store of a snapshot, and of lines with their chains: those after `first`, whose last is the snapshot's or a
+    later one."""
 
     def fill(made: Path) -> None:
-        create(made / DATABASE, store, mapping, snapshot)
+        create(made / DATABASE, store, mapping, snapshot, first)
         create_mark(made / MARK, store, snapshot.place)
+        left = iter(lines)
         with opened(made) as journal:
-            lines = _chained(store, snapshot, pending)
-            while batch := list(islice(lines, MOST_LINES)):
+            while batch := list(islice(left, MOST_LINES)):
                 journal.append(batch)
             journal.close_log()
 
@@ -105,6 +116,6 @@ def _chained(store: str, snapshot: Snapshot, pending: Sequence[Line]) -> Iterato
     """The lines, as those of the store after the snapshot."""
     chain = snapshot.place.chain
     for each in pending:
-        line = each._replace(epoch=snapshot.epoch, time=time.time_ns() // 1_000_000)
+        line = each._replace(epoch=snapshot.epoch, time=clock.milliseconds())
         chain = line.chained(store, chain)
         yield line, chain

@@ -8,10 +8,10 @@ import contextlib
 from collections.abc import Sequence
 from itertools import islice
 
-from entry import Line, Place, Snapshot
+from entry import Line, Place
 from errors import Failed, Invalid, Mismatch
 from journal import MOST_LINES, Journal
-from leading import Lines, line_in, row_of, snapshot_in, snapshot_text
+from leading import Lines, Origin, is_head, line_in, row_of, snapshot_in, snapshot_text
 from redis_client import Redis, Reply
 
 #: Appends rows to the last line, or none.
@@ -39,6 +39,8 @@ end
 local rows = redis.call('XRANGE', KEYS[1], '(' .. ARGV[3] .. '-0', '+', 'COUNT', ARGV[4])
 return {holder == ARGV[1] and 1 or 0, redis.call('GET', KEYS[2]), rows}
 """
+#: The bytes that a snapshot's head has at most.
+_HEAD_BYTES = 1_000
 #: Replaces the snapshot, and drops the lines before a number.
 _RENEW = """
 if redis.call('GET', KEYS[3]) ~= ARGV[1] then return 0 end
@@ -68,8 +70,8 @@ class Stream:
             self._poll(Place(0, b""), may_lead=False)
         self.close()
 
-    def snapshot(self) -> tuple[str, str, Snapshot]:
-        """The store, its mapping and the newest snapshot. Failed: there is no stream."""
+    def snapshot(self) -> Origin:
+        """What a new replica starts from. Failed: there is no stream."""
         text = self._redis.ask("GET", self._keys[3])
         if text is None:
             raise Failed(self._missing)
@@ -99,9 +101,16 @@ class Stream:
         if not self._redis.ask("EVAL", _APPEND, 3, *self._keys[:3], self._name, *places, *rows):
             raise Failed("redis: another service leads")
 
-    def renew(self, journal: Journal, snapshot: Snapshot) -> None:
+    def has_snapshot(self) -> bool:
+        """Whether the snapshot is of today's form: a new replica takes no other."""
+        head: bytes = self._redis.ask("GETRANGE", self._keys[3], 0, _HEAD_BYTES - 1)
+        return is_head(head.decode(errors="replace").partition("\n")[0])
+
+    def renew(self, journal: Journal) -> None:
         """Replaces the snapshot, and drops the lines that the journal has dropped. Failed: it doesn't lead."""
-        text = snapshot_text(journal.store, journal.mapping, snapshot)
+        # Another leader may have dropped more of them.
+        rows = self._redis.ask("XRANGE", self._keys[0], "-", "+", "COUNT", 1)
+        text = snapshot_text(journal, line_in(rows[0][1][1].decode())[0].number - 1 if rows else 0)
         if not self._redis.ask("EVAL", _RENEW, 4, *self._keys, self._name, text, journal.start.number + 1):
             raise Failed("redis: another service leads")
 
@@ -116,5 +125,4 @@ class Stream:
         while batch := list(islice(lines, MOST_LINES)):
             self.append(place, batch)
             place = Place(batch[-1][0].number, batch[-1][1])
-        text = snapshot_text(journal.store, journal.mapping, journal.snapshots()[-1])
-        self._redis.ask("EVAL", _END_OF_SEED, 2, snapshot, lease, text)
+        self._redis.ask("EVAL", _END_OF_SEED, 2, snapshot, lease, snapshot_text(journal))

@@ -27,8 +27,8 @@ class Tree:
         self.view = self._store.publish()
         self.length = len(self.view)
 
-    def make(self, edit: Edit) -> str:
-        """Makes the edit: `ok`, or why it is refused."""
+    def make(self, edit: Edit) -> str | None:
+        """Makes the edit, or says why it is refused."""
         return edit.make(self._store)
 
     def publish(self) -> View:
@@ -40,6 +40,10 @@ class Tree:
     def pending_view(self) -> View:
         """The tree with all pending edits, of which none is published by that."""
         return self._store.publish()
+
+    def revert(self, view: View) -> None:
+        """Makes the tree that of the view, which has its pending edits at a moment since the last publish."""
+        self._store.revert(view)
 
     @property
     def pending(self) -> int:
@@ -65,9 +69,9 @@ def built(lines: Sequence[str], mapping: str, length: int | None = None) -> Tree
         words = line.split(" ")
         if words[0] not in ("addc", "addo"):
             raise Mismatch(f"line {number} of the snapshot: {line!a:.200} is no addition")
-        answer = made_by(tree, words)
-        if answer != "ok":
-            raise Mismatch(f"line {number} of the snapshot: {line!a:.200}: {answer}")
+        refusal = refused(tree, words)
+        if refusal is not None:
+            raise Mismatch(f"line {number} of the snapshot: {line!a:.200}: {refusal}")
     else:
         raise Mismatch("the snapshot doesn't end with a line 'publish'")
     if length is not None:
@@ -87,13 +91,14 @@ def _opened(lines: Sequence[str], mapping: str) -> Tree:
         raise Mismatch(f"line 1 of the snapshot: {fault_of(refused)}") from None
 
 
-def made_by(tree: Tree, words: Sequence[str]) -> str:
-    """The answer to the edit of these words."""
+def refused(tree: Tree, words: Sequence[str]) -> str | None:
+    """Makes the edit of these words, or says why it isn't made."""
     try:
-        edit = edit_of(words, tree.view)
+        return tree.make(edit_of(words, tree.view))
     except Fault as fault:
         return fault.answer
-    return tree.make(edit)
+    except KeyError:
+        return f"{words[0]!a:.100} is no edit"
 
 
 def dumped(view: View) -> Iterator[str]:

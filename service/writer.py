@@ -1,7 +1,6 @@
 """The one thread that edits: it makes what clients send, commits it, and only then has it answered.
 
-Edits that arrive during a commit share the next one. A new epoch starts in the background: a snapshot of the published
-tree is made and compared, and the store goes on in one built of it, whose journal is short again."""
+Edits that arrive during a commit share the next one."""
 
 import functools
 import math
@@ -17,39 +16,27 @@ from dataclasses import dataclass, field, replace
 
 from hudarin import View
 
+import clock
 from analysis import Pending
-from edits import Edit
-from entry import Batch, Line, Place, Snapshot
+from edits import Edit, is_same
+from entry import Batch, Line, Place
+from epochs import Maker
 from errors import Fault, Mismatch, ServiceError
 from journal import Journal
 from leading import Lines
 from loading import Loaded, load
 from stream import Stream
-from tree import Tree, built, dumped, first_difference
+from task import NO_MEMORY, Task, make_together
 
-#: The edits that share one commit at most.
+#: Once so many edits share a commit no more are added to it.
 MOST_AT_ONCE = 512
 #: A library's journal takes 1,048,576 edits, of which a snapshot has 65,536 at most: a new epoch starts after so many
 #: more.
 MOST_EDITS = 900_000
 #: After a failed commit the journal is tried again by the next edit, or after so many seconds without one.
 RETRY_SECONDS = 5.0
-UNAVAILABLE, NO_MEMORY, NO_LEADER = "unavailable journal", "unavailable memory", "unavailable replica"
-
-
-@dataclass(slots=True)
-class Task:
-    """An edit, or a publish, on its way: its answer is given once it is on disk."""
-
-    edit: Edit | None
-    line: str
-    key: str
-    who: str
-    reply: Callable[["Task"], None]
-    answer: str = ""
-    #: The number of its line in the journal; 0 if it has none.
-    number: int = 0
-    began: float = field(default_factory=time.perf_counter)
+ACCEPTED, PUBLISHED = "ok", "published {}"
+UNAVAILABLE, NO_LEADER = "unavailable journal", "unavailable replica"
 
 
 @dataclass(frozen=True, slots=True)
@@ -64,7 +51,7 @@ class Shown:
     last: Place
     time: int
     takes_edits: bool
-    #: No answer is given after that, by the monotonic clock: a replica knows no more of its source.
+    #: No answer is given after that, by the clock of `clock.now`: a replica knows no more of its source.
     fresh_until: float
 
 
@@ -95,14 +82,13 @@ class Writer:
     #: Views that no reader uses any more: the thread closes them.
     retired: deque[View] = field(default_factory=deque)
     _thread: threading.Thread | None = None
-    #: Makes a new epoch; None once that has begun, or can't.
-    _maker: threading.Thread | None = None
     #: The store isn't the journal's since a commit failed.
     is_lost: bool = False
 
     def __post_init__(self) -> None:
         #: What readers see: only what is on disk.
         self.shown = self._show()
+        self._maker = Maker(self.journal.file, self.journal.mapping, self.warn, lambda: self.waiting.put(_nothing))
 
     def start(self) -> None:
         self._thread = threading.Thread(target=self._run, name="writer")
@@ -133,9 +119,9 @@ class Writer:
     def stop(self) -> None:
         """Returns once all that was put is answered."""
         self.waiting.put(None)
-        for thread in (self._thread, self._maker):
-            if thread is not None:
-                thread.join()
+        if self._thread is not None:
+            self._thread.join()
+        self._maker.stop()
         if self.stream is not None:
             self.stream.resign()
 
@@ -166,6 +152,7 @@ class Writer:
         if other is not None:
             other()
         if not is_last:
+            self._start_epoch_if_made()
             self._make_epoch_if_due()
         return not is_last
 
@@ -180,13 +167,15 @@ class Writer:
     def _take(self) -> tuple[list[Task], Callable[[], None] | None, bool]:
         """Waits for a task, and takes those that wait with it, up to other work or the end."""
         tasks: list[Task] = []
+        count = 0
         try:
             item = self.waiting.get(timeout=RETRY_SECONDS if self._may_try_again() else None)
         except queue.Empty:
             return tasks, self._try_again, False
         while isinstance(item, Task):
             tasks.append(item)
-            if len(tasks) == MOST_AT_ONCE:
+            count += len(item.each)
+            if count >= MOST_AT_ONCE:
                 return tasks, None, False
             try:
                 item = self.waiting.get_nowait()
@@ -221,6 +210,9 @@ class Writer:
         if not self.leads:
             task.answer = NO_LEADER
             return
+        if task.parts:
+            make_together(task, self.state, batch, self._was_made, self._make)
+            return
         if task.key and self._was_made(task, batch):
             return
         try:
@@ -232,8 +224,9 @@ class Writer:
             self._log(task, batch)
 
     def _edit(self, task: Task, edit: Edit) -> bool:
-        task.answer = self.state.tree.make(edit)
-        return task.answer == "ok"
+        refusal = self.state.tree.make(edit)
+        task.answer = ACCEPTED if refusal is None else refusal
+        return refusal is None
 
     def _publish(self, task: Task) -> bool:
         """Publishes what is pending; without that nothing changes."""
@@ -241,7 +234,7 @@ class Writer:
         has_pending = tree.pending > 0
         if has_pending:
             self._drop(tree.publish())
-        task.answer = f"published {tree.length}"
+        task.answer = PUBLISHED.format(tree.length)
         return has_pending
 
     def _was_made(self, task: Task, batch: Batch) -> bool:
@@ -249,15 +242,19 @@ class Writer:
         made = batch.by_key.get(task.key) or self.journal.by_key(task.key)
         if made is None:
             return False
-        is_same = (made.line, made.who) == (task.line, task.who)
-        task.answer, task.number = (made.answer, made.number) if is_same else ("fault key", 0)
+        if made.who != task.who or not is_same(made.line, task.line, self.state.tree.view):
+            task.answer = "fault key"
+            return True
+        task.answer = PUBLISHED.format(made.length) if made.length else ACCEPTED
+        task.number = made.number
         return True
 
     def _log(self, task: Task, batch: Batch) -> None:
         state = self.state
-        state.time = time.time_ns() // 1_000_000
+        state.time = clock.milliseconds()
         task.number = state.last.number + 1
-        line = Line(state.epoch, task.number, state.time, task.who, task.key, task.line, task.answer)
+        length = 0 if task.edit is not None else state.tree.length
+        line = Line(state.epoch, task.number, state.time, task.who, task.key, task.line, length)
         chain = line.chained(self.journal.store, state.last.chain)
         batch.lines.append((line, chain))
         if task.key:
@@ -326,7 +323,9 @@ class Writer:
             if lines:
                 self.journal.append(lines)
             has_all = self.state.last.number >= following.last
-            self.leads = following.leads and has_all
+            led, self.leads = self.leads, following.leads and has_all
+            if self.leads and not led:
+                self._renew_stream(is_new=False)
             if has_all:
                 self.fresh_until = fresh_until
         except Mismatch as mismatch:
@@ -348,53 +347,41 @@ class Writer:
         state, shown = self.state, self.shown
         is_long = state.last.number - state.since >= min(self.lines_in_epoch, MOST_EDITS)
         is_due = is_long and shown.place.number > state.since and not self.is_lost
-        if is_due and self._maker is None:
-            arguments = (shown, shown.view.share(), self.journal.mapping)
-            self._maker = threading.Thread(target=self._make_epoch, args=arguments, name="epoch")
-            self._maker.start()
+        if is_due and self._maker.is_idle:
+            self._maker.start(shown.view.share(), shown.epoch + 1, shown.place, shown.length)
 
-    def _make_epoch(self, shown: Shown, view: View, mapping: str) -> None:
-        """In a thread of its own: the snapshot, and the tree built of it."""
-        try:
-            with view:
-                lines = tuple(dumped(view))
-                tree = built(lines, mapping, shown.length)
-                difference = first_difference(lines, dumped(tree.view))
-            if difference is not None:
-                raise Mismatch(f"the snapshot isn't the tree: {difference}")
-        except (Fault, ServiceError, MemoryError) as error:
-            self.warn(f"no new epoch: {error}")
-            self._maker = None
+    def _start_epoch_if_made(self) -> None:
+        """Commits the snapshot of one that is made, makes the few lines that are left, and goes on in its tree."""
+        epoch = None if self.is_lost else self._maker.made(self.state.last)
+        if epoch is None:
             return
-        snapshot = Snapshot(shown.epoch + 1, shown.place, shown.length, lines)
-        self.waiting.put(functools.partial(self._begin, snapshot, tree))
-
-    def _begin(self, snapshot: Snapshot, tree: Tree) -> None:
-        """Goes on in the tree that was built of the snapshot and compared with the published one."""
-        self._maker = None
-        self._start_epoch(snapshot, tree)
-        self._answer([])
-
-    def _start_epoch(self, snapshot: Snapshot, tree: Tree) -> None:
-        """Commits the snapshot, and makes the lines that came meanwhile in its tree."""
-        state, place = self.state, snapshot.place
-        following = Loaded(tree, snapshot.epoch, place, place, place.number)
+        state, following = self.state, epoch.state
         try:
-            for line, chain in self.journal.lines(place.number):
-                following.replay(line, chain)
+            epoch.go_on(self.journal)
             if following.last != state.last:
                 raise ServiceError(f"the journal ends at line {following.last.number}, not {state.last.number}")
-            self.journal.start_epoch(snapshot, state.last.number)
+            self.journal.start_epoch(epoch.snapshot, state.last.number)
         except (sqlite3.Error, OSError, ServiceError, MemoryError) as error:
             # It may be on disk all the same, so the journal is read again.
             self.is_lost = True
             self.warn(f"no new epoch: {error}")
-            tree.close()
+            following.tree.close()
+        else:
+            following.time = state.time
+            self._go_on_in(following)
+            self._renew_stream()
+        self._answer([])
+
+    def _renew_stream(self, is_new: bool = True) -> None:
+        """Has new replicas start from the newest snapshot, if it is new, or if the one there is of an earlier form."""
+        if self.stream is None or not self.leads:
             return
-        following.time = state.time
-        self._go_on_in(following)
-        if self.stream is not None and self.leads:
-            try:
-                self.stream.renew(self.journal, snapshot)
-            except (OSError, ServiceError) as error:
-                self.warn(f"no new snapshot for replicas: {error}")
+        try:
+            if is_new or not self.stream.has_snapshot():
+                self.stream.renew(self.journal)
+        except (OSError, ServiceError) as error:
+            self.warn(f"no new snapshot for replicas: {error}")
+
+
+def _nothing() -> None:
+    """What has the writer take a turn."""

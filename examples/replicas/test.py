@@ -5,6 +5,7 @@
 
 The last line is 'N passed, M failed'."""
 
+import json
 import random
 import shutil
 import signal
@@ -80,7 +81,10 @@ class Replicas(rig.Case):
             self.start_node(node)
 
     def configure_node(self, node: rig.Case, limits: str = "lines_in_epoch = 40") -> None:
-        node.configure(limits, more=f'[redis]\nunix = "{self.redis.socket}"\n{LEASE}')
+        # (a name of its own, which a test takes away)
+        (node.room / "redis").unlink(missing_ok=True)
+        (node.room / "redis").symlink_to(self.redis.socket)
+        node.configure(limits, more=f'[redis]\nunix = "{node.room / "redis"}"\n{LEASE}')
 
     def start_node(self, node: rig.Case) -> None:
         self.configure_node(node)
@@ -210,20 +214,109 @@ class Replicas(rig.Case):
             node.process = None
         self.assertIn("isn't the one that follows here", late.log.read_text())
 
-    def test_a_new_replica_starts_from_a_snapshot(self) -> None:
+    def fill(self) -> None:
+        """More lines than an epoch has, and a snapshot of them in Redis."""
         with self.client() as client:
             for number in range(100):
                 client.edit("addo", f"/n{number}", "O:BAG:SYD:")
                 if number % 10 == 9:
                     client.publish()
-        self.first.wait_for(lambda: self.redis.ask("GET", "sdstored:snapshot").startswith(b'["') and
-                            b"/n30" in self.redis.ask("GET", "sdstored:snapshot"))
+        self.first.wait_for(lambda: b"/n30" in self.redis.ask("GET", "sdstored:snapshot"))
+
+    def start_again(self, node: rig.Case) -> None:
+        """Kills it, and starts it without its store."""
+        if node.process is not None:
+            node.kill()
+        node.store = node.room / "again"
+        shutil.rmtree(node.store, ignore_errors=True)
+        self.start_node(node)
+
+    def test_a_new_replica_starts_from_a_snapshot(self) -> None:
+        """Also where the leader has older lines than the stream, from which another leader has dropped some."""
+        self.assertEqual(self.leader().said(*(f"addo /m{at} O:BAG:SYD:" for at in range(5))), ["ok"] * 5)
+        self.assert_all_alike()
+        self.redis.ask("XTRIM", "sdstored", "MINID", "3-0")
+        self.fill()
+        late = self.nodes["b"]
+        self.start_again(late)
+        self.assert_all_alike()
+        self.assertGreater(next(each for each in late.events() if each["event"] == "loaded")["line"], 30)
+
+    def test_keys_of_a_new_replica(self) -> None:
+        """What was made once isn't made again by it, where it leads: the keys of earlier lines come with it."""
+        granted = "once k1 addo /x O:BAG:SYD:(A;;FW;;;BU)"
+        self.assertEqual(self.leader().said(granted, "once k2 publish", "remove /x"), ["ok", "published 1", "ok"])
+        self.fill()
+        late = self.others(self.leader())[0]
+        self.start_again(late)
+        self.assert_all_alike()
+        for node in self.others(late):
+            node.kill()
+        late.wait_for(lambda: late.said("publish")[0].startswith("published"))
+        self.assertEqual(late.said(granted, "once k2 publish", "publish", "show 0 /x"),
+                         ["ok", "published 1", "published 102", "seen 102 nonode"])
+
+    def test_a_changed_snapshot(self) -> None:
+        """No replica starts from it."""
+        text = self.redis.ask("GET", "sdstored:snapshot").decode()
+        self.redis.ask("SET", "sdstored:snapshot", text.replace("FR", "FA"))
         late = self.nodes["b"]
         late.kill()
         late.store = late.room / "again"
-        self.start_node(late)
+        self.configure_node(late)
+        late.launch()
+        self.assertEqual(late.process.wait(rig.PATIENCE), 1)
+        late.process = None
+        self.assertIn("the leader's snapshot: it isn't the one that was written", late.log.read_text())
+        self.assertFalse(late.store.exists())
+
+    def test_a_snapshot_of_an_earlier_version(self) -> None:
+        """The next leader puts its own there, in the form of today."""
+        head, *lines = self.redis.ask("GET", "sdstored:snapshot").decode().split("\n")
+        self.redis.ask("SET", "sdstored:snapshot", "\n".join([json.dumps(json.loads(head)[:6]), *lines]))
+        leader = self.leader()
+        leader.kill()
+        self.start_node(leader)
+        wanted = "\n".join([head, *lines]).encode()
+        self.leader().wait_for(lambda: self.redis.ask("GET", "sdstored:snapshot") == wanted)
+        self.start_again(self.nodes["b"])
         self.assert_all_alike()
-        self.assertGreater(next(each for each in late.events() if each["event"] == "loaded")["line"], 30)
+
+    def test_a_replica_of_a_leader_that_is_deposed(self) -> None:
+        """It answers by nothing older than its own limit, whatever that of the service is that it follows."""
+        deposed = self.leader()
+        replica = rig.Case()
+        replica.setUp()
+        self.addCleanup(replica.doCleanups)
+        self.assertEqual(deposed.said("addo /a O:BAG:SYD:(A;;FW;;;BU)", "publish"), ["ok", "published 1"])
+        replica.start(more=f'[leader]\nunix = "{deposed.lines}"\nmax_age_seconds = 2')
+        check = f"check 0 /a {rig.USER} FW BU"
+        replica.wait_for(lambda: replica.said(check) == ["seen 1 granted 0x120116"])
+        (deposed.room / "redis").unlink()
+        self.redis.ask("CLIENT", "KILL", "TYPE", "normal")
+        with Client([str(node.lines) for node in self.others(deposed)], timeout=rig.PATIENCE) as client:
+            client.edit("dacl", "/a", "D:")
+            self.assertEqual(client.publish(), 2)
+        published = time.monotonic()
+        replica.wait_for(lambda: replica.said(check) == ["unavailable behind"])
+        # (and a busy machine takes its time)
+        self.assertLess(time.monotonic() - published, 2 + 5)
+        self.assertEqual(deposed.said(check), ["seen 1 granted 0x120116"])
+
+    def test_the_log_without_redis(self) -> None:
+        """A warning that comes again and again is there once a minute."""
+        leader = self.leader()
+        self.redis.kill()
+        time.sleep(3)
+        for _ in range(20):
+            self.assertTrue(leader.said("addo /b O:BAG:SYD:")[0].startswith("unavailable "))
+        for node in self.nodes.values():
+            warned = [each for each in node.events() if each["event"] == "warning"]
+            self.assertTrue(0 < len(warned) < 10, warned)
+        self.redis.start()
+        leader = self.leader()
+        for node in self.nodes.values():
+            node.wait_for(lambda: any("answers again" in str(each.get("text")) for each in node.events()))
 
     def test_certificates(self) -> None:
         """Over TCP Redis and service show certificates; one of another authority is good for nothing."""

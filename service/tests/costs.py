@@ -202,7 +202,7 @@ class Costs(rig.Case):
 
     def idle(self) -> None:
         resource.setrlimit(resource.RLIMIT_NOFILE, (4096, resource.getrlimit(resource.RLIMIT_NOFILE)[1]))
-        self.start()
+        self.start("connections_of_client = 1_000")
         before = self.memory()
         many = [self.connect() for _ in range(1000)]
         assert all(each.ask("tell").startswith("told ") for each in many)

@@ -199,6 +199,17 @@ class Case(unittest.TestCase):
         self.assertEqual(self.process.wait(PATIENCE), 0, self.log.read_text()[-3000:])
         self.process = None
 
+    def mount_small(self) -> Path:
+        """A file system of 1 MiB, until the end of the test."""
+        if os.geteuid() != 0:
+            self.skipTest("root is required for a small file system")
+        small = self.room / "small"
+        small.mkdir()
+        if subprocess.run(["mount", "-t", "tmpfs", "-o", "size=1m", "tmpfs", str(small)], check=False).returncode != 0:
+            self.skipTest("no file system can be mounted here")
+        self.addCleanup(subprocess.run, ["umount", "-l", str(small)], check=False)
+        return small
+
     def connect(self) -> Lines:
         return Lines(self.lines)
 

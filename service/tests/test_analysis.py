@@ -4,13 +4,10 @@ import asyncio
 import re
 import unittest
 from collections.abc import Iterator
-from types import SimpleNamespace
-from typing import Any
 
 import rig
 
 from client import AsyncClient, Client, Rejected
-from service import FAILED, Service
 
 PAGES = rig.TOP / "docs"
 
@@ -111,28 +108,6 @@ class Analysis(rig.Case):
                                  ["lost 0x120089 by S-1-5-32-545"])
 
         asyncio.run(asked())
-
-
-class Failures(unittest.TestCase):
-    def test_a_question_that_fails_is_answered(self) -> None:
-        """Whatever it raises: the log says so, and the next question has its turn."""
-
-        def work(*_: object) -> None:
-            raise RuntimeError("unexpected")
-
-        warned: list[str] = []
-        service: Any = SimpleNamespace(
-            limits=SimpleNamespace(long_answers=1), _long_answers=0, _work=work, _warn=warned.append
-        )
-        answer = asyncio.run(Service.long_answer(service, ["list"], service, service))
-        self.assertEqual((answer, service._long_answers), (FAILED, 0))
-        self.assertIn("unexpected", warned[0])
-
-    def test_too_many_questions_at_once(self) -> None:
-        """Of those that take long, four times as many as are answered at once: one more is rejected."""
-        service: Any = SimpleNamespace(limits=SimpleNamespace(long_answers=2), _long_answers=8)
-        self.assertEqual(asyncio.run(Service.long_answer(service, ["list"], service, service)), "unavailable busy")
-        self.assertEqual(service._long_answers, 8)
 
 
 if __name__ == "__main__":

@@ -18,6 +18,8 @@ REJECTED = (
     ("[log]\ndenials = 1", "denials: a value of the type bool"),
     (LISTEN, "each at a place of its own"),
     ('[leader]\nunix = "a\\u0000b"', "unix: a text without NUL"),
+    (f'[[listen]]\nunix = "{"x" * 108}"\nprotocol = "http"', f"listen: unix: '{'x' * 108}' has more than 107 bytes"),
+    (f'[leader]\nunix = "{"é" * 54}"', "has more than 107 bytes"),
     ('[[listen]]\nunix = "x"\nprotocol = "smtp"', "the protocol 'smtp' is none of lines, http"),
     ('[[listen]]\nunix = "x"\ntcp = "127.0.0.1:1"\nprotocol = "http"', "either 'unix' or 'tcp'"),
     ('[[listen]]\nunix = "x"\nprotocol = "http"', "'allow' names nobody"),

@@ -21,8 +21,9 @@ FAULTS: tuple[tuple[str, object, int, str], ...] = (
     ("/v1/check", "{", 400, "json"),
     ("/v1/check", "[]", 400, "json"),
     ("/v1/check", '{"user": 1, "user": 2}', 400, "json"),
-    ("/v1/check", "[" * 100000, 400, "json"),
+    ("/v1/check", "[" * 50_000, 400, "json"),
     ("/v1/check", '{"seen": NaN}', 400, "json"),
+    ("/v1/check", '{"checks": [' + "[]," * 25_000 + "[]]}", 400, "values"),
     ("/v1/check", {}, 400, "user"),
     ("/v1/check", CHECK | {"more": 1}, 400, "'more'"),
     ("/v1/check", CHECK | {"user": "BU x"}, 400, "user"),
@@ -133,17 +134,54 @@ class Http(rig.Case):
         """Edits with a key: sent again, each has the line that it had."""
         edits = [
             {"edit": "addo", "path": "/d/a b\n", "descriptor": "O:BAG:SYD:(A;;FW;;;BU)"},
-            {"edit": "remove", "path": "/none"},
-            {"edit": "owner", "path": "/d", "sid": "QQ"},
             {"edit": "move", "path": "/d/a b\n", "target": "/d/é"},
             {"edit": "protect", "path": "/d"},
             {"edit": "dacl", "path": "/d/é", "descriptor": "D:(A;;FA;;;BU)"},
         ]
-        status, said = self.ask("/v1/edit", {"edits": edits, "publish": True, "key": "k"})
-        self.assertEqual((status, [each["answer"] for each in said["answers"]]),
-                         (200, ["ok", "refused 4 NoNode", "fault sid", "ok", "ok", "ok", "published 5"]))
-        status, said = self.ask("/v1/edit", {"edits": edits, "publish": True, "key": "k"})
-        self.assertEqual([each["line"] for each in said["answers"]], [1, 0, 0, 2, 3, 4, 5])
+        for _ in range(2):
+            status, said = self.ask("/v1/edit", {"edits": edits, "publish": True, "key": "k"})
+            answers = [each["answer"] for each in said["answers"]]
+            self.assertEqual((status, answers), (200, ["ok"] * 4 + ["published 5"]))
+            self.assertEqual([each["line"] for each in said["answers"]], [1, 2, 3, 4, 5])
+        self.assertEqual(self.ask("/v1/edit", {"edits": edits[:3], "publish": True, "key": "k"}),
+                         (409, {"fault": "key"}))
+        self.assertEqual(self.ask("/v1/edit", {"edits": edits, "key": "k2"})[0], 409)
+
+    def test_all_or_none(self) -> None:
+        """One edit that is refused, or isn't understood: none is made, and nothing is published."""
+        self.start()
+        add = {"edit": "addo", "path": "/d/new", "descriptor": "O:BAG:SYD:(A;;FA;;;BU)"}
+        for other, answer, status in (
+            ({"edit": "remove", "path": "/none"}, "refused 4 NoNode", 409),
+            ({"edit": "owner", "path": "/d", "sid": "QQ"}, "fault sid", 409),
+            (add, "refused 3 Exists", 409),
+        ):
+            with self.subTest(answer):
+                request = {"edits": [add, other, {"edit": "protect", "path": "/d"}], "publish": True, "key": "k"}
+                status_found, said = self.ask("/v1/edit", request)
+                self.assertEqual((status_found, said["answers"], said["seen"]), (
+                    status, [{"answer": each, "line": 0} for each in ("unmade", answer, "unmade", "unmade")], 1))
+        # What is refused by the tree has records, and what isn't an edit has none.
+        answers = [each["answer"] for each in self.events() if each["event"] == "edit"]
+        self.assertEqual(answers, ["unmade", "refused 4 NoNode", "unmade", "unmade"]
+                         + ["unmade", "refused 3 Exists", "unmade", "unmade"])
+        self.assertEqual(self.ask("/v1/review", {})[1]["pending"], 1)
+        self.assertEqual(self.ask("/v1/show", {"path": "/d/new"})[0], 404)
+        self.assertEqual(self.ask("/v1/edit", {"edits": [add], "publish": True, "key": "k"})[0], 200)
+
+    def test_only_if_published(self) -> None:
+        """Edits for another published length aren't made; sent again, what was made is answered as before."""
+        self.start()
+        edits = [{"edit": "addo", "path": "/d/a", "descriptor": "O:BAG:SYD:"}]
+        self.assertEqual(self.ask("/v1/edit", {"edits": edits, "publish": True, "published": 0}),
+                         (409, {"fault": "published"}))
+        self.assertEqual(self.ask("/v1/publish", {"published": 7}), (409, {"fault": "published"}))
+        self.assertEqual(self.ask("/v1/edit", {"edits": [], "published": 7}), (409, {"fault": "published"}))
+        for _ in range(2):
+            status, said = self.ask("/v1/edit", {"edits": edits, "publish": True, "published": 1, "key": "k"})
+            self.assertEqual((status, [each["answer"] for each in said["answers"]]), (200, ["ok", "published 2"]))
+        self.assertEqual(self.ask("/v1/publish", {"published": 2})[1]["answers"],
+                         [{"answer": "published 2", "line": 0}])
 
     def ask_at_once(self) -> None:
         checks = [{"path": "/d/é", "mask": "FR"}, {"path": "/", "mask": "FA"}, {"path": "/x", "mask": "FR"},
@@ -200,6 +238,12 @@ class Http(rig.Case):
             (b"GET /healthz HTTP/1.1\r\nHost: x\r\n folded\r\n\r\n", b"400"),
             (b"GET /h\xe9 HTTP/1.1\r\nHost: x\r\n\r\n", b"400"),
             (b"GET /healthz HTTP/1.1\r\nHost : x\r\n\r\n", b"400"),
+            (b"GET /healthz HTTP/1.1\r\nHost: x\r\ny: z\nContent-Length: 9\r\n\r\n", b"400"),
+            (b"GET /healthz HTTP/1.1\r\nHost: x\r\ny: z\0\r\n\r\n", b"400"),
+            (b"GET /healthz HTTP/1.1\nHost: x\r\n\r\n", b"400"),
+            (b"GET /health\tz HTTP/1.1\r\nHost: x\r\n\r\n", b"400"),
+            (b"G\0T /healthz HTTP/1.1\r\nHost: x\r\n\r\n", b"400"),
+            (b" /healthz HTTP/1.1\r\nHost: x\r\n\r\n", b"400"),
             (post + b"Transfer-Encoding: chunked\r\n\r\n0\r\n\r\n", b"501"),
             (post + b"Content-Length: +3\r\n\r\n{}", b"400"),
             (post + b"Content-Length: 3\r\nContent-Length: 3\r\n\r\n{} ", b"400"),
@@ -261,8 +305,9 @@ class Http(rig.Case):
         edits = [{"edit": "addo", "path": f"/d/{at}", "descriptor": "O:BAG:SYD:"} for at in range(4)]
         status, said = self.ask("/v1/edit", {"edits": edits, "publish": True})
         answers = [each["answer"] for each in said["answers"]]
-        self.assertEqual((status, answers), (503, ["ok", "ok"] + ["unavailable busy"] * 3))
-        self.assertEqual(self.said("publish"), ["published 3"])
+        self.assertEqual((status, answers), (503, ["unavailable busy"] * 5))
+        self.assertEqual(self.ask("/v1/edit", {"edits": edits[:1], "publish": True})[0], 200)
+        self.assertEqual(self.said("publish"), ["published 2"])
 
     def test_watching(self) -> None:
         port = rig.free_port()

@@ -7,7 +7,6 @@ import re
 import shutil
 import sqlite3
 import subprocess
-import threading
 import unittest
 from contextlib import closing
 from dataclasses import replace
@@ -16,6 +15,7 @@ from unittest import mock
 
 import rig
 
+import leading
 import loading
 import stores
 from edits import edit_of
@@ -23,7 +23,7 @@ from entry import Line
 from errors import Mismatch, ServiceError
 from journal import Journal
 from tree import dumped
-from writer import Shown, Task, Writer
+from writer import Task, Writer
 
 #: The bytes that are flipped in a journal, each by itself.
 FLIPS = 150
@@ -87,8 +87,9 @@ class Journals(rig.Case):
         whole = self.room / "whole"
         self.stash(whole)
         for change, text in (
-            ("UPDATE lines SET answer = 'ok ' WHERE number = (SELECT max(number) FROM lines)",
+            ("UPDATE lines SET length = 1 WHERE number = (SELECT max(number) FROM lines)",
              "isn't the one that was written"),
+            ("UPDATE lines SET length = length + 1 WHERE number = 77", "line 77 isn't the one that was written"),
             ("UPDATE lines SET line = 'remove /n1' WHERE number = 5", "line 5 isn't the one that was written"),
             ("UPDATE lines SET who = 'uid:7' WHERE number = 6", "line 6 isn't the one that was written"),
             ("UPDATE lines SET time = time + 1 WHERE number = 7", "line 7 isn't the one that was written"),
@@ -103,8 +104,8 @@ class Journals(rig.Case):
             ("DELETE FROM epochs", "there is no snapshot"),
             ("UPDATE store SET id = 'ab'", "its mark is that of another store"),
             ("UPDATE store SET mapping = 'key'", "the snapshot of epoch"),
-            ("UPDATE store SET version = 9", "it is no journal of version 1"),
-            ("DELETE FROM store", "it is no journal of version 1"),
+            ("UPDATE store SET version = 9", "it is no journal of version 1 or 2"),
+            ("DELETE FROM store", "it is no journal of version 1 or 2"),
             ("DROP TABLE lines", "no such table"),
         ):
             with self.subTest(change):
@@ -135,14 +136,26 @@ class Journals(rig.Case):
         shutil.rmtree(self.store)
         shutil.copytree(where, self.store)
 
-    def test_a_line_that_is_chained_and_refused(self) -> None:
-        """A chain that somebody made again doesn't help: the library refuses the edit."""
+    def test_lines_that_are_chained_and_have_another_outcome(self) -> None:
+        """A chain that somebody made again doesn't help: the library refuses the edit, or publishes another length."""
         self.fill()
-        with stores.opened(self.store) as journal:
-            *_, (last, chain) = journal.lines(0)
-            line = Line(last.epoch, last.number + 1, 0, "uid:0", "", "addo /n1 O:BAG:SYD:", "ok")
-            journal.append([(line, line.chained(journal.store, chain))])
-        self.assert_refused(f"line {line.number}: it is answered 'refused 3 Exists', and was answered 'ok'")
+        whole = self.room / "whole"
+        self.stash(whole)
+        for text, length, said in (
+            ("addo /n1 O:BAG:SYD:", 0, "it was accepted, and is refused: refused 3 Exists"),
+            ("addo /n O:BAG:SYD:", 7, "it publishes 0 edits, and published 7"),
+            ("addo /n X", 0, "it was accepted, and is refused: fault sddl"),
+            ("frob /n", 0, "it was accepted, and is refused: 'frob' is no edit"),
+            ("publish", 71, "it publishes 72 edits, and published 71"),
+            ("publish", 0, "it publishes 72 edits, and published 0"),
+        ):
+            with self.subTest(text, length=length):
+                self.unstash(whole)
+                with stores.opened(self.store) as journal:
+                    *_, (last, chain) = journal.lines(0)
+                    line = Line(last.epoch, last.number + 1, 0, "uid:0", "", text, length)
+                    journal.append([(line, line.chained(journal.store, chain))])
+                self.assert_refused(f"line {line.number}: {said}")
 
     def test_cut_logs(self) -> None:
         """SQLite drops the end of a cut write-ahead log without a word; the mark shows it."""
@@ -196,11 +209,11 @@ class Journals(rig.Case):
         self.stop()
         whole = (self.store / "journal.sqlite").read_bytes()
         with self.database() as database:
-            who, key, line, answer, chain = database.execute(
-                "SELECT who, key, line, answer, chain FROM lines WHERE key = 'k65'").fetchone()
+            who, key, line, chain = database.execute(
+                "SELECT who, key, line, chain FROM lines WHERE key = 'k65'").fetchone()
             (lines,) = database.execute("SELECT lines FROM snapshot ORDER BY epoch LIMIT 1").fetchone()
-        row = f"{who}{key}{line}{answer}".encode() + chain
-        parts = [0, len(who), len(who + key), len(row) - len(chain) - 1, len(row) - 1]
+        row = f"{who}{key}{line}".encode() + chain
+        parts = [0, len(who), len(who + key), len(row) - len(chain), len(row) - 1]
         places = [at + part for at in found(row, whole) for part in parts]
         places += [at for at in found(key.encode(), whole) if at + len(key) not in found(line.encode(), whole)]
         places += found(lines.encode()[:200], whole)
@@ -245,54 +258,34 @@ class Journals(rig.Case):
             said = [journal._database.execute(f"PRAGMA {name}").fetchone() for name in ("journal_mode", "synchronous")]
         self.assertEqual(said, [("wal",), (2,)])
 
-    def test_the_library_s_journal_gets_full(self) -> None:
-        """A new epoch starts however many lines it may have, without a restart; no edit is lost or refused."""
+    def test_a_clock_before_1970(self) -> None:
+        """A line has the time 0 then, which replicas take; they take that of an earlier version too."""
         self.make()
-        shown: "queue.SimpleQueue[Shown]" = queue.SimpleQueue()
-        warned: list[str] = []
-        with mock.patch("writer.MOST_EDITS", 20), stores.opened(self.store) as journal:
-            writer = Writer(journal, loading.load(journal), lambda tasks, now: shown.put(now), warned.append)
-            count = self.edit_until(writer, shown, 4)
-        self.assertGreaterEqual(count, 20)
-        self.assertEqual(warned, [])
-        self.start()
-        self.assertEqual(self.said("tell", f"show 0 /n{count - 1}"),
-                         [f"told {count}", f"seen {count} shown O:BAG:SYD:AI(A;ID;FR;;;BU)"])
-
-    def test_an_epoch_whose_commit_fails(self) -> None:
-        """It may be on disk all the same: the journal is read again, and goes on."""
-        self.make()
-        shown: "queue.SimpleQueue[Shown]" = queue.SimpleQueue()
-        warned: list[str] = []
-        begin = Journal.start_epoch
-
-        def fail(*arguments: object) -> None:
-            begin(*arguments)
-            if not warned:
-                raise sqlite3.OperationalError("disk I/O error")
-
-        with mock.patch.object(Journal, "start_epoch", fail), stores.opened(self.store) as journal:
-            writer = Writer(journal, loading.load(journal), lambda tasks, now: shown.put(now), warned.append, 5)
-            count = self.edit_until(writer, shown, 4)
-        self.assertEqual(warned, ["no new epoch: disk I/O error"])
-        said = f"epoch {writer.state.epoch}, line {2 * count}, published {count}\n"
-        self.assertEqual(rig.run("verify", self.store).stdout, said)
-
-    def edit_until(self, writer: Writer, shown: "queue.SimpleQueue[Shown]", epoch: int) -> int:
-        """Starts it, and has edits made, each published, until the epoch is this one. Returns how many."""
-        count, now = 0, 1
-        writer.start()
-        try:
-            while now < epoch:
-                for line in (f"addo /n{count} O:BAG:SYD:", "publish"):
-                    edit = None if line == "publish" else edit_of(line.split(" "), writer.shown.view)
-                    writer.put(Task(edit, line, "", "uid:0", lambda task: None))
-                count += 1
-                now = shown.get(timeout=rig.PATIENCE).epoch
-                self.assertLess(count, 10_000)
-        finally:
+        done: "queue.SimpleQueue[list[Task]]" = queue.SimpleQueue()
+        with mock.patch("time.time_ns", return_value=-(10**15)), stores.opened(self.store) as journal:
+            writer = Writer(journal, loading.load(journal), lambda tasks, now: done.put(tasks), print)
+            writer.start()
+            edit = edit_of(["addo", "/a", "O:BAG:SYD:"], writer.shown.view)
+            writer.put(Task(edit, edit.line(), "", "uid:0", lambda task: None))
+            self.assertEqual(done.get(timeout=rig.PATIENCE)[0].answer, "ok")
             writer.stop()
-        return count
+            ((line, chain),) = journal.lines(0)
+        self.assertEqual(line.time, 0)
+        for each in (line, line._replace(time=-5)):
+            self.assertEqual(leading.line_in(leading.row_of(each, chain)), (each, chain))
+
+    def test_keys_have_an_index(self) -> None:
+        """However many lines there are, a key is found among them in a few steps."""
+        self.make()
+        steps: list[int] = []
+        with stores.opened(self.store) as journal:
+            lines = [Line(1, number, 0, "uid:0", f"k{number}", "addo /n O:BAG:SYD:", 0) for number in range(1, 1_001)]
+            journal.append([(line, b"") for line in lines])
+            journal._database.set_progress_handler(lambda: steps.append(1), 10)
+            found = [journal.by_key("k7"), journal.by_key("k1001")]
+            journal._database.set_progress_handler(None, 0)
+        self.assertEqual(found, [lines[6], None])
+        self.assertLess(len(steps), 20)
 
     def test_one_process_alone(self) -> None:
         self.make()
@@ -300,43 +293,6 @@ class Journals(rig.Case):
         said = rig.run("run", self.config, status=3).stderr
         self.assertIn("another process serves this store", said)
         self.assertEqual(self.said("tell"), ["told 0"])
-
-    def test_backup_and_restore(self) -> None:
-        self.fill()
-        self.start()
-        stop = threading.Event()
-        edits = threading.Thread(target=self._edit_until, args=(stop,))
-        edits.start()
-        for at in range(3):
-            rig.run("backup", self.store, self.room / f"copy{at}")
-        stop.set()
-        edits.join()
-        self.assertIn("there is a file already", rig.run("backup", self.store, self.room / "copy0", status=2).stderr)
-        rig.run("restore", self.room / "copy1", self.room / "other")
-        self.assertIn("isn't an empty folder", rig.run("restore", self.room / "copy1", self.store, status=2).stderr)
-        store = self.said("status")[0].split(" ")[1]
-        self.said("publish")
-        self.stop()
-        self.store = self.room / "other"
-        self.start()
-        self.assertNotEqual(self.said("status")[0].split(" ")[1], store)
-        self.assertEqual(self.said("publish")[0].split(" ")[0], "published")
-        self.assertEqual(set(self.dumped) - set(self.dump()), set())
-        self.stop()
-        rig.run("verify", self.store)
-        with open(self.room / "copy2", "r+b") as copy:
-            copy.seek(5000)
-            copy.write(b"\xff" * 9000)
-        rig.run("verify", self.room / "copy2", status=1)
-        rig.run("restore", self.room / "copy2", self.room / "third", status=1)
-        self.assertFalse((self.room / "third").exists())
-
-    def _edit_until(self, stop: threading.Event) -> None:
-        with self.connect() as asked:
-            at = 0
-            while not stop.is_set():
-                at += 1
-                assert asked.ask(f"addo /e{at} O:BAG:SYD:") == "ok"
 
     def test_init(self) -> None:
         for dump in ("", "publish\n", "open 1 O:BAG:SYD:\n", "open 1 D:\npublish\n",
@@ -395,17 +351,6 @@ class Journals(rig.Case):
         self.start()
         self.assertEqual(self.said("tell"), [f"told {accepted + 1}"])
         self.stop()
-
-    def mount_small(self) -> Path:
-        """A file system of 1 MiB, until the end of the test."""
-        if os.geteuid() != 0:
-            self.skipTest("root is required for a small file system")
-        small = self.room / "small"
-        small.mkdir()
-        if subprocess.run(["mount", "-t", "tmpfs", "-o", "size=1m", "tmpfs", str(small)], check=False).returncode != 0:
-            self.skipTest("no file system can be mounted here")
-        self.addCleanup(subprocess.run, ["umount", "-l", str(small)], check=False)
-        return small
 
     def fill_journal(self, asked: rig.Lines) -> tuple[int, int]:
         """Edits, and publishes now and then, until one isn't taken. Returns how many edits were, and were published."""

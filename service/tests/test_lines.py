@@ -137,7 +137,22 @@ class Lines(rig.Case):
         with self.connect() as asked:
             asked.send(b"1 tell\n")
             self.assertEqual(asked.read(), b"")
-        self.assertIn("not allowed", [each.get("reason") for each in self.events()])
+        self.wait_for(lambda: "not allowed" in [each.get("reason") for each in self.events()])
+
+    def test_what_a_checker_learns(self) -> None:
+        """All of the tree, and what is pending; nothing of who edited."""
+        self.make()
+        self.start()
+        self.assertEqual(self.said("once key addo /a O:BAG:SYD:"), ["ok"])
+        self.kill()
+        self.start(allow=f'{{"uid:{os.getuid()}" = "check"}}')
+        self.assertEqual(self.dump(), ["open 1 O:BAG:SYD:(A;OICI;FR;;;BU)", "publish"])
+        for asked, first in (("list", "container / O:BAG:SYD:AI(A;OICI;FR;;;BU)"), ("review", "new /a"),
+                             (f"find 0 / {rig.USER} FR BU", "seen 0 found"), ("who / FR", "0x120089 to S-1-5-32-545"),
+                             ("snapshot", "fault role"), ("lines 0", "fault role")):
+            self.assertEqual(self.said(asked), [first])
+        self.assertRegex(self.said("status")[0], "^status [0-9a-f]{32} 1 0  0$")
+        self.assertEqual(self.get("/metrics")[0], 200)
 
     def test_hang_up_takes_another_list(self) -> None:
         self.make()
@@ -210,11 +225,33 @@ class Lines(rig.Case):
             self.assertGreater(time.monotonic() - began, 0.9)
         many = [self.connect() for _ in range(5)]
         self.assertEqual([each.ask("tell") for each in many], ["told 0"] * 5)
-        with self.connect() as beyond:
-            self.assertEqual(beyond.read(), b"")
-        self.assertEqual(many[0].ask("tell"), "told 0")
+        for each in many:
+            # Half a line: none of them is idle.
+            each.send(b"x te")
+        self.assertEqual(self.said_to_a_newcomer(), b"")
+        many[2].send(b"ll\n")
+        self.assertEqual(many[2].read(), b"x told 0\n")
+        self.assertEqual(self.said_to_a_newcomer(), b"x told 0\n")
+        self.assertEqual(many[2].read(), b"")
         for each in many:
             each.close()
+
+    def said_to_a_newcomer(self) -> bytes:
+        with self.connect() as asked, contextlib.suppress(ConnectionError):
+            asked.send(b"x tell\n")
+            return asked.read()
+        return b""
+
+    def test_ids(self) -> None:
+        """Each line of an answer has the id, so that is short; a longer one is refused, without it."""
+        self.make()
+        self.start()
+        with self.connect() as asked:
+            longest = b"i" * 100
+            asked.send(longest + b" tell\n" + longest + b"i tell\n" + longest + b"i dump\n" + longest + b"i publish\n"
+                       + b"x tell\n")
+            said = [asked.read() for _ in range(5)]
+        self.assertEqual(said, [longest + b" told 0\n", b"fault id\n", b"fault id\n", b"fault id\n", b"x told 0\n"])
 
     def test_reads_beside_long_answers(self) -> None:
         """Answers that take long delay no check."""

@@ -8,6 +8,8 @@ from unittest import mock
 
 import rig
 
+from rarely import Rarely
+
 WHO = f"uid:{os.getuid()}"
 
 
@@ -36,6 +38,25 @@ class Operation(rig.Case):
             self.assertEqual(asked.ask(f"check 0 / {rig.USER} FW"), "seen 2 denied 0x120116")
         self.assertEqual((len(self.records("edit")), self.records("denial")), (5, []))
 
+    def test_an_edit_of_who_may_not_edit(self) -> None:
+        """It has a record before its answer, of either protocol; so many at most that they fill no disk."""
+        self.make()
+        self.start(allow=f'{{"{WHO}" = "check"}}')
+        record = {"who": WHO, "key": "", "answer": "fault role", "number": 0}
+        with self.connect() as asked:
+            for at, line in enumerate(("addo /a O:BAG:SYD:", "publish", f"once k remove /{'x' * 2000}")):
+                self.assertEqual(asked.ask(line), "fault role")
+                self.assertEqual(self.records("edit")[at:], [record | {"line": line[:1000]}])
+            with rig.Lines(self.http) as http:
+                http.send(b"POST /v1/edit HTTP/1.1\r\nHost: x\r\nContent-Length: 2\r\n\r\n{}")
+                self.assertEqual(http.read(), b"HTTP/1.1 403 Forbidden\r\n")
+                self.assertEqual(self.records("edit")[3:], [record | {"line": "POST /v1/edit"}])
+            asked.send(b"x publish\n" * 1000)
+            said = [asked.read() for _ in range(1000)]
+        self.assertEqual(set(said), {b"x fault role\n", b"x unavailable busy\n"})
+        self.assertEqual(len(self.records("edit")), 4 + said.count(b"x fault role\n"))
+        self.assertLess(len(self.records("edit")), 1001)
+
     def test_denials(self) -> None:
         self.make()
         self.start(more="[log]\ndenials = true")
@@ -43,8 +64,18 @@ class Operation(rig.Case):
                  f"check 0 /x {rig.USER} FW"]
         answers = ["seen 0 granted 0x120089", "seen 0 denied 0x116", "seen 0 denied 0x120116, nonode", "seen 0 nonode"]
         self.assertEqual(self.said(*asked), answers)
-        self.assertEqual(self.records("denial"), [
-            {"who": WHO, "asked": asked[at], "answer": answers[at]} for at in (1, 2)])
+        wanted = [{"who": WHO, "asked": asked[at], "answer": answers[at]} for at in (1, 2)]
+        self.wait_for(lambda: self.records("denial") == wanted)
+
+    def test_a_warning_that_comes_again(self) -> None:
+        """It is there once a minute, with how often it came."""
+        said: list[str] = []
+        warn = Rarely(said.append)
+        for at in (0, 1, 59.9, 60, 61, 180):
+            with mock.patch("clock.now", return_value=1000 + at):
+                warn("no disk")
+        warn("no source")
+        self.assertEqual(said, ["no disk", "no disk (and 2 times before)", "no disk (and 1 times before)", "no source"])
 
     def test_what_systemd_is_sent(self) -> None:
         self.make()

@@ -1,0 +1,64 @@
+"""A request of HTTP, and what it is answered."""
+
+from collections.abc import Callable, Coroutine
+from dataclasses import dataclass
+from http import HTTPStatus
+from typing import Any, Protocol
+
+from caller import Caller
+from json_request import Given
+from service import Service
+from writer import Shown
+
+
+@dataclass(frozen=True, slots=True)
+class Response:
+    """A status, and an object for JSON, or its bytes, or a plain text."""
+
+    status: HTTPStatus
+    body: dict[str, Any] | bytes | str
+
+
+class Asker(Protocol):
+    """The connection of a request."""
+
+    def start_long(self, work: Coroutine[Any, Any, None]) -> None:
+        """Has the answer made by a task, until the client leaves."""
+
+    def hold(self, count: int) -> None:
+        """The answer has so many bytes so far."""
+
+
+@dataclass(frozen=True, slots=True)
+class Request:
+    """A request, whose answer is one call of `reply`, now or later."""
+
+    service: Service
+    caller: Caller
+    reply: Callable[[Response], None]
+    asker: Asker
+    given: Given = Given({}, "json")
+
+
+_STATUSES = {
+    "fault role": HTTPStatus.FORBIDDEN,
+    "fault content-type": HTTPStatus.UNSUPPORTED_MEDIA_TYPE,
+    "fault key": HTTPStatus.CONFLICT,
+    "fault published": HTTPStatus.CONFLICT,
+    "nonode": HTTPStatus.NOT_FOUND,
+    "nonotice": HTTPStatus.CONFLICT,
+}
+
+
+def fault_response(answer: str) -> Response:
+    """The response to what isn't carried out: the line's answer without its first word."""
+    if answer.startswith("unavailable"):
+        return Response(HTTPStatus.SERVICE_UNAVAILABLE, {"unavailable": answer.partition(" ")[2]})
+    status = _STATUSES.get(answer, HTTPStatus.BAD_REQUEST)
+    return Response(status, {"fault": answer.removeprefix("fault ")})
+
+
+def state_of(request: Request, shown: Shown | None = None) -> dict[str, Any]:
+    """What each answer says of the store: of what is published now, or was when the answer was made."""
+    shown = shown or request.service.shown
+    return {"store": request.service.store, "epoch": shown.epoch, "seen": shown.length}

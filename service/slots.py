@@ -1,0 +1,92 @@
+"""How many clients are connected: in all, at each place to listen, and of each client.
+
+Connections that ask nothing keep nobody out: a newcomer gets the slot of one of these, of the client that has most. The
+last slots are for who may follow or edit."""
+
+import sys
+from collections import Counter
+from typing import Protocol
+
+from config import Limits
+
+#: Of so many slots one is for who may follow or edit.
+_RESERVE = 8
+_RESERVED_FOR = ("follow", "edit")
+_ALL, _UNRESERVED = "all", "without a reserve"
+
+
+class Slotted(Protocol):
+    """A connection whose client is known."""
+
+    @property
+    def who(self) -> str:
+        """Whose it is."""
+
+    @property
+    def role(self) -> str:
+        """What that may do."""
+
+    @property
+    def place(self) -> str:
+        """The name of where it is connected."""
+
+    @property
+    def idle_since(self) -> float | None:
+        """Since when it asks nothing; None while it does."""
+
+    def reject(self, reason: str) -> None:
+        """Ends it at once."""
+
+
+class Slots:
+    """The connections that have a slot. All calls are made in the event loop's thread."""
+
+    def __init__(self, limits: Limits) -> None:
+        self._limits = limits
+        #: Each with what it counts for: its client, its listener, all, and those without a reserve.
+        self._connections: dict[Slotted, tuple[str, ...]] = {}
+        self._counts: Counter[str] = Counter()
+
+    def __len__(self) -> int:
+        return len(self._connections)
+
+    def take(self, newcomer: Slotted) -> str:
+        """Gives the connection a slot, and returns an empty text; otherwise the reason why it has none."""
+        limits = self._limits
+        bounds = [
+            (sys.intern(f"client {newcomer.who}"), limits.connections_of_client, "too many of the client"),
+            (sys.intern(f"listener {newcomer.place}"), limits.connections_of_listener, "too many of the listener"),
+            (_ALL, limits.connections, "too many connections"),
+        ]
+        if newcomer.role not in _RESERVED_FOR:
+            bounds.append((_UNRESERVED, limits.connections - limits.connections // _RESERVE, "too many connections"))
+        for group, most, reason in bounds:
+            if self._counts[group] >= most:
+                rivals = [one for one, groups in self._connections.items() if group in groups]
+                if not _make_room(newcomer, rivals):
+                    return reason
+        self._connections[newcomer] = tuple(group for group, _, _ in bounds)
+        self._counts.update(self._connections[newcomer])
+        return ""
+
+    def give(self, connection: Slotted) -> None:
+        """Its slot is free."""
+        for group in self._connections.pop(connection, ()):
+            self._counts[group] -= 1
+            if not self._counts[group]:
+                del self._counts[group]
+
+
+def _make_room(newcomer: Slotted, rivals: list[Slotted]) -> bool:
+    """Ends the rival that has asked nothing for longest, of a client that has most of them: of another one only if that
+    has more than the newcomer's will have. False: all of these are asking."""
+    counts = Counter(one.who for one in rivals)
+    most = max(counts.values())
+    clients = {who for who, count in counts.items() if count == most}
+    if counts[newcomer.who] + 1 >= most:
+        clients = {newcomer.who}
+    idle = [(one.idle_since, at) for at, one in enumerate(rivals) if one.who in clients and one.idle_since is not None]
+    if not idle:
+        return False
+    rivals[min(idle)[1]].reject("displaced")
+    return True

@@ -1,0 +1,147 @@
+"""Edits that are made all or none: beside those of others, where a commit fails, and under kills."""
+
+import contextlib
+import json
+import queue
+import random
+import sqlite3
+import time
+import unittest
+from unittest import mock
+
+import rig
+
+import loading
+import stores
+from edits import edit_of
+from journal import Journal
+from task import NOT_FOR_THIS, UNMADE, Task
+from tree import dumped
+from writer import UNAVAILABLE, Shown, Writer
+
+ADD = "addo /{} O:BAG:SYD:"
+
+
+class Batches(rig.Case):
+    """A writer of its own, to which tasks are put as the service puts them."""
+
+    def setUp(self) -> None:
+        super().setUp()
+        self.make()
+        opened = stores.opened(self.store)
+        self.journal = opened.__enter__()
+        self.addCleanup(opened.__exit__, None, None, None)
+        self.answered: "queue.SimpleQueue[tuple[list[Task], Shown]]" = queue.SimpleQueue()
+        self.warned: list[str] = []
+        self.writer = Writer(self.journal, loading.load(self.journal),
+                             lambda tasks, shown: self.answered.put((tasks, shown)), self.warned.append)
+
+    def task(self, *lines: str, key: str = "", only_if: int | None = None) -> Task:
+        """Several edits, all or none, or the one."""
+        parts = [Task(None if line == "publish" else edit_of(line.split(" "), self.writer.shown.view), line,
+                      f"{key}/{at}" if key else "", "uid:0", lambda task: None) for at, line in enumerate(lines)]
+        if len(parts) == 1 and only_if is None:
+            return parts[0]
+        return Task(None, "", "", "uid:0", lambda task: None, parts=parts, only_if=only_if)
+
+    def run_all(self, *tasks: Task) -> list[list[str]]:
+        """The answers of all, which are there as the writer starts: they share commits."""
+        for each in tasks:
+            self.writer.put(each)
+        self.writer.start()
+        left = len(tasks)
+        while left:
+            done, self.shown = self.answered.get(timeout=rig.PATIENCE)
+            left -= len(done)
+        self.writer.stop()
+        for each in tasks:
+            each.settle()
+        return [[part.answer for part in each.each] for each in tasks]
+
+    def nodes(self) -> list[str]:
+        """Those of the tree that a start makes, pending edits too."""
+        state = loading.load(self.journal)
+        with state.tree.pending_view() as view:
+            return [line.split(" ")[1] for line in dumped(view) if line.startswith("addo ")]
+
+    def test_beside_those_of_others(self) -> None:
+        """In one commit: what isn't made leaves what was before it, and what comes after."""
+        answers = self.run_all(
+            self.task(ADD.format("before")),
+            self.task(ADD.format("x"), ADD.format("y"), "remove /none", "publish"),
+            self.task(ADD.format("after")),
+            self.task(ADD.format("x"), "publish", key="k", only_if=0),
+            self.task(ADD.format("z"), "publish", only_if=0),
+            self.task("remove /x", "remove /x", "publish"),
+            self.task(ADD.format("x"), "publish", key="k", only_if=0),
+            self.task(ADD.format("w"), "publish", key="k"),
+        )
+        self.assertEqual(answers, [
+            ["ok"], [UNMADE, UNMADE, "refused 4 NoNode", UNMADE], ["ok"], ["ok", "published 3"], [NOT_FOR_THIS] * 2,
+            [UNMADE, "refused 4 NoNode", UNMADE], ["ok", "published 3"], ["fault key"] * 2])
+        self.assertEqual((self.shown.length, self.shown.last.number, self.warned), (3, 4, []))
+        self.assertEqual(sorted(self.nodes()), ["/after", "/before", "/x"])
+
+    def test_a_commit_that_fails(self) -> None:
+        """None of them was made, and the next ones are."""
+        append = Journal.append
+
+        def fail(journal: Journal, lines: list[object]) -> None:
+            if len(lines) == 3:
+                raise sqlite3.OperationalError("disk I/O error")
+            append(journal, lines)
+
+        with mock.patch.object(Journal, "append", fail), mock.patch("writer.MOST_AT_ONCE", 1):
+            answers = self.run_all(self.task(ADD.format("a"), ADD.format("b"), "publish"),
+                                   self.task(ADD.format("a"), "publish"))
+        self.assertEqual(answers, [[UNAVAILABLE] * 3, ["ok", "published 1"]])
+        self.assertEqual(self.nodes(), ["/a"])
+
+    def test_memory(self) -> None:
+        """Out of memory at any of them: none is made."""
+        with mock.patch("tree.Tree.publish", side_effect=MemoryError):
+            answers = self.run_all(self.task(ADD.format("a"), "publish"), self.task(ADD.format("b")))
+        self.assertEqual(answers, [[UNMADE, "unavailable memory"], ["ok"]])
+        self.assertEqual(self.nodes(), ["/b"])
+
+    def test_many_share_no_commit(self) -> None:
+        """A commit has no more values than SQLite takes."""
+        sizes: list[int] = []
+        append = Journal.append
+        with mock.patch.object(Journal, "append", lambda journal, lines: (sizes.append(len(lines)),
+                                                                          append(journal, lines))):
+            self.run_all(*(self.task(*(ADD.format(f"{at}.{one}") for one in range(1000))) for at in range(6)))
+        self.assertEqual(sum(sizes), 6000)
+        self.assertLess(max(sizes) * 8, 32_766)
+
+
+class Kills(rig.Case):
+    def test_kills(self) -> None:
+        """After a kill each request's edits are there, and published, or none of them is."""
+        self.make()
+        chance, made = random.Random(3), 0
+        for _ in range(6):
+            self.start()
+            end = time.monotonic() + chance.random() * 0.2
+            while time.monotonic() < end:
+                made += 1
+                self.send(made)
+            time.sleep(chance.random() * 0.01)
+            self.kill()
+        self.start()
+        found = {line.split(" ")[1] for line in self.dump() if line.startswith("addo")}
+        one, other = ({path[2:] for path in found if path[1] == name} for name in "ab")
+        self.assertEqual(one, other)
+        self.assertGreater(len(one), 0)
+
+    def send(self, number: int) -> None:
+        """A request, whose answer nobody waits for."""
+        edits = [{"edit": "addo", "path": f"/{name}{number}", "descriptor": "O:BAG:SYD:"} for name in "ab"]
+        body = json.dumps({"edits": edits, "publish": True})
+        with contextlib.suppress(OSError), rig.connected(self.http) as asked:
+            asked.sendall(f"POST /v1/edit HTTP/1.1\r\nHost: x\r\nContent-Type: application/json\r\n"
+                          f"Content-Length: {len(body)}\r\n\r\n{body}".encode())
+
+
+if __name__ == "__main__":
+    unittest.main()

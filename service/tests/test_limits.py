@@ -1,0 +1,223 @@
+"""Who may make whom wait: slots, memory, and the time of the loop, each of which one client can't have alone."""
+
+import asyncio
+import contextlib
+import os
+import subprocess
+import sys
+import time
+import unittest
+from dataclasses import dataclass, field
+from types import SimpleNamespace
+from typing import Any
+
+import rig
+
+from config import Limits
+from errors import Fault
+from held import Held
+from service import Service
+from slots import Slots
+from task import Task
+from turn import Turn
+
+NOBODY = 65_534
+#: As another user connects so often to a socket and sends a text over each; says so, and holds them until its input
+#: ends.
+CROWD = """
+import os, socket, sys
+user, where, count, text = int(sys.argv[1]), sys.argv[2], int(sys.argv[3]), sys.argv[4].encode()
+os.setgroups([])
+os.setresgid(user, user, user)
+os.setresuid(user, user, user)
+held = []
+for _ in range(count):
+    made = socket.socket(socket.AF_UNIX)
+    made.connect(where)
+    try:
+        made.sendall(text)
+    except OSError:
+        pass
+    held.append(made)
+print("there", flush=True)
+sys.stdin.read()
+"""
+
+
+@dataclass(eq=False)
+class Fake:
+    """A connection."""
+
+    who: str
+    role: str = "check"
+    place: str = "lines"
+    idle_since: float | None = 0.0
+    slow_since: float = 0.0
+    reasons: list[str] = field(default_factory=list)
+    slots: Slots | None = None
+
+    def reject(self, reason: str) -> None:
+        self.reasons.append(reason)
+        if self.slots is not None:
+            self.slots.give(self)
+
+
+class SlotTests(unittest.TestCase):
+    """Of 16 slots two are for who may follow or edit; a listener has twelve, and a client eight."""
+
+    def setUp(self) -> None:
+        self.slots = Slots(Limits(connections=16, connections_of_listener=12, connections_of_client=8))
+
+    def take(self, *clients: str, **others: Any) -> tuple[list[Fake], list[str]]:
+        """Connections of these clients that take slots, and the reasons of those that get none."""
+        made = [Fake(who, slots=self.slots, **others) for who in clients]
+        return made, [reason for each in made if (reason := self.slots.take(each))]
+
+    def test_of_a_client(self) -> None:
+        made, reasons = self.take(*"aaaaaaaa", idle_since=None)
+        self.assertEqual((reasons, self.take("a")[1]), ([], ["too many of the client"]))
+        made[3].idle_since = 7.0
+        self.assertEqual((self.take("a", idle_since=None)[1], made[3].reasons), ([], ["displaced"]))
+
+    def test_of_a_listener(self) -> None:
+        self.take(*"abcdefghijkl", idle_since=None)
+        self.assertEqual(self.take("m")[1], ["too many of the listener"])
+        self.assertEqual(self.take("m", place="http")[1], [])
+
+    def test_a_reserve(self) -> None:
+        """Who may follow or edit has a slot where all others are taken."""
+        self.take(*"abcdefghijkl", idle_since=None)
+        self.assertEqual(self.take("m", "n", "o", place="http", idle_since=None)[1], ["too many connections"])
+        self.assertEqual(self.take("x", "y", role="edit", place="http", idle_since=None)[1], [])
+        self.assertEqual(self.take("z", role="follow", place="http")[1], ["too many connections"])
+
+    def test_the_longest_idle_of_who_has_most(self) -> None:
+        most, _ = self.take(*"aaaaaaaa", idle_since=5.0)
+        few, _ = self.take(*"bbbb", idle_since=1.0)
+        most[4].idle_since = 2.0
+        self.assertEqual(self.take("c")[1], [])
+        self.assertEqual([each.reasons for each in most if each.reasons], [["displaced"]])
+        self.assertEqual(most[4].reasons, ["displaced"])
+        self.assertEqual([each.reasons for each in few], [[]] * 4)
+
+
+class HeldTests(unittest.TestCase):
+    def test_the_slowest_of_who_holds_most(self) -> None:
+        held = Held(100)
+        one, other, slow, quick = Fake("a"), Fake("b"), Fake("b", slow_since=-1.0), Fake("b", slow_since=9.0)
+        for each, count in ((one, 40), (other, 20), (slow, 20), (quick, 20)):
+            held.set(each, count)
+        self.assertEqual((held.total, slow.reasons), (100, []))
+        held.set(one, 41)
+        self.assertEqual((held.total, slow.reasons, one.reasons, other.reasons), (81, ["memory"], [], []))
+        held.set(one, 100)
+        self.assertEqual((held.total, one.reasons, other.reasons), (40, ["memory"], []))
+        held.forget(other)
+        held.forget(other)
+        self.assertEqual(held.total, 20)
+
+
+class TurnTests(unittest.TestCase):
+    def test_connections_share_a_turn(self) -> None:
+        """Of a client's connections with much to do each goes on, one after the other; another client isn't late."""
+
+        class Worker:
+            def __init__(self, turn: Turn) -> None:
+                self.turn, self.count, self.late = turn, 0, 0.0
+
+            def proceed(self) -> None:
+                while not self.turn.is_over():
+                    self.count += 1
+                    time.sleep(0.000_1)
+                self.turn.again(self)
+
+        async def work() -> tuple[list[int], list[float]]:
+            turn = Turn()
+            many = [Worker(turn) for _ in range(100)]
+            for each in many:
+                each.proceed()
+            rounds, end = list[float](), time.monotonic() + 2
+            while time.monotonic() < end:
+                began = time.monotonic()
+                await asyncio.sleep(0)
+                rounds.append(time.monotonic() - began)
+            return [each.count for each in many], rounds
+
+        counts, rounds = asyncio.run(work())
+        self.assertGreater(min(counts), 0)
+        self.assertLess(sorted(rounds)[len(rounds) // 2], 0.05)
+
+
+class EditTests(unittest.TestCase):
+    def test_edits_in_progress(self) -> None:
+        """Their number has a limit, and so have their characters."""
+        service: Any = SimpleNamespace(
+            _writer=SimpleNamespace(leads=True), is_stopping=False, log=SimpleNamespace(takes_records=True),
+            limits=Limits(), _edits=4_000, _edit_length=(1 << 26) - 100)
+        def task(count: int, length: int) -> Task:
+            parts = [Task(None, "x" * (length if at == 0 else 0), "", "a", print) for at in range(count)]
+            return Task(None, "", "", "a", print, parts=parts)
+
+        for count, length in ((97, 100), (96, 101)):
+            with self.assertRaises(Fault) as busy:
+                Service._begin(service, task(count, length))
+            self.assertEqual(busy.exception.answer, "unavailable busy")
+        Service._begin(service, task(96, 100))
+        self.assertEqual((service._edits, service._edit_length), (4_096, 1 << 26))
+
+
+class Limited(rig.Case):
+    def crowd(self, count: int, text: str) -> None:
+        """So many connections of another user, who has sent this over each."""
+        if os.geteuid() != 0:
+            self.skipTest("root is required for a process of another user")
+        self.room.chmod(0o711)
+        words = map(str, (NOBODY, self.lines, count, text))
+        child = subprocess.Popen([sys.executable, "-c", CROWD, *words], stdin=subprocess.PIPE, stdout=subprocess.PIPE)
+        self.addCleanup(child.wait)
+        self.addCleanup(child.kill)
+        for each in (child.stdin, child.stdout):
+            self.addCleanup(each.close)
+        self.assertEqual(child.stdout.readline(), b"there\n")
+
+    def test_a_crowd_keeps_no_editor_out(self) -> None:
+        """Neither idle connections nor half lines of one user take the slots of another one."""
+        self.make()
+        allow = f'{{"uid:{NOBODY}" = "check", "uid:0" = "edit"}}'
+        self.start("connections = 16\nrequest_seconds = 600", allow=allow)
+        for text in ("", "1 te"):
+            self.crowd(40, text)
+            for at in range(5):
+                self.assertEqual(self.said(f"addo /n{at} O:BAG:SYD:", f"remove /n{at}"), ["ok"] * 2)
+            self.assertEqual(self.get("/readyz")[0], 200)
+
+    def test_answers_that_are_not_taken(self) -> None:
+        """All together have one limit: the slowest end, and who takes its answers gets them."""
+        nodes = "".join(f"addo /n{at} O:BAG:SYD:{'(A;;FR;;;BU)' * 20}\n" for at in range(4_000))
+        self.make(f"open 1 O:BAG:SYD:(A;OICI;FR;;;BU)\n{nodes}publish\n")
+        self.start("held_bytes = 6_000_000\nrequest_seconds = 600\nlong_answers = 4")
+        with contextlib.ExitStack() as stack:
+            slow = [stack.enter_context(self.connect()) for _ in range(12)]
+            for each in slow:
+                each.send(b"x dump\n")
+                self.assertEqual(each.read(), b"x open 1 O:BAG:SYD:(A;OICI;FR;;;BU)\n")
+            self.wait_for(lambda: self.metrics().get('sdstored_rejected_total{reason="memory"}', 0) >= 4)
+            self.assertLessEqual(self.metrics()["sdstored_held_bytes"], 6_000_000)
+            self.assertEqual(len(self.dump()), 4_002)
+            self.assertEqual(self.said("tell"), ["told 4000"])
+
+    def test_half_requests(self) -> None:
+        """They count as well."""
+        self.make()
+        self.start("held_bytes = 6_000_000\nrequest_seconds = 600")
+        with contextlib.ExitStack() as stack:
+            for _ in range(20):
+                one = stack.enter_context(self.connect())
+                with contextlib.suppress(ConnectionError):
+                    one.send(b"x tell " + b"y" * 1_000_000)
+            self.wait_for(lambda: self.metrics().get('sdstored_rejected_total{reason="memory"}', 0) >= 10)
+            self.assertEqual(self.said("tell"), ["told 0"])
+
+
+if __name__ == "__main__":
+    unittest.main()

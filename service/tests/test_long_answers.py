@@ -1,0 +1,260 @@
+"""Answers that take long: clients take turns, each is bounded in time, and ends when nobody waits for it."""
+
+import asyncio
+import contextlib
+import threading
+import time
+import unittest
+from collections.abc import Callable
+
+import rig
+
+from analysis import gathered
+from client import Client
+from deadline import LATE, Deadline
+from errors import Fault
+from long_answers import BUSY, OF_CLIENT, STOPPING, LongAnswers, Work
+
+#: The nodes of a tree of which a review takes long, if each of them changes.
+NODES = 6_000
+
+
+class Making(unittest.IsolatedAsyncioTestCase):
+    """Answers of works that a test ends."""
+
+    async def asyncSetUp(self) -> None:
+        self.go_on, self.began = threading.Event(), list[str]()
+        self.addCleanup(self.go_on.set)
+
+    def ask(self, answers: LongAnswers, who: str, kind: str = "check", ends: bool = True) -> "asyncio.Task[bytes]":
+        """Asks for an answer, which is there once the test goes on; or else once nobody waits for it."""
+
+        def work(deadline: Deadline) -> bytes:
+            self.began.append(who)
+            while not (ends and self.go_on.is_set()):
+                deadline.require()
+                time.sleep(0.001)
+            return who.encode()
+
+        async def prepare(deadline: Deadline) -> Work:
+            return lambda: work(deadline)
+
+        return asyncio.create_task(answers.made(kind, who, prepare, lambda count: None))
+
+    async def until(self, is_so: Callable[[], bool]) -> None:
+        end = time.monotonic() + rig.PATIENCE
+        while not is_so():
+            self.assertLess(time.monotonic(), end)
+            await asyncio.sleep(0.001)
+
+    async def test_clients_take_turns(self) -> None:
+        """A client that asks much has one answer made at a time, and another one's is next."""
+        self.go_on.set()
+        answers = LongAnswers(1, rig.PATIENCE)
+        await asyncio.gather(*(self.ask(answers, who) for who in "aaaabcb"))
+        self.assertEqual("".join(self.began), "abcabaa")
+        self.go_on.clear()
+        answers = LongAnswers(2, rig.PATIENCE)
+        asked = [self.ask(answers, who) for who in "aab"]
+        await self.until(lambda: len(self.began) == 9)
+        self.go_on.set()
+        await asyncio.gather(*asked)
+        self.assertEqual("".join(self.began[7:9]), "ab")
+
+    async def test_too_many_of_a_client(self) -> None:
+        answers = LongAnswers(1, rig.PATIENCE)
+        asked = [self.ask(answers, "a") for _ in range(OF_CLIENT)]
+        await self.until(lambda: len(self.began) == 1)
+        with self.assertRaises(Fault) as busy:
+            await self.ask(answers, "a")
+        self.assertEqual(busy.exception.answer, BUSY)
+        other = self.ask(answers, "b")
+        self.go_on.set()
+        self.assertEqual(await other, b"b")
+        await asyncio.gather(*asked)
+        self.assertEqual(await self.ask(answers, "a"), b"a")
+
+    async def test_each_kind_has_its_own(self) -> None:
+        """What checkers ask delays neither replicas nor administrators."""
+        answers = LongAnswers(1, rig.PATIENCE)
+        asked = [self.ask(answers, who) for who in "abcdef"]
+        others = [self.ask(answers, who, kind) for who, kind in (("x", "follow"), ("y", "edit"))]
+        await self.until(lambda: len(self.began) == 3)
+        self.assertEqual(self.began, ["a", "x", "y"])
+        self.go_on.set()
+        await asyncio.gather(*asked, *others)
+
+    async def test_late(self) -> None:
+        """An answer that takes longer than it may, or waits for longer, is named; the next one has its turn."""
+        answers = LongAnswers(1, 0.3)
+        began = time.monotonic()
+        asked = [self.ask(answers, who, ends=False) for who in "ab"]
+        for each in asked:
+            with self.assertRaises(Fault) as late:
+                await each
+            self.assertEqual(late.exception.answer, LATE)
+        self.assertLess(time.monotonic() - began, 2)
+        self.go_on.set()
+        self.assertEqual(await self.ask(answers, "c"), b"c")
+
+    async def test_a_work_that_can_not_be_ended(self) -> None:
+        """Its client has an answer in time; its turn goes on until it ends."""
+        answers = LongAnswers(1, 0.3)
+
+        async def prepare(deadline: Deadline) -> Work:
+            return lambda: bytes(self.go_on.wait(rig.PATIENCE))
+
+        with self.assertRaises(Fault) as late:
+            await answers.made("check", "a", prepare, lambda count: None)
+        self.assertEqual(late.exception.answer, LATE)
+        with self.assertRaises(Fault):
+            await self.ask(answers, "b")
+        self.assertEqual(self.began, [])
+        self.go_on.set()
+        self.assertEqual(await self.ask(answers, "c"), b"c")
+
+    async def test_clients_that_leave(self) -> None:
+        """Whether its answer is being made or waits: the next client has its turn."""
+        answers = LongAnswers(1, rig.PATIENCE)
+        asked = [self.ask(answers, who, ends=False) for who in "abb"]
+        await self.until(lambda: len(self.began) == 1)
+        for each in asked:
+            each.cancel()
+        self.go_on.set()
+        self.assertEqual(await self.ask(answers, "c"), b"c")
+        self.assertEqual(self.began, ["a", "c"])
+
+    async def test_a_failure(self) -> None:
+        """Whatever is raised: whoever asked learns of it, and the next question has its turn."""
+        answers = LongAnswers(1, rig.PATIENCE)
+
+        async def fail(deadline: Deadline) -> Work:
+            raise KeyError("unexpected")
+
+        async def fail_later(deadline: Deadline) -> Work:
+            return lambda: [][1]
+
+        for prepare, kind in ((fail, KeyError), (fail_later, IndexError)):
+            with self.assertRaises(kind):
+                await answers.made("check", "a", prepare, lambda count: None)
+        self.go_on.set()
+        self.assertEqual(await self.ask(answers, "b"), b"b")
+
+    async def test_a_stop(self) -> None:
+        answers = LongAnswers(1, rig.PATIENCE)
+        asked = [self.ask(answers, who, ends=False) for who in "ab"]
+        await self.until(lambda: len(self.began) == 1)
+        began = time.monotonic()
+        await answers.stop()
+        for each in (*asked, self.ask(answers, "c")):
+            with self.assertRaises(Fault) as stopping:
+                await each
+            self.assertEqual(stopping.exception.answer, STOPPING)
+        self.assertLess(time.monotonic() - began, 1)
+
+    def test_an_answer_that_is_too_long(self) -> None:
+        held: list[int] = []
+        with self.assertRaises(Fault) as large:
+            gathered((b"x" * (1 << 20) for _ in range(300)), Deadline(rig.PATIENCE, held.append))
+        self.assertEqual(large.exception.answer, "unavailable large")
+        self.assertEqual(held[:2], [1 << 20, 2 << 20])
+
+
+class Services(rig.Case):
+    def make_slow(self, nodes: int = NODES, **options: str) -> None:
+        """A service with a review that takes long: each node changes, and each in another way."""
+        lines = "".join(f"addo /n{at} O:BAG:SYD:(A;;FR;;;S-1-5-21-1-2-3-{at})\n" for at in range(nodes))
+        self.make(f"open 1 O:BAG:SYD:(A;OICI;FR;;;BU)\n{lines}publish\n")
+        self.start(**options)
+        self.assertEqual(self.said("dacl / D:(A;OICI;FA;;;BU)"), ["ok"])
+
+    def review(self, stack: contextlib.ExitStack, count: int) -> list[rig.Lines]:
+        """Connections that have asked for a review, each with many words of other work before it is there."""
+        asked = [stack.enter_context(self.connect()) for _ in range(count)]
+        for each in asked:
+            each.send(b"x review\n")
+        self.wait_for(lambda: self.said("tell")[0].startswith("told"))
+        return asked
+
+    def test_replicas_beside_reviews(self) -> None:
+        """A replica has its lines in time, however many reviews are asked for."""
+        self.make_slow()
+        other = rig.Case()
+        other.setUp()
+        self.addCleanup(other.doCleanups)
+        other.start(more=f'[leader]\nunix = "{self.lines}"\nmax_age_seconds = 1')
+        other.wait_for(lambda: other.get("/readyz")[0] == 200)
+        with contextlib.ExitStack() as stack:
+            self.review(stack, OF_CLIENT)
+            ages, end = [], time.monotonic() + 3
+            while time.monotonic() < end:
+                self.assertEqual(other.get("/readyz"), (200, "ready\n"))
+                ages.append(other.metrics()["sdstored_replica_age_seconds"])
+                time.sleep(0.05)
+        self.assertLess(max(ages), 1)
+
+    def test_a_stop_during_reviews(self) -> None:
+        self.make_slow()
+        with contextlib.ExitStack() as stack:
+            asked = self.review(stack, OF_CLIENT)
+            began = time.monotonic()
+            self.stop()
+            self.assertLess(time.monotonic() - began, 4)
+            self.assertEqual([each.rest() for each in asked[1:]], [b"x unavailable stopping\nx \n"] * (OF_CLIENT - 1))
+
+    def test_late(self) -> None:
+        self.make_slow(limits="long_seconds = 1\nlong_answers = 1")
+        with self.connect() as asked:
+            began = time.monotonic()
+            asked.send(b"x review\nx tell\n")
+            said = [asked.read() for _ in range(3)]
+            self.assertEqual(said, [b"x unavailable late\n", b"x \n", b"x told %d\n" % NODES])
+            self.assertLess(time.monotonic() - began, 3)
+
+    def test_who_leaves_has_no_turn(self) -> None:
+        """The next question doesn't wait for the reviews of clients that have left, of either protocol."""
+        self.make_slow(limits="long_answers = 1")
+        head = "POST /v1/review HTTP/1.1\r\nHost: x\r\nContent-Type: application/json\r\nContent-Length: 2\r\n\r\n"
+        request = f"{head}{{}}".encode()
+        began = time.monotonic()
+        for where, asks in ((self.lines, b"x review\n"), (self.http, request), (self.lines, b"x review\n")):
+            with rig.Lines(where) as asked:
+                asked.send(asks)
+                time.sleep(0.2)
+        with self.connect() as asked:
+            asked.send(b"x list /n7\n")
+            self.assertTrue(asked.read().startswith(b"x object /n7 "))
+        self.assertLess(time.monotonic() - began, 6)
+
+    def test_many_words(self) -> None:
+        """Checks of a long list by a token of many words: they are answered as ever, and delay nobody."""
+        entries = "".join(f"(A;;FR;;;S-1-5-21-1-2-3-{at})" for at in range(1_750))
+        self.make(f"open 1 O:BAG:SYD:(A;OICI;FR;;;BU)\naddo /big O:BAG:SYD:{entries}\npublish\n")
+        self.start()
+        words = [f"S-1-5-21-9-9-9-{at}" for at in range(2_040)]
+        line = f"checks 0 1000{' /big' * 1_000} {rig.USER} FR BU {' '.join(words)}"
+        with self.connect() as long, self.connect() as other:
+            answered, said = threading.Event(), list[bytes]()
+            reader = threading.Thread(target=lambda: (said.append(long.read()), answered.set()))
+            reader.start()
+            long.send(f"x {line}\n".encode())
+            times = []
+            while not answered.is_set():
+                began = time.monotonic()
+                self.assertEqual(other.ask(f"check 0 /big {rig.USER} FR BU"), "seen 1 granted 0x120089")
+                times.append(time.monotonic() - began)
+            reader.join()
+            self.assertEqual(said, [f"x seen 1 {', '.join(['granted 0x120089'] * 1000)}\n".encode()])
+            self.assertLess(max(times), 0.5)
+            # Once it is parsed a token is checked at one path as any other.
+            self.assertEqual(other.ask(f"check 0 /big {rig.USER} FR BU {' '.join(words)}"), "seen 1 granted 0x120089")
+            self.assertEqual(other.ask(line.replace("/big", "big", 1)), "fault path")
+            self.assertEqual(other.ask(f"delete 0 /big {rig.USER} BU {' '.join(words)}"), "seen 1 denied")
+        with Client(str(self.lines), timeout=rig.PATIENCE) as client:
+            verdict, reasons = client.why("/big", rig.USER, "0x1", ["BU", *words])
+            self.assertEqual((verdict.kind, len(reasons)), ("granted", 1))
+        self.assertEqual(self.metrics()['sdstored_checks_total{verdict="granted"}'], 1_001 + len(times))
+
+
+if __name__ == "__main__":
+    unittest.main()
