@@ -12,8 +12,9 @@ from table import Table, say
 
 _DESCRIPTION = "Reads the descriptors of file systems into scripts for sdstore, and writes changes back."
 _END = """\
-statuses: 0 done; 1 a node is skipped, has a finding or forbids the write; 2 invalid arguments or input; 3 a read or
-write failed. The table is on standard output, messages are on standard error."""
+statuses: 0 done, and an answer leaves nothing out; 1 a node is skipped by read, has a finding, gains or loses rights,
+or forbids the write; 2 invalid arguments or input; 3 a read or write failed; 4 the answer, or the write, leaves nodes
+out, which rows name. The table is on standard output, messages are on standard error."""
 
 
 def main(words: Sequence[str] | None = None) -> int:
@@ -133,6 +134,13 @@ def _add_who(who: argparse.ArgumentParser) -> None:
     who.add_argument("path", metavar="PATH", help="a node, as SCRIPT spells it")
     who.add_argument("mask", metavar="MASK", help="rights, as sdstore takes them: FR, 0x2")
     who.add_argument("words", metavar="ARG", nargs="*", help="groups that all users have, as sdstore who takes them")
+    _add_only_given(who)
+
+
+def _add_only_given(parser: argparse.ArgumentParser) -> None:
+    parser.add_argument(
+        "--only-given", action="store_true", help="don't assume that users are in Everyone and Authenticated Users"
+    )
 
 
 def _add_find(find: argparse.ArgumentParser) -> None:
@@ -141,6 +149,7 @@ def _add_find(find: argparse.ArgumentParser) -> None:
     find.add_argument("user", metavar="USER", help="the user's SID")
     find.add_argument("mask", metavar="MASK", help="rights, as sdstore takes them: FR, 0x2")
     find.add_argument("words", metavar="ARG", nargs="*", help="groups and privileges, as sdstore verdict takes them")
+    _add_only_given(find)
 
 
 def _add_review(review: argparse.ArgumentParser) -> None:

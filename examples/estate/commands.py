@@ -11,6 +11,7 @@ import icacls as icacls_file
 import questions
 from errors import Invalid, Stopped
 from forms import Attribute
+from gaps import Gap, summed_up
 from journal import Journal, Step, locked_journal, write_journal
 from names import read_names
 from paths import spelled
@@ -19,11 +20,14 @@ from progress import Progress
 from report import Report
 from reading import MAX_SCRIPT_BYTES, Counts, Reading
 from script import Script, read_script
-from table import Table, plural, say
+from table import Cell, Table, plural, say
 from texts import Assumed, TextFile
 from volumes import Volume
 from atomic_file import atomic_file
 from writing import Move, apply, backward, check_target, forward
+
+#: The status of a command that leaves nodes out, whatever else it found: its rows name them.
+LEFT_OUT = 4
 
 ATTRIBUTES = {"ntfs": Attribute.NTFS, "samba": Attribute.SAMBA}
 
@@ -89,15 +93,14 @@ def plan(arguments: argparse.Namespace, table: Table) -> int:
     with read_script(arguments.script) as script:
         if arguments.target is not None:
             with _volume(arguments.target, arguments) as volume:
-                count = len(_planned(script, volume, arguments, table).steps)
-            table.end("planned", f"{plural(count, 'node')} would be written", {"nodes": count})
-            return 0
+                made = _planned(script, volume, arguments, table)
+            return _written(table, "planned", f"{plural(len(made.steps), 'node')} would be written", made, {})
         count = 0
         for change in script.changes():
             count += 1
             table.row("change", {"path": spelled(change.path), "before": change.before, "after": change.after})
-    table.end("planned", f"{plural(count, 'node')} of the script would change", {"nodes": count})
-    return 0
+        gaps = script.gaps_of_changes(())
+    return _answered(table, "planned", f"{plural(count, 'node')} of the script would change", {"nodes": count}, gaps)
 
 
 def _planned(script: Script, volume: Volume, arguments: argparse.Namespace, table: Table) -> Plan:
@@ -116,14 +119,19 @@ def write(arguments: argparse.Namespace, table: Table) -> int:
         journal = Journal(os.path.abspath(arguments.target), volume.attribute, made.steps)
         check_target(volume, journal)
         if not journal.steps:
-            table.end("written", "no node changes: nothing is written", {"nodes": 0})
-            return 0
+            return _written(table, "written", "no node changes: nothing is written", made, {})
         write_journal(name, journal)
         with locked_journal(name):
             written = apply(volume, forward(journal.steps), table, False)
     text = f"{plural(written, 'node')} written; 'estate undo {name}' restores what they had"
-    table.end("written", text, {"nodes": written, "journal": name})
-    return 0
+    return _written(table, "written", text, made, {"journal": name})
+
+
+def _written(table: Table, what: str, text: str, made: Plan, cells: dict[str, str]) -> int:
+    """The end of a write, or of its plan, and the status."""
+    left = f"; left out: {plural(made.left, 'node')}" if made.left else ""
+    table.end(what, text + left, {"nodes": len(made.steps), "left": made.left, **cells})
+    return LEFT_OUT if made.left else 0
 
 
 def icacls(arguments: argparse.Namespace, table: Table) -> int:
@@ -155,41 +163,57 @@ def _by_journal(
     return 0
 
 
+def _answered(
+    table: Table, what: str, text: str, cells: dict[str, Cell], gaps: list[Gap], status: int = 0
+) -> int:
+    """The end of an answer about a script's tree, with a row for each node of the source that it isn't about, and the
+    status."""
+    for gap in gaps:
+        table.row(gap.what, gap.cells)
+    left_out = f"; left out: {summed_up(gaps)}" if gaps else ""
+    table.end(what, text + left_out, cells | {"left_out": len(gaps)})
+    return LEFT_OUT if gaps else status
+
+
 def lint(arguments: argparse.Namespace, table: Table) -> int:
     """Findings about the lists of a script's nodes."""
     with read_script(arguments.script) as script:
         count = questions.lint(script, table)
-    table.end("linted", plural(count, "finding"), {"findings": count})
-    return 1 if count else 0
+        gaps = script.gaps_below(())
+    return _answered(table, "linted", plural(count, "finding"), {"findings": count}, gaps, 1 if count else 0)
 
 
 def who(arguments: argparse.Namespace, table: Table) -> int:
     """Whom a node grants rights, of all possible users."""
     with read_script(arguments.script) as script:
-        questions.who(script, arguments.path, [arguments.mask, *arguments.words], table)
-    return 0
+        gaps = script.gaps_at(questions.node_of(script, arguments.path))
+        assumed = questions.assumed_groups(arguments.words, arguments.only_given, table)
+        count = questions.who(script, arguments.path, [arguments.mask, *arguments.words, *assumed], table)
+    return _answered(table, "answered", plural(count, "line"), {"lines": count}, gaps)
 
 
 def find(arguments: argparse.Namespace, table: Table) -> int:
     """The nodes that grant a user rights."""
     with read_script(arguments.script) as script:
-        words = [arguments.user, arguments.mask, *arguments.words]
+        gaps = script.gaps_below(questions.node_of(script, arguments.path))
+        assumed = questions.assumed_groups([arguments.user, *arguments.words], arguments.only_given, table)
+        words = [arguments.user, arguments.mask, *arguments.words, *assumed]
         count = questions.find(script, arguments.path, words, table)
-    table.end("found", plural(count, "node"), {"nodes": count})
-    return 0
+    return _answered(table, "found", plural(count, "node"), {"nodes": count}, gaps)
 
 
 def review(arguments: argparse.Namespace, table: Table) -> int:
     """What a script's changes grant and take away, of all possible users."""
     with read_script(arguments.script) as script:
+        gaps = script.gaps_of_changes(questions.node_of(script, arguments.path))
         count = questions.review(script, arguments.path, arguments.words, table)
-    table.end("reviewed", f"{plural(count, 'node')} where somebody gains or loses rights", {"nodes": count})
-    return 1 if count else 0
+    text = f"{plural(count, 'node')} where somebody gains or loses rights"
+    return _answered(table, "reviewed", text, {"nodes": count}, gaps, 1 if count else 0)
 
 
 def report(arguments: argparse.Namespace, table: Table) -> int:
     """The nodes of a script as a page."""
     with read_script(arguments.script) as script:
         count = Report(script, read_names(arguments.names)).write(arguments.file, arguments.title or arguments.script)
-    table.end("written", f"{plural(count, 'node')} in {arguments.file}", {"nodes": count})
-    return 0
+        gaps = script.gaps_below(())
+    return _answered(table, "written", f"{plural(count, 'node')} in {arguments.file}", {"nodes": count}, gaps)

@@ -23,13 +23,18 @@ def _spelled_name(name: bytes) -> str:
     return _ENCODED.sub(lambda found: b"%%%02X" % found[0][0], name).decode("ascii")
 
 
-def parsed(text: str) -> Path:
-    """The path that the text spells, or a ValueError."""
+def names_in(text: str) -> Path:
+    """The names that the text of a path spells, of which a tree may have none, or a ValueError."""
     if text == "/":
         return ()
     if not text.startswith("/"):
         raise ValueError("a path begins with '/'")
-    path = tuple(urllib.parse.unquote_to_bytes(name) for name in text[1:].split("/"))
+    return tuple(urllib.parse.unquote_to_bytes(name) for name in text[1:].split("/"))
+
+
+def parsed(text: str) -> Path:
+    """The path that the text spells, or a ValueError."""
+    path = names_in(text)
     for name in path:
         fault = fault_of_name(name)
         if fault is not None:

@@ -32,6 +32,8 @@ class Plan:
     leave: Leave
     steps: list[Step] = field(default_factory=list)
     stops: int = 0
+    #: How many nodes stay as they are, though the script's changes are about them.
+    left: int = 0
     _inheritance: Inheritance = field(default_factory=Inheritance)
     _inodes: dict[int, Step] = field(default_factory=dict)
 
@@ -66,9 +68,18 @@ class Plan:
         elif change.is_of_dacl and has.dacl != before.dacl and not self.leave.replaces_differing:
             self._stop(change.path, "it differed from the tree when it was read: --replace-differing replaces its list")
         else:
+            if has.dacl != before.dacl:
+                self._say_other(change, has)
             self._add(
                 Step(change.path, blob, replaced(self.volume.attribute, blob, change.before, change.after)), inode
             )
+
+    def _say_other(self, change: Change, has: Parts) -> None:
+        """A row for a node whose list isn't the tree's, so that a review of the script isn't about what is lost."""
+        if change.is_of_dacl:
+            self.table.row("replaced", {"path": spelled(change.path), "has": has.text, "gets": change.after})
+        else:
+            self._leave(change.path, "its list isn't the tree's, and the script changes its owner or group", False)
 
     def _add(self, step: Step, inode: int) -> None:
         other = self._inodes.setdefault(inode, step)
@@ -123,6 +134,7 @@ class Plan:
         if stops and not self.leave.leaves_unread:
             self._stop(path, f"{why}: read it again, or --leave-unread leaves it as it is")
         else:
+            self.left += 1
             self.table.row("left", {"path": spelled(path), "why": why})
 
     def _stop(self, path: Path, why: str) -> None:

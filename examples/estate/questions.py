@@ -8,6 +8,8 @@ from collections.abc import Iterable, Iterator
 from dataclasses import dataclass
 from pathlib import Path as File
 
+from hudarin import Refused, Sid
+
 from errors import Failed, Invalid
 from paths import Path, parsed, spelled
 from script import Script
@@ -48,17 +50,17 @@ def _ran(words: list[str], lines: Iterable[str] = ()) -> str:
     return asked.stdout
 
 
-def _each(words: list[str], texts: Iterable[str]) -> dict[str, list[str]]:
+def _each(words: list[str], texts: Iterable[str], options: tuple[str, ...] = ()) -> dict[str, list[str]]:
     """The lines that a command of `sdstore each` answers about each text, of which it is asked once. No text is an
     option of the program: each is a line of its input."""
     distinct = list(dict.fromkeys(texts))
-    answers = _ran(["each", *words], distinct).removesuffix("\n\n").split("\n\n") if distinct else []
+    answers = _ran([*options, "each", *words], distinct).removesuffix("\n\n").split("\n\n") if distinct else []
     return dict(zip(distinct, (answer.split("\n") for answer in answers), strict=True))
 
 
 def lint(script: Script, table: Table) -> int:
-    """A row for each finding of `sdstore lint` about a node, as the tree is after the changes of the script, and how
-    many there are."""
+    """A row for each finding of `sdstore --risks lint` about a node, as the tree is after the changes of the script,
+    and how many there are."""
     texts = {path: script.descriptor(path) for path in sorted(script.nodes)}
     findings = findings_of(texts.values())
     count = 0
@@ -70,8 +72,33 @@ def lint(script: Script, table: Table) -> int:
 
 
 def findings_of(texts: Iterable[str]) -> dict[str, list[str]]:
-    """What `sdstore lint` finds about each text."""
-    return {text: [line for line in lines if line != "clean"] for text, lines in _each(["lint"], texts).items()}
+    """What `sdstore --risks lint` finds about each text."""
+    found = _each(["lint"], texts, ("--risks",))
+    return {text: [line for line in lines if line != "clean"] for text, lines in found.items()}
+
+
+# Groups that nobody gives
+
+
+#: What a file server gives each authenticated user, Everyone and Authenticated Users; and Anonymous, who is none.
+_ASSUMED = ("S-1-1-0", "S-1-5-11")
+_ANONYMOUS = "S-1-5-7"
+
+
+def assumed_groups(words: list[str], only_given: bool, table: Table) -> list[str]:
+    """The groups that a user of these arguments has on a file server besides, and a row that says so: none of
+    Anonymous, and none that an argument has already, as one for denies alone."""
+    sids = [_full(sid) for sid, _, state in (word.partition("=") for word in words) if state != "restrict"]
+    assumed = [] if only_given or _ANONYMOUS in sids else [sid for sid in _ASSUMED if sid not in sids]
+    table.row("assumed", {"groups": " ".join(assumed) or "none"})
+    return assumed
+
+
+def _full(text: str) -> str:
+    try:
+        return Sid.from_text(text).full
+    except Refused:
+        return text
 
 
 # Who may do what
@@ -87,13 +114,16 @@ class Grant:
     unless: tuple[str, ...]
 
 
-def who(script: Script, path_text: str, words: list[str], table: Table) -> None:
-    """A row for each line of `sdstore who` about a node, as the tree is after the changes of the script."""
-    path = _node(script, path_text)
-    for grant in _grants(_ran(["who", "--", script.descriptor(path), *words]).splitlines()):
+def who(script: Script, path_text: str, words: list[str], table: Table) -> int:
+    """A row for each line of `sdstore who` about a node, as the tree is after the changes of the script, and how many
+    there are."""
+    path = node_of(script, path_text)
+    grants = _grants(_ran(["who", "--", script.descriptor(path), *words]).splitlines())
+    for grant in grants:
         to = f"{grant.to} as the owner" if grant.is_owner else grant.to
         cells = {"path": spelled(path), "rights": f"{grant.rights:#x}", "to": to}
         table.row("who", cells | ({"unless": " ".join(grant.unless)} if grant.unless else {}))
+    return len(grants)
 
 
 def grants_of(texts: Iterable[str], rights: int) -> dict[str, list[Grant]]:
@@ -125,7 +155,7 @@ class Difference:
 
 def review(script: Script, path_text: str, words: list[str], table: Table) -> int:
     """A row for each difference at and below a path, and how many nodes have one."""
-    top = _node(script, path_text)
+    top = node_of(script, path_text)
     count = 0
     for path, differences in reviewed(script, words):
         if path[: len(top)] == top:
@@ -165,7 +195,7 @@ def find(script: Script, path_text: str, words: list[str], table: Table) -> int:
     for word in words:
         if not _WORD.fullmatch(word):
             raise Invalid(f"{word!a}: not an argument")
-    question = " ".join(["find", "0", spelled(_node(script, path_text)), *words])
+    question = " ".join(["find", "0", spelled(node_of(script, path_text)), *words])
     lines = _ran(["--percent", "serve"], [*script.remade(), question]).split("\n")
     # (each line of the tree has one line of output, and an empty line ends that of the question)
     said, *paths = lines[len(script.nodes) + 1 : -2]
@@ -176,11 +206,13 @@ def find(script: Script, path_text: str, words: list[str], table: Table) -> int:
     return len(paths)
 
 
-def _node(script: Script, path_text: str) -> Path:
+def node_of(script: Script, path_text: str) -> Path:
+    """The path that the text spells, of a node of the script."""
     try:
         path = parsed(path_text)
     except ValueError as error:
         raise Invalid(f"{path_text}: {error}") from error
     if path not in script.nodes:
-        raise Invalid(f"{path_text}: the script has no such node")
+        whys = [gap.why for gap in script.gaps if gap.what == "skipped" and path[: len(gap.path)] == gap.path]
+        raise Invalid(f"{path_text}: the script has no such node{''.join(f': {why}' for why in whys)}")
     return path

@@ -1,16 +1,17 @@
 """`estate read`: the nodes of a source as a script of imports, and a table of what the script doesn't say as it is."""
 
-from collections.abc import Iterable
+from collections.abc import Iterable, Mapping
 from dataclasses import dataclass, field
 from typing import BinaryIO
 
 from errors import Invalid
 from found import Found
+from gaps import Gap, end_of
 from inheritance import Chain, Inheritance, TooMuch
 from paths import MAX_NODES, Path, fault_of, spelled
 from progress import Progress
 from sddl import Parts, parts_of
-from table import Table
+from table import Cell, Table
 
 #: So many bytes has a script at most (docs/SCRIPT.md).
 MAX_SCRIPT_BYTES = 16_777_216
@@ -62,6 +63,7 @@ class Reading:
     _inheritance: Inheritance = field(default_factory=Inheritance)
     _above: list[_Folder] = field(default_factory=list)
     _hidden: _Hidden | None = None
+    _gap_count: int = 0
 
     def run(self, source: Iterable[Found], progress: Progress) -> Counts:
         """Writes the script: the root first, and each node after its folder. Invalid if no tree has the nodes."""
@@ -75,6 +77,7 @@ class Reading:
                 self._visit(found)
         self._end_hidden()
         self._leave(None)
+        self._write(end_of(self._gap_count))
         self._write("publish")
         if self.counts.lines > MAX_NODES:
             raise Invalid(
@@ -88,7 +91,7 @@ class Reading:
     def _visit(self, found: Found) -> None:
         if found.unlisted is not None:
             self.counts.unlisted += 1
-            self.table.row("unlisted", {"path": spelled(found.path), "why": found.unlisted})
+            self._say(Gap("unlisted", found.path, found.unlisted))
         why = found.why or fault_of(found.path)
         if found.text is None or why is not None:
             self._skip(found, why or "")
@@ -141,8 +144,7 @@ class Reading:
             why = "its own entries are in another order: the script has denies first"
         if why is not None:
             self.counts.differing += 1
-            cells = {"path": spelled(path), "why": why, "source": source.text, "tree": tree.text}
-            self.table.row("differs", cells)
+            self._say(Gap("differs", path, why), {"source": source.text, "tree": tree.text})
 
     # Nodes without a line
 
@@ -169,7 +171,7 @@ class Reading:
 
     def _row_of_skipped(self, found: Found, why: str, below: int) -> None:
         self.counts.skipped += 1 + below
-        self.table.row("skipped", {"path": spelled(found.path), "why": why, "below": below})
+        self._say(Gap("skipped", found.path, why, below))
 
     # The script
 
@@ -178,8 +180,13 @@ class Reading:
         while self._above and (path is None or path[: len(self._above[-1].path)] != self._above[-1].path):
             folder = self._above.pop()
             if folder.files:
-                self._write(f"# left out: {folder.files} files of {spelled(folder.path)}")
-                self.table.row("files", {"path": spelled(folder.path), "count": folder.files})
+                self._say(Gap("files", folder.path, count=folder.files))
+
+    def _say(self, gap: Gap, more: Mapping[str, Cell] | None = None) -> None:
+        """A row of the table, and the same in the script, which has the descriptors of `more` already."""
+        self._gap_count += 1
+        self.table.row(gap.what, {**gap.cells, **(more or {})})
+        self._write(gap.comment)
 
     def _write_node(self, line: str) -> None:
         self.counts.lines += 1

@@ -2,12 +2,13 @@
 // All text is put in as text: no name from outside is ever markup.
 const data = JSON.parse(document.getElementById("data").textContent);
 const { sids, lists, nodes, accesses, changes } = data;
-// A node is [depth, name, isContainer, owner, group, list, files, access]. A list is [kind, entries, findings], whose
-// kind is 0 for one that inherits, 1 for a protected one, 2 for a null one. An entry is [isDeny, rights, applies,
-// isInherited, sid]. An access has who can read, write and change permissions: each is a list of [subject, isOwner,
-// unless], and a subject is a SID's number or a word. A change is [node, differences], and a difference is [isGain,
-// rights, by], where `by` is a token: a list of [subject, state].
-const [DEPTH, NAME, CONTAINER, OWNER, GROUP, LIST, FILES, ACCESS] = [0, 1, 2, 3, 4, 5, 6, 7];
+// A node is [depth, name, isContainer, owner, group, list, files, access, differs], where `differs` says why the source
+// has another list, or nothing. A list is [kind, entries, findings], whose kind is 0 for one that inherits, 1 for a
+// protected one, 2 for a null one. An entry is [isDeny, rights, applies, isInherited, sid]. An access has who can read,
+// write and change permissions: each is a list of [subject, isOwner, unless], and a subject is a SID's number or a
+// word. A change is [node, differences], and a difference is [isGain, rights, by], where `by` is a token: a list of
+// [subject, state].
+const [DEPTH, NAME, CONTAINER, OWNER, GROUP, LIST, FILES, ACCESS, DIFFERS] = [0, 1, 2, 3, 4, 5, 6, 7, 8];
 const STATES = { deny: "for denies alone", restrict: "as a restricting SID" };
 const AT_ONCE = 200;
 const FOUND_AT_ONCE = 500;
@@ -55,6 +56,7 @@ const marksOf = (index) => {
   if (list[0] === 1) marks.push(["blocked", "inheritance blocked"]);
   if (parents[index] >= 0 && list[0] === 0 && hasOwn(list)) marks.push(["own", "own entries"]);
   if (list[2].length) marks.push(["lint", list[2].length === 1 ? "1 finding" : `${list[2].length} findings`]);
+  if (nodes[index][DIFFERS]) marks.push(["differs", "another list in the source"]);
   return marks;
 };
 
@@ -220,6 +222,7 @@ const showNode = (index) => {
     ["Inheritance", parents[index] < 0 && list[0] === 0 ? "the root" : kinds[list[0]]],
   ];
   if (node[FILES]) facts.push(["Files", `${node[FILES].toLocaleString("en")} inherit all of it, and have no line`]);
+  if (node[DIFFERS]) facts.push(["The source", `another list: ${node[DIFFERS]}. What is here is the tree's.`]);
   const details = make("dl");
   for (const [name, value] of facts) details.append(make("dt", {}, name), make("dd", {}, value));
   const parts = [details];
@@ -291,16 +294,31 @@ const changeOf = ([index, differences]) => {
   return make("section", {}, make("h3", {}, link), table);
 };
 
-const addChanges = (from) => {
-  const list = document.getElementById("changes");
-  const until = Math.min(from + AT_ONCE, changes.length);
-  list.append(...changes.slice(from, until).map(changeOf));
-  if (until < changes.length) {
-    const more = make("button", { type: "button" }, `show ${Math.min(AT_ONCE, changes.length - until)} more`);
-    more.addEventListener("click", () => { more.remove(); addChanges(until); });
-    list.append(more);
+// Puts the first items into an element, and a button for more.
+const addSome = (element, items, itemOf, from) => {
+  const until = Math.min(from + AT_ONCE, items.length);
+  element.append(...items.slice(from, until).map(itemOf));
+  if (until < items.length) {
+    const more = make("button", { type: "button" }, `show ${Math.min(AT_ONCE, items.length - until)} more`);
+    more.addEventListener("click", () => { more.remove(); addSome(element, items, itemOf, until); });
+    element.append(more);
   }
 };
+
+// What the source has otherwise, above both pages: a gap is [node or -1, path, why].
+const gapOf = ([index, path, why]) => {
+  if (index < 0) return make("p", {}, `${path}: ${why}`);
+  const link = make("button", { type: "button" }, path);
+  link.addEventListener("click", () => { openPage(false); const item = reveal(index); choose(item); focus(item); });
+  return make("p", {}, link, `: ${why}`);
+};
+
+if (data.leftOut) {
+  const part = document.getElementById("left-out");
+  part.hidden = false;
+  part.querySelector("summary").textContent = `This page leaves out: ${data.leftOut}`;
+  addSome(part.querySelector("div"), data.gaps, gapOf, 0);
+}
 
 const openPage = (isOfChanges) => {
   document.getElementById("changes-page").hidden = !isOfChanges;
@@ -318,7 +336,7 @@ if (data.changed) {
     `${changed} nodes have another descriptor; on ${count} of them somebody gains or loses rights.`;
   document.getElementById("to-folders").addEventListener("click", () => openPage(false));
   document.getElementById("to-changes").addEventListener("click", () => openPage(true));
-  addChanges(0);
+  addSome(document.getElementById("changes"), changes, changeOf, 0);
 }
 
 document.getElementById("sum").textContent = data.sum;

@@ -11,7 +11,8 @@ from typing import Any
 
 from hudarin import Sid, mask
 
-from paths import Path
+from gaps import Gap, summed_up
+from paths import Path, spelled
 from questions import Difference, Grant, findings_of, grants_of, reviewed
 from script import Script
 from sddl import Entry, Parts, parts_of
@@ -48,6 +49,8 @@ _BITS = {
     0x80000: "take ownership",
     0x100000: "synchronize",
 }
+#: What a node of the source is that the report isn't about; "files" are a mark of their folder.
+_GAPS = {"differs": "another list", "skipped": "not read", "unlisted": "not listed", "unknown": "not known"}
 #: What is asked about each node, in the order in which the page shows it: read, write, change permissions.
 _ASKED = (0x1, 0x2, 0x40000)
 
@@ -75,13 +78,13 @@ class Report:
 
     def write(self, name: str, title: str) -> int:
         """Writes the report, and returns how many nodes it has."""
-        paths = sorted(self.script.nodes)
-        nodes = self._nodes(paths)
+        numbers = {path: number for number, path in enumerate(sorted(self.script.nodes))}
+        nodes = self._nodes(list(numbers))
         folders = sum(node.is_container for node in self.script.nodes.values())
-        files = sum(node.left_out for node in self.script.nodes.values())
         counts = {"folder": folders, "file": len(nodes) - folders}
-        said = [*(plural(count, what) for what, count in counts.items()), f"{plural(files, 'file')} without a line"]
-        changes = self._changes(paths)
+        said = [plural(count, what) for what, count in counts.items()]
+        gaps = self.script.gaps_below(())
+        changes = self._changes(numbers)
         data: dict[str, Any] = {
             "sum": ", ".join(said),
             "nodes": nodes,
@@ -89,6 +92,8 @@ class Report:
             "accesses": list(self._accesses.numbers),
             "changed": sum(1 for _ in self.script.changes()),
             "changes": changes,
+            "leftOut": summed_up(gaps),
+            "gaps": [_gap(gap, numbers) for gap in gaps if gap.what in _GAPS],
             "sids": self._named(),
         }
         self._put(name, title, data)
@@ -98,14 +103,16 @@ class Report:
         texts = {path: self.script.descriptor(path) for path in paths}
         findings = findings_of(texts.values())
         grants = [grants_of(texts.values(), rights) for rights in _ASKED]
-        nodes = []
+        differing = {gap.path: gap.why for gap in self.script.gaps if gap.what == "differs"}
+        nodes: list[list[Any]] = []
         for path, text in texts.items():
             node, parts = self.script.nodes[path], parts_of(text)
             label = safe(path[-1].decode()) if path else ""
             owners = self._sid(parts.owner), self._sid(parts.group)
             access = self._accesses.of(tuple(tuple(map(self._grant, each[text])) for each in grants))
             number = self._list(text, parts, findings[text])
-            nodes.append([len(path), label, int(node.is_container), *owners, number, node.left_out, access])
+            shape = [len(path), label, int(node.is_container)]
+            nodes.append([*shape, *owners, number, node.left_out, access, differing.get(path, "")])
         return nodes
 
     def _grant(self, grant: Grant) -> tuple[Any, ...]:
@@ -115,9 +122,8 @@ class Report:
         """The number of a SID, or a word such as "everyone"."""
         return self._sid(text) if text.startswith("S-1-") else text
 
-    def _changes(self, paths: list[Path]) -> list[list[Any]]:
+    def _changes(self, numbers: dict[Path, int]) -> list[list[Any]]:
         """For each node on which somebody gains or loses rights its number, and each difference."""
-        numbers = {path: number for number, path in enumerate(paths)}
         return [[numbers[path], list(map(self._difference, found))] for path, found in reviewed(self.script, [])]
 
     def _difference(self, difference: Difference) -> list[Any]:
@@ -156,6 +162,12 @@ class Report:
             before, after = before.replace(f"@{key}@", value), after.replace(f"@{key}@", value)
         with atomic_file(name) as file:
             file.write((before + inside + after).encode())
+
+
+def _gap(gap: Gap, numbers: dict[Path, int]) -> list[Any]:
+    """The number of its node, or -1 if the script has none, its path, and what there is to say of it."""
+    below = f", and {plural(gap.count, 'node')} below" if gap.count else ""
+    return [numbers.get(gap.path, -1), spelled(gap.path), f"{_GAPS[gap.what]}{below}: {gap.why}"]
 
 
 def in_words(rights: int) -> str:

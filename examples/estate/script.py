@@ -1,12 +1,12 @@
 """A script that `estate read` wrote, with changes after it: its lines, and the trees before and after the changes."""
 
-import re
 from collections.abc import Callable, Iterator
 from dataclasses import dataclass, field
 
 from hudarin import Descriptor, Refused, Sid, Store, View
 
 from errors import Failed, Invalid
+from gaps import UNKNOWN, Gap, count_in, gap_of
 from inheritance import Chain
 from paths import Path, parsed, spelled
 from sddl import parts_of
@@ -15,7 +15,6 @@ from sddl import parts_of
 _QUESTIONS = {"tell", "learn", "check", "why", "show", "list", "dump", "who", "find", "delete", "review"}
 #: Commands that make, remove or move files.
 _OF_FILES = {"open", "import", "addc", "addo", "remove", "move"}
-_LEFT_OUT = re.compile(r"# left out: (\d+) files of (/\S*)")
 
 
 @dataclass(slots=True)
@@ -57,6 +56,9 @@ class Script:
 
     name: str
     nodes: dict[Path, Node] = field(default_factory=dict)
+    #: Where the source has more or other nodes, by the comments of `estate read`.
+    gaps: list[Gap] = field(default_factory=list)
+    _gap_count: int | None = None
     _store: Store | None = None
     _before: View | None = None
     _after: View | None = None
@@ -92,6 +94,32 @@ class Script:
                 node = self.nodes[path]
                 yield Change(path, node.is_container, node.text, str(before), str(after))
 
+    # What the source has otherwise
+
+    def gaps_at(self, path: Path) -> list[Gap]:
+        """What the source has otherwise of a node itself."""
+        return [gap for gap in self.gaps if gap == UNKNOWN or (gap.what == "differs" and gap.path == path)]
+
+    def gaps_below(self, top: Path) -> list[Gap]:
+        """What the source has otherwise at and below a path."""
+        return [gap for gap in self.gaps if gap == UNKNOWN or gap.path[: len(top)] == top]
+
+    def gaps_of_changes(self, top: Path) -> list[Gap]:
+        """What the source has otherwise of nodes at and below a path that change, or whose folder passes down other
+        entries."""
+        changed, passing = set(), set()
+        for change in self.changes():
+            changed.add(change.path)
+            if change.is_container and change.is_passed_down:
+                passing.add(change.path)
+
+        def is_reached(gap: Gap) -> bool:
+            if gap.what == "differs":
+                return gap.path in changed
+            return gap == UNKNOWN or (gap.path[:-1] if gap.what == "skipped" else gap.path) in passing
+
+        return list(filter(is_reached, self.gaps_below(top)))
+
     def remade(self) -> Iterator[str]:
         """The lines of a script that makes the tree after the changes."""
         for path in sorted(self.nodes):
@@ -105,7 +133,8 @@ class Script:
     def read_line(self, line: str) -> None:
         """Carries out a line, or raises a ValueError."""
         if not line or line.startswith("#"):
-            self._remember_left_out(line)
+            if self._before is None:
+                self._remember(line)
             return
         command, *words = line.split(" ")
         if self._store is None:
@@ -119,11 +148,14 @@ class Script:
         elif command not in _QUESTIONS:
             self._change(command, words)
 
-    def _remember_left_out(self, line: str) -> None:
-        found = _LEFT_OUT.fullmatch(line)
-        node = self.nodes.get(parsed(found[2])) if found else None
-        if found and node is not None:
-            node.left_out = int(found[1])
+    def _remember(self, comment: str) -> None:
+        gap, count = gap_of(comment), count_in(comment)
+        if count is not None:
+            self._gap_count = count
+        if gap is not None:
+            self.gaps.append(gap)
+            if gap.what == "files" and gap.path in self.nodes:
+                self.nodes[gap.path].left_out = gap.count
 
     def _open(self, command: str, words: list[str]) -> None:
         if command != "open" or len(words) != 2:
@@ -171,6 +203,8 @@ class Script:
             raise ValueError("it ends before 'publish': it isn't complete")
         if len(self._store) != len(self.after):
             raise ValueError("changes after the last 'publish' aren't published")
+        if self._gap_count != len(self.gaps):
+            self.gaps.append(UNKNOWN)
 
 
 def plain(path: Path) -> str:

@@ -5,7 +5,7 @@ import functools
 import re
 from dataclasses import dataclass
 
-_SHAPE = re.compile(r"O:([^:]*)G:([^:]*?)(?:D:(NO_ACCESS_CONTROL|(P?)(?:AR)?(?:AI)?((?:\([^()]*\))*)))?")
+_SHAPE = re.compile(r"O:([^:]*)G:([^:]*?)(?:D:(P?)(?:AR)?(?:AI)?(NO_ACCESS_CONTROL|(?:\([^()]*\))*))?")
 _ENTRY = re.compile(r"\((A|D);([A-Z]*);([^()]*)\)")
 
 
@@ -95,9 +95,10 @@ def parts_of(text: str) -> Parts:
     found = _SHAPE.fullmatch(text)
     if found is None or not found[1] or not found[2]:
         raise ValueError("it lacks an owner or a group")
-    owner, group, dacl, protected, entries = found.groups()
-    if dacl is None or dacl == "NO_ACCESS_CONTROL":
-        return Parts(owner, group, False, dacl is None, None)
+    owner, group, protected, entries = found.groups()
+    # (a tree keeps no flags of a null list, which grants everything with and without them)
+    if entries is None or entries == "NO_ACCESS_CONTROL":
+        return Parts(owner, group, False, entries is None, None)
     return Parts(owner, group, bool(protected), False, _entries_of(entries))
 
 

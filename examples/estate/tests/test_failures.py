@@ -29,7 +29,7 @@ class Writes(Volumes):
         made = self.prepare()
         before = self.blobs(made.tree)
         whole = ("write", *self.allowed, "changed", str(self.volume.folder))
-        self.runs(0, *whole)
+        self.runs(4, *whole)
         after = self.blobs(made.tree)
         total = self.changed(made, before)
         self.assertGreater(total, 300)
@@ -80,7 +80,7 @@ class Writes(Volumes):
         os.close(os.open(self.volume.at(files[1]), os.O_CREAT))
         for path in files[:2]:
             self.volume.put(path, before[path])
-        self.runs(0, "write", *self.allowed, "changed", self.volume.folder)
+        self.runs(4, "write", *self.allowed, "changed", self.volume.folder)
         self.volume.put(files[0], before[()])
         lines = self.runs(1, "undo", "changed.journal", says="1 node changed since: nothing is written")
         self.assertEqual(len(lines), 1)
@@ -151,6 +151,9 @@ class Untrusted(Case):
             (head + "publish\ndacl /a O:BA\npublish\n", "line 4: refused: "),
             (head + "publish\ndacl /a D:P extra\npublish\n", "line 4: 'dacl': not a command"),
             (head + "publish\nfrob\npublish\n", "line 4: 'frob': not a command"),
+            (head + "# skipped\t/b\tsome\tx\npublish\n", "line 3: skipped: not a comment that estate read writes"),
+            (head + "# files\t/b\npublish\n", "line 3: files: not a comment that estate read writes"),
+            (head + "# differs\ta\twhy\npublish\n", "line 3: a path begins with '/'"),
             (head + "publish\n\x1b[1m /a\npublish\n", "line 4: '\\x1b[1m': not a command"),
         ):
             with self.subTest(text):
@@ -158,12 +161,12 @@ class Untrusted(Case):
                 self.runs(2, "plan", "script", says=f"script: {says}" if says.startswith("line") else says)
 
     def test_questions_and_comments_change_nothing(self) -> None:
-        head = "open 1 O:BAG:SYD:P(A;OICI;FA;;;BA)\nimport object /a O:BAG:SYD:\npublish\n"
+        head = "open 1 O:BAG:SYD:P(A;OICI;FA;;;BA)\nimport object /a O:BAG:SYD:\n# rows\t0\npublish\n"
         self.write("script", head + "# a comment\n\nlist\ncheck 0 /a SY FR\nowner /a SY\npublish\nlist\n")
         lines = self.runs(0, "plan", "--json", "script", says="1 node")
         change = {"what": "change", "path": "/a", "before": "O:BAG:SYD:AI(A;ID;FA;;;BA)"}
         self.assertEqual(json.loads(lines[0]), change | {"after": "O:SYG:SYD:AI(A;ID;FA;;;BA)"})
-        self.assertEqual(json.loads(lines[1]), {"what": "planned", "nodes": 1})
+        self.assertEqual(json.loads(lines[1]), {"what": "planned", "nodes": 1, "left_out": 0})
 
     def test_journals(self) -> None:
         """A journal that was cut or changed is refused, before any node is read."""
@@ -184,7 +187,8 @@ class Untrusted(Case):
         """Names stand for SIDs in what is displayed, and in nothing that is stored. None of them passes for more."""
         user = "S-1-5-21-1-2-3-1001"
         sddl = f"O:{user}G:SYD:P(A;OICI;FA;;;{user})(A;;FR;;;BU)(A;;FR;;;S-1-22-1-1001)(A;;FR;;;S-1-22-2-100)"
-        self.write("script", f"open 1 {sddl}\nimport object /S-1-5-18 O:BAG:SYD:\npublish\ndacl / D:P\npublish\n")
+        lines_read = f"open 1 {sddl}\nimport object /S-1-5-18 O:BAG:SYD:\n# rows\t0\n"
+        self.write("script", f"{lines_read}publish\ndacl / D:P\npublish\n")
         self.write("sids", f'{user} DOM\\a"l\tice\x1b[1m\nS-1-5-32-545 -> BUILTIN\\Users 4\nS-1-5-18 no\n', "utf-8-sig")
         self.write("getent", "joe:x:1001:100::/home:/bin/sh\nusers:x:100:\nnonsense\n:x:1:\na:b:c:d\n")
         lines = self.runs(0, "plan", "--names", "sids", "--names", "getent", "script")
@@ -199,11 +203,14 @@ class Untrusted(Case):
 
     @needs_program
     def test_lint(self) -> None:
+        """With risks."""
         head = "open 1 O:BAG:SYD:P(A;OICI;FA;;;BA)\n"
-        self.write("script", head + "import object /a O:BAG:SYD:(A;;FR;;;BU)(A;;FR;;;BU)\npublish\n")
-        lines = self.runs(1, "lint", "script", says="2 findings")
+        text = "import object /a O:BAG:SYD:(A;;FR;;;BU)(A;;FR;;;BU)\nimport object /b O:BAG:SYD:(A;;FA;;;WD)\n"
+        self.write("script", f"{head}{text}# rows\t0\npublish\n")
+        lines = self.runs(1, "lint", "script", says="3 findings")
         self.assertEqual(lines[0], "lint\t/a\tentry 2 (A;;FR;;;BU) repeats entry 1")
-        self.write("script", head + "publish\n")
+        self.assertEqual(lines[2], "lint\t/b\tS-1-1-0 is granted full-control")
+        self.write("script", head + "# rows\t0\npublish\n")
         self.assertEqual(self.runs(0, "lint", "script", says="0 findings"), [])
 
 

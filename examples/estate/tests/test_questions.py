@@ -12,7 +12,7 @@ open 1 O:BAG:SYD:P(A;OICI;FA;;;BA)(A;OICI;FR;;;BU)
 import container /a%20b O:BAG:SYD:(A;OICIID;FA;;;BA)(A;OICIID;FR;;;BU)
 import object /a%20b/c O:{ALICE}G:SYD:(D;;0x1;;;BG)(A;ID;FA;;;BA)(A;ID;FR;;;BU)
 import object /d O:BAG:SYD:P(A;;FA;;;BA)
-# left out: 3 files of /a%20b
+# rows	0
 publish
 """
 CHANGE = "dacl / D:P(A;OICI;FA;;;BA)(A;OICI;0x120088;;;BU)\nlist\nowner /d BU\npublish\n"
@@ -30,6 +30,7 @@ class Questions(Case):
         self.assertEqual(
             self.runs(0, "who", "before", "/a%20b/c", "0x40001"),
             [
+                "assumed\tS-1-1-0 S-1-5-11",
                 "who\t/a%20b/c\t0x1\tS-1-5-32-544\tS-1-5-32-546",
                 "who\t/a%20b/c\t0x1\tS-1-5-32-545\tS-1-5-32-546",
                 f"who\t/a%20b/c\t0x40000\t{ALICE} as the owner",
@@ -37,12 +38,17 @@ class Questions(Case):
             ],
         )
         self.assertEqual(
-            self.runs(0, "who", "changed", "/a%20b/c", "0x1"), ["who\t/a%20b/c\t0x1\tS-1-5-32-544\tS-1-5-32-546"]
+            self.runs(0, "who", "changed", "/a%20b/c", "0x1")[1:], ["who\t/a%20b/c\t0x1\tS-1-5-32-544\tS-1-5-32-546"]
         )
         self.write("names", f"{ALICE} alice\nS-1-5-32-544 admins\n")
         rows = self.runs(0, "who", "--json", "--names", "names", "before", "/", "0x2", "BU")
         self.assertEqual(
-            list(map(json.loads, rows)), [{"what": "who", "path": "/", "rights": "0x2", "to": '"admins"'}]
+            list(map(json.loads, rows)),
+            [
+                {"what": "assumed", "groups": "S-1-1-0 S-1-5-11"},
+                {"what": "who", "path": "/", "rights": "0x2", "to": '"admins"'},
+                {"what": "answered", "lines": 1, "left_out": 0},
+            ],
         )
         self.runs(2, "who", "before", "/none", "0x1", says="/none: the script has no such node")
         self.runs(2, "who", "before", "a", "0x1", says="a: a path begins with '/'")
@@ -50,11 +56,11 @@ class Questions(Case):
 
     def test_find(self) -> None:
         rows = self.runs(0, "find", "before", "/", ALICE, "0x1", "BU", says="3 nodes")
-        self.assertEqual(rows, ["found\t/", "found\t/a%20b", "found\t/a%20b/c"])
-        self.assertEqual(self.runs(0, "find", "changed", "/", ALICE, "0x1", "BU", says="0 nodes"), [])
-        self.assertEqual(self.runs(0, "find", "before", "/a%20b", ALICE, "0x1", "BU", "BG"), ["found\t/a%20b"])
+        self.assertEqual(rows, ["assumed\tS-1-1-0 S-1-5-11", "found\t/", "found\t/a%20b", "found\t/a%20b/c"])
+        self.assertEqual(self.runs(0, "find", "changed", "/", ALICE, "0x1", "BU", says="0 nodes")[1:], [])
+        self.assertEqual(self.runs(0, "find", "before", "/a%20b", ALICE, "0x1", "BU", "BG")[1:], ["found\t/a%20b"])
         rows = self.runs(0, "find", "changed", "/", ALICE, "0x40000", "BU", says="2 nodes")
-        self.assertEqual(rows, ["found\t/a%20b/c", "found\t/d"])
+        self.assertEqual(rows[1:], ["found\t/a%20b/c", "found\t/d"])
         self.runs(2, "find", "before", "/none", ALICE, "0x1", says="/none: the script has no such node")
         self.runs(2, "find", "before", "/", "alice", "0x1", says="sdstore find: fault sid")
         self.runs(2, "find", "before", "/", ALICE, "0x1", "BU\nlist", says="'BU\\nlist': not an argument")
@@ -80,3 +86,21 @@ class Questions(Case):
         self.assertEqual(self.runs(0, "review", "same", says="0 nodes"), [])
         self.runs(2, "review", "changed", "/none", says="/none: the script has no such node")
         self.runs(2, "review", "changed", "/", "XX", says="sdstore compare: fault token")
+
+    def test_the_groups_that_are_assumed(self) -> None:
+        """Everyone and Authenticated Users, as of a file server, unless --only-given: a row says which."""
+        head = "open 1 O:BAG:SYD:P(A;OICI;FR;;;WD)(A;OICI;0x2;;;AU)"
+        self.write("script", f"{head}\n# rows\t0\npublish\n")
+        ask = ("script", "/", ALICE, "0x3")
+        both = ["assumed\tS-1-1-0 S-1-5-11", "found\t/"]
+        self.assertEqual(self.runs(0, "find", *ask), both)
+        self.assertEqual(self.runs(0, "find", "--only-given", *ask, says="0 nodes"), ["assumed\tnone"])
+        self.assertEqual(self.runs(0, "find", *ask, "AU"), ["assumed\tS-1-1-0", "found\t/"])
+        self.assertEqual(self.runs(0, "find", *ask, "S-1-5-11=deny", says="0 nodes"), ["assumed\tS-1-1-0"])
+        self.assertEqual(self.runs(0, "find", *ask, "BU=restrict", "WD=restrict", says="0 nodes"), both[:1])
+        self.assertEqual(self.runs(0, "find", "script", "/", "AN", "0x3", says="0 nodes"), ["assumed\tnone"])
+        rows = self.runs(0, "who", "script", "/", "0x3")
+        self.assertEqual(rows, [both[0], "who\t/\t0x3\teveryone"])
+        rows = self.runs(0, "who", "--only-given", "script", "/", "0x3")
+        wanted = ["assumed\tnone", "who\t/\t0x1\tS-1-1-0", "who\t/\t0x2\tS-1-5-11"]
+        self.assertEqual(rows, wanted)

@@ -12,10 +12,13 @@ HEAD = f"open 1 O:BAG:SYD:P(A;OICI;FA;;;BA)(A;OICI;0x1200a9;;;{USER})\n"
 SCRIPT = f"""\
 {HEAD}import container /%3Cb%3E%0A O:BAG:SYD:(D;OICI;FW;;;{OTHER})(D;OICI;FW;;;{OTHER}){INHERITED}
 import container /%3Cb%3E%0A/in O:BAG:SYD:P(A;;FR;;;BU)
-# left out: 1204 files of /%3Cb%3E%0A/in
+# files	/%3Cb%3E%0A/in	1204
+# skipped	/odd%0A	its descriptor isn't supported	2
 import container /%3Cb%3E%0A/none O:{OTHER}G:SYD:NO_ACCESS_CONTROL
 import container /plain O:BAG:SYD:{INHERITED}
 import object /plain/file O:BAG:SYD:(A;ID;FA;;;BA)(A;ID;0x1200a9;;;{USER})
+# differs	/plain/file	it inherits otherwise than its folder passes down
+# rows	3
 publish
 """
 #: Seconds of a processor until a report of 20,000 folders can be used. (Seconds of a clock depend on what else runs.)
@@ -28,7 +31,7 @@ FOLDERS = 20_000
 class Report(Case):
     def page(self, script: str, *words: str) -> chromium.Page:
         self.write("script", script)
-        self.runs(0, "report", *words, "script", "report.html")
+        self.runs(4 if "# files" in script else 0, "report", *words, "script", "report.html")
         page = chromium.Page(self.room / "report.html")
         self.addCleanup(page.__exit__)
         return page
@@ -54,7 +57,7 @@ class Report(Case):
 
     def test_the_tree_by_keys(self) -> None:
         page = self.small()
-        page.key("Tab", "Tab", "Tab")
+        page.key("Tab", "Tab", "Tab", "Tab")
         self.assertEqual(self.focused(page), "/")
         self.assertEqual(len(self.items(page)), 3)
         page.key("ArrowDown", "ArrowRight", "ArrowRight")
@@ -64,14 +67,14 @@ class Report(Case):
         page.key("ArrowLeft", "ArrowLeft")
         self.assertEqual(len(self.items(page)), 3)
         page.key("End", "ArrowRight")
-        self.assertEqual(self.items(page)[-1], "file")
+        self.assertEqual(self.items(page)[-1].split("\n")[0], "file")
         page.key("Home")
         self.assertEqual(self.focused(page), "/")
         self.assertEqual(page.value("tree.querySelectorAll('[tabindex=\"0\"]').length"), 1)
 
     def test_what_a_node_shows(self) -> None:
         page = self.small()
-        page.key("Tab", "Tab", "Tab", "ArrowDown", "ArrowRight", "Enter")
+        page.key("Tab", "Tab", "Tab", "Tab", "ArrowDown", "ArrowRight", "Enter")
         marks = [text.split("\n")[1:] for text in self.items(page)]
         self.assertEqual(
             marks,
@@ -104,6 +107,30 @@ class Report(Case):
         texts = page.value(f"[...document.querySelectorAll('{table} tr')].map((row) => row.innerText.trim())")
         # (a cell that begins with a list begins with a line feed)
         return [text.replace("\t\n", "\t") for text in texts]
+
+    def test_what_is_left_out(self) -> None:
+        """Above both pages, with links to the nodes that are there, which have a mark."""
+        page = self.small()
+        self.assertEqual(
+            page.value("document.querySelector('#left-out summary').innerText"),
+            "This page leaves out: 1 node that the source has otherwise, 3 nodes that couldn't be read, "
+            "1,204 files without a line",
+        )
+        page.value("document.getElementById('left-out').open = true")
+        self.assertEqual(
+            page.value("[...document.querySelectorAll('#left-out p')].map((one) => one.textContent)"),
+            [
+                "/odd%0A: not read, and 2 nodes below: its descriptor isn't supported",
+                "/plain/file: another list: it inherits otherwise than its folder passes down",
+            ],
+        )
+        page.value("document.querySelector('#left-out button').click()")
+        self.assertEqual(self.focused(page), "file")
+        self.assertEqual(self.items(page)[-1], "file\nanother list in the source")
+        self.assertIn("What is here is the tree's.", page.value("document.getElementById('details').innerText"))
+        whole = SCRIPT.partition("# files")[0] + "# rows\t0\npublish\n"
+        self.assertTrue(self.page(whole).value("document.getElementById('left-out').hidden"))
+        self.assertEqual(page.faults(), [])
 
     def test_what_changes_grant_and_take_away(self) -> None:
         """The second page has each node on which somebody gains or loses rights; without changes there is none."""
@@ -141,7 +168,7 @@ class Report(Case):
         page.value("document.querySelector('#found button').click()")
         self.assertEqual(self.focused(page), "file")
         page.value("document.getElementById('words').value = ''; document.getElementById('marked').click()")
-        self.assertEqual(page.value("document.getElementById('results-title').textContent"), "4 found")
+        self.assertEqual(page.value("document.getElementById('results-title').textContent"), "5 found")
 
     def test_what_is_read_aloud(self) -> None:
         """The browser's own tree for screen readers has names and levels of items, and of fields."""
@@ -175,7 +202,7 @@ class Report(Case):
     def test_twenty_thousand_folders(self) -> None:
         lines = [f"import container /d{at} O:BAG:SYD:{INHERITED}\n" for at in range(200)]
         lines += [f"import container /d{at % 200}/n{at} O:BAG:SYD:{INHERITED}\n" for at in range(FOLDERS - 201)]
-        page = self.page(HEAD + "".join(lines) + "publish\n")
+        page = self.page(HEAD + "".join(lines) + "# rows\t0\npublish\n")
         self.assertEqual(page.value("nodes.length"), FOLDERS)
         seconds = page.processor_seconds()
         ready = page.value("document.documentElement.dataset.ready")

@@ -113,6 +113,15 @@ class Texts(Case):
         self.assertIn("import object /c O:BAG:SYD:(A;ID;FA;;;BA)\n", script)
         self.assertRegex(self.rows[0], r"^skipped\t/a\tits descriptor isn't supported: .*\t1$")
 
+    def test_a_null_list_with_flags(self) -> None:
+        """AI, AR and P of it are dropped, and what is below it is read too."""
+        for flags in ("", "AI", "AR", "P", "PARAI"):
+            with self.subTest(flags):
+                null = f"O:BAG:SYD:{flags}NO_ACCESS_CONTROL"
+                self.write("source", csv_of(("C:\\s", ROOT), ("C:\\s\\n", null), ("C:\\s\\n\\f", "O:BAG:SYD:AI")))
+                lines = "import container /n O:BAG:SYD:NO_ACCESS_CONTROL\nimport object /n/f O:BAG:SYD:\n"
+                self.assertIn(lines, self.script())
+
     def test_aliases_of_a_domain(self) -> None:
         self.write("source", csv_of(("C:\\s", "O:DAG:DUD:P(A;;FA;;;DA)")))
         self.assertIn("O:S-1-5-21-1-2-3-512G:S-1-5-21-1-2-3-513D:P", self.script("--domain", "S-1-5-21-1-2-3"))

@@ -67,7 +67,7 @@ class EndToEnd(Volumes):
         self.runs(1, "write", "changed", self.volume.folder, says="can't be written safely: nothing is written")
         self.assertEqual(self.blobs(made.tree), before)
         allowed = ("--replace-differing", "--leave-unread")
-        self.runs(0, "write", *allowed, "changed", self.volume.folder, says="nodes written")
+        self.runs(4, "write", *allowed, "changed", self.volume.folder, says="nodes written")
         self.volume.unmount()
         self.volume.mount()
         self.assert_written(made, old, before)
@@ -160,7 +160,7 @@ class Folders(Volumes):
         self.assertEqual(sum(counts), len(left_out))
         self.write("changed", script + "dacl / D:(A;OICI;FA;;;SY)\npublish\n")
         made.tree.nodes = made.tree.edited("dacl", (), (False, [allow(SY, 0x1F01FF)]))
-        self.runs(0, "write", "--replace-differing", "--leave-unread", "changed", self.volume.folder)
+        self.runs(4, "write", "--replace-differing", "--leave-unread", "changed", self.volume.folder)
         for path in made.tree.nodes:
             if path not in made.said:
                 self.assertEqual(read_form(self.volume.get(path))[0], read_form(node_form(made.tree, path))[0])

@@ -1,0 +1,86 @@
+"""Where the tree of a script isn't what its source has. `read` writes a comment for each such node, and an answer about
+the tree names those that its question is about."""
+
+from collections.abc import Iterable
+from dataclasses import dataclass
+
+from paths import Path, names_in, spelled
+from table import Cell, plural, safe
+
+#: The columns of each row after its path, as docs/ESTATES.md has them.
+_COLUMNS = {"differs": ("why",), "skipped": ("why", "below"), "unlisted": ("why",), "files": ("count",)}
+#: The comment after all others has their count: a script that lost one doesn't pass for one without.
+_END = "# rows\t"
+
+
+@dataclass(frozen=True, slots=True)
+class Gap:
+    """A node that the source has otherwise than the tree ("differs"), or has and the tree hasn't: one without a line
+    ("skipped"), what is in a folder ("unlisted"), files of a folder ("files"). Of "unknown" no comment is."""
+
+    what: str
+    path: Path
+    why: str = ""
+    #: How many nodes are below, or how many files these are.
+    count: int = 0
+
+    @property
+    def cells(self) -> dict[str, Cell]:
+        """The columns of its row."""
+        columns: dict[str, Cell] = {"path": spelled(self.path)}
+        for name in _COLUMNS.get(self.what, ("why",)):
+            columns[name] = self.why if name == "why" else self.count
+        return columns
+
+    @property
+    def comment(self) -> str:
+        """Its line in a script, in ASCII: the row."""
+        cells = (safe(str(cell)) for cell in self.cells.values())
+        return "\t".join([f"# {self.what}", *cells]).encode("ascii", "backslashreplace").decode()
+
+    @property
+    def nodes(self) -> int:
+        return 1 + self.count if self.what == "skipped" else self.count or 1
+
+
+#: What is said where a script doesn't say it.
+UNKNOWN = Gap("unknown", (), "the script doesn't say where its source has more or other nodes: read the source again")
+
+
+def end_of(count: int) -> str:
+    """The comment after those of so many gaps."""
+    return f"{_END}{count}"
+
+
+def gap_of(comment: str) -> Gap | None:
+    """The gap of a comment, or None if it is another one. A ValueError says what is wrong with it."""
+    what, *cells = comment.removeprefix("# ").split("\t")
+    columns = _COLUMNS.get(what)
+    if columns is None or not cells:
+        return None
+    values = dict(zip(columns, cells[1:]))
+    count = values.get("below", values.get("count", "0"))
+    if len(cells) != len(columns) + 1 or not (count.isascii() and count.isdecimal()):
+        raise ValueError(f"{what}: not a comment that estate read writes")
+    return Gap(what, names_in(cells[0]), values.get("why", ""), int(count))
+
+
+def count_in(comment: str) -> int | None:
+    """The count of the comment after all others, or None if it is another one."""
+    count = comment.removeprefix(_END)
+    return int(count) if count != comment and count.isascii() and count.isdecimal() else None
+
+
+def summed_up(gaps: Iterable[Gap]) -> str:
+    """How many nodes these are, in words."""
+    counts: dict[str, int] = {}
+    for gap in gaps:
+        counts[gap.what] = counts.get(gap.what, 0) + gap.nodes
+    texts = {
+        "differs": f"{plural(counts.get('differs', 0), 'node')} that the source has otherwise",
+        "skipped": f"{plural(counts.get('skipped', 0), 'node')} that couldn't be read",
+        "unlisted": f"what is in {plural(counts.get('unlisted', 0), 'folder')}",
+        "files": f"{plural(counts.get('files', 0), 'file')} without a line",
+        "unknown": "it isn't known which nodes",
+    }
+    return ", ".join(text for what, text in texts.items() if what in counts)

@@ -1,0 +1,212 @@
+"""Where a source has more or other nodes than the tree of its script: each answer that is about such a node names it,
+and has a status of its own. Sources are text files, folders with attributes that are written here, and an NTFS
+volume."""
+
+import json
+import os
+import struct
+from collections.abc import Callable
+from pathlib import Path
+
+from rig import AI, PRESENT, PROTECTED, Case, Names, acl_bytes, entry_bytes, form, needs_program, sid_bytes
+from test_texts import CHILD, FILE, ROOT, csv_of
+from test_volumes import Volumes
+from trees import BA, FULL, SY, WD, allow
+from second import ID
+
+USER = "S-1-5-21-1-2-3-1001"
+EVERYONE = "O:BAG:SYD:AI(A;ID;FA;;;WD)"
+CONDITIONAL = "O:BAG:SYD:(XA;;FA;;;WD;(@User.a==1))"
+#: A file that was moved here, one that is supported by no tree, and one in a folder that no line has.
+ROWS = (
+    ("C:\\s", ROOT),
+    ("C:\\s\\a", CHILD),
+    ("C:\\s\\a\\moved", EVERYONE),
+    ("C:\\s\\b", CONDITIONAL),
+    ("C:\\s\\b\\c", FILE),
+    ("C:\\s\\d", FILE),
+)
+MOVED = "differs\t/a/moved\tit inherits otherwise than its folder passes down"
+SUM = "left out: 1 node that the source has otherwise, 2 nodes that couldn't be read"
+ASSUMED = "assumed\tS-1-1-0 S-1-5-11"
+
+
+class Sources(Case):
+    def read(self, *rows: tuple[str, str], words: tuple[str, ...] = ()) -> str:
+        """The script of a CSV."""
+        self.write("source", csv_of(*rows))
+        self.runs(1 if CONDITIONAL in dict(rows).values() else 0, "read", *words, "source", "script")
+        return (self.room / "script").read_text()
+
+
+@needs_program
+class Answers(Sources):
+    def setUp(self) -> None:
+        super().setUp()
+        self.script = self.read(*ROWS)
+        skipped = next(line for line in self.script.splitlines() if line.startswith("# skipped"))
+        self.skipped = skipped.removeprefix("# ")
+        self.assertRegex(self.skipped, r"^skipped\t/b\tits descriptor isn't supported: .*\t1$")
+
+    def test_find(self) -> None:
+        """At and below the path that is asked about: elsewhere the status is 0."""
+        rows = self.runs(4, "find", "script", "/", USER, "0x2", says=f"0 nodes; {SUM}")
+        self.assertEqual(rows, [ASSUMED, MOVED, self.skipped])
+        rows = self.runs(4, "find", "script", "/a", USER, "0x2", says="left out: 1 node that the source has otherwise")
+        self.assertEqual(rows, [ASSUMED, MOVED])
+        self.assertEqual(self.runs(0, "find", "script", "/d", USER, "0x2"), [ASSUMED])
+        self.runs(2, "find", "script", "/b/c", USER, "0x2", says="no such node: its descriptor isn't supported")
+        last = self.runs(4, "find", "--json", "script", "/", USER, "0x2")[-1]
+        self.assertEqual(json.loads(last), {"what": "found", "nodes": 0, "left_out": 2})
+
+    def test_who(self) -> None:
+        rows = self.runs(4, "who", "script", "/a/moved", "0x2", says="1 line; left out: 1 node")
+        self.assertEqual(rows, [ASSUMED, "who\t/a/moved\t0x2\tS-1-5-32-544", MOVED])
+        self.runs(0, "who", "script", "/a", "0x2", says="1 line")
+
+    def test_lint_and_the_report(self) -> None:
+        """A finding doesn't hide that nodes are left out: the status is 4 all the same."""
+        self.assertEqual(self.runs(4, "lint", "script", says=f"0 findings; {SUM}"), [MOVED, self.skipped])
+        self.assertEqual(self.runs(4, "report", "script", "page", says=SUM), [MOVED, self.skipped])
+        data = json.loads((self.room / "page").read_text().partition('application/json">')[2].partition("<")[0])
+        self.assertEqual(data["leftOut"], SUM.removeprefix("left out: "))
+        self.assertEqual([gap[:2] for gap in data["gaps"]], [[2, "/a/moved"], [-1, "/b"]])
+        self.assertIn("not read, and 1 node below: its descriptor isn't supported", data["gaps"][1][2])
+        self.assertEqual([node[8] for node in data["nodes"]], ["", "", MOVED.split("\t")[2], ""])
+        self.write("doubtful", self.script + "dacl /d D:(A;;FA;;;WD)\npublish\n")
+        rows = self.runs(4, "lint", "doubtful", says=f"1 finding; {SUM}")
+        self.assertEqual(rows[0], "lint\t/d\tS-1-1-0 is granted full-control")
+        self.runs(4, "report", "doubtful", "page")
+        self.assertIn('["S-1-1-0 is granted full-control"]', (self.room / "page").read_text())
+
+    def test_review_and_plan(self) -> None:
+        """Of nodes that change, or whose folder passes down other entries; a change elsewhere leaves nothing out."""
+        self.write("elsewhere", self.script + "dacl /d D:P\npublish\n")
+        self.runs(1, "review", "elsewhere", says="1 node where somebody gains or loses rights")
+        self.runs(0, "plan", "elsewhere")
+        self.write("changed", self.script + "dacl / D:P(A;OICI;FR;;;BA)\npublish\n")
+        self.assertEqual(self.runs(4, "review", "changed", says=SUM)[-2:], [MOVED, self.skipped])
+        self.assertEqual(self.runs(4, "plan", "changed", says=SUM)[-2:], [MOVED, self.skipped])
+        self.assertEqual(self.runs(4, "review", "changed", "/a")[-1:], [MOVED])
+        self.write("same", self.script + "dacl /a/moved D:P(A;;FA;;;BA)\npublish\n")
+        self.assertEqual(self.runs(4, "review", "same", says="0 nodes where"), [MOVED])
+
+    def test_a_script_that_lost_its_comments(self) -> None:
+        """It doesn't pass for one that leaves nothing out."""
+        whole = "".join(f"{line}\n" for line in self.script.splitlines() if not line.startswith("#"))
+        for text in (whole, self.script.replace(f"# {self.skipped}\n", ""), self.script.replace("# rows\t2\n", "")):
+            self.write("lost", text)
+            for words in (("find", "lost", "/d", USER, "0x2"), ("who", "lost", "/d", "0x2"), ("lint", "lost")):
+                rows = self.runs(4, *words, says="it isn't known which nodes")
+                self.assertIn("unknown\t/\tthe script doesn't say where its source has more or other nodes", rows[-1])
+            self.runs(4, "review", "lost")
+
+
+@needs_program
+class Parts(Sources):
+    def test_files_without_a_line(self) -> None:
+        """A file may be granted what its folder isn't: so those that --folders leaves out are named."""
+        folder = "O:BAG:SYD:PAI(A;OICI;FA;;;BA)(A;OIIO;FA;;;WD)"
+        file = "O:BAG:SYD:AI(A;ID;FA;;;BA)(A;ID;FA;;;WD)"
+        script = self.read(("C:\\s", folder), ("C:\\s\\f", file), words=("--folders",))
+        self.assertIn("# files\t/\t1\n# rows\t1\npublish\n", script)
+        rows = self.runs(4, "find", "script", "/", USER, "0x2", says="0 nodes; left out: 1 file without a line")
+        self.assertEqual(rows, [ASSUMED, "files\t/\t1"])
+        self.write("changed", script + "dacl / D:P(A;OICI;FA;;;BA)\npublish\n")
+        rows = self.runs(4, "review", "changed", says="0 nodes where somebody gains or loses rights; left out: 1 file")
+        self.assertEqual(rows, ["files\t/\t1"])
+
+    def test_a_null_list_with_flags(self) -> None:
+        """It is no node that is left out."""
+        self.read(("C:\\s", ROOT), ("C:\\s\\n", "O:BAG:SYD:PARAINO_ACCESS_CONTROL"), ("C:\\s\\n\\f", "O:BAG:SYD:AI"))
+        self.assertEqual(self.runs(0, "find", "script", "/", USER, "0x2", says="1 node"), [ASSUMED, "found\t/n"])
+
+    def test_names_that_no_tree_has(self) -> None:
+        """A row of such a node is in the script as any other, and isn't refused where it is read again."""
+        self.write("source", csv_of(("C:\\s", ROOT), ("C:\\s\\" + "\u4e2d" * 86, FILE)))
+        rows = self.runs(1, "read", "source", "script")
+        self.assertEqual(self.runs(4, "lint", "script"), rows)
+
+    def test_a_folder_that_could_not_be_listed(self) -> None:
+        """What is in it is left out of what is asked about it, and of a change that it passes down."""
+        head = "open 1 O:BAG:SYD:P(A;OICI;FA;;;BA)\nimport container /a O:BAG:SYD:(A;OICIID;FA;;;BA)\n"
+        row = "unlisted\t/a\tit can't be listed: Input/output error"
+        self.write("script", f"{head}# {row}\n# rows\t1\npublish\n")
+        self.assertEqual(self.runs(4, "find", "script", "/a", "BA", "FA", says="what is in 1 folder")[-1], row)
+        self.write("changed", (self.room / "script").read_text() + "dacl / D:P(A;OICI;FR;;;BA)\npublish\n")
+        self.assertEqual(self.runs(4, "review", "changed")[-1], row)
+
+
+def ntacl(blob: bytes) -> bytes:
+    """Of Samba's security.NTACL, version 1: the offsets count from its start, 8 bytes before the form."""
+    head = struct.unpack_from("<BBHIIII", blob)
+    moved = (*head[:3], *(at + 8 if at else 0 for at in head[3:]))
+    return struct.pack("<HHI", 1, 1, 0x20000) + struct.pack("<BBHIIII", *moved) + blob[20:]
+
+
+def blob_of(control: int, *entries: bytes) -> bytes:
+    return form(sid_bytes(BA), sid_bytes(SY), acl_bytes(list(entries)), control | PRESENT)
+
+
+def plant(put: Callable[[Names, bytes], None], folder: Path) -> None:
+    """A root, a file that was moved into it, a folder with a null list that has AI, and one without a descriptor."""
+    for name in ("null", "none"):
+        (folder / name).mkdir()
+    (folder / "moved").touch()
+    put((), blob_of(PROTECTED, entry_bytes(allow(BA, FULL))))
+    put(("moved",), blob_of(AI, entry_bytes(allow(WD, FULL, ID))))
+    put(("null",), form(sid_bytes(BA), sid_bytes(SY), None, PRESENT | AI))
+
+
+@needs_program
+class Folders(Case):
+    def test_a_folder(self) -> None:
+        """A share, by attributes of version 1: what is moved and what has no attribute is named by each answer."""
+        share = self.room / "share"
+        share.mkdir()
+
+        def put(path: Names, blob: bytes) -> None:
+            os.setxattr(share.joinpath(*path), "security.NTACL", ntacl(blob))
+
+        try:
+            plant(put, share)
+        except OSError as error:
+            self.skipTest(f"security.NTACL can't be written here: {error}")
+        moved = MOVED.replace("/a/moved", "/moved")
+        none = "skipped\t/none\tits descriptor can't be read: No data available\t0"
+        counted = "4 nodes, 3 lines of nodes, 0 files left out, 1 skipped, 1 differing"
+        self.runs(1, "read", share, "script", says=counted)
+        rows = self.runs(4, "find", "script", "/", USER, "0x2")
+        self.assertEqual(rows, [ASSUMED, "found\t/null", moved, none])
+        script = (self.room / "script").read_text()
+        self.write("changed", script + "dacl / D:P(A;OICI;FA;;;SY)\npublish\n")
+        allowed = ("--replace-differing", "--leave-unread")
+        replaced = "replaced\t/moved\tO:BAG:SYD:(A;ID;FA;;;WD)\tO:BAG:SYD:AI(A;ID;FA;;;SY)"
+        left = "left\t/none\tit has no line in the script"
+        rows = self.runs(4, "plan", *allowed, "changed", share, says="2 nodes would be written; left out: 1 node")
+        self.assertEqual(rows, [left, replaced])
+        self.assertEqual(self.runs(4, "write", *allowed, "changed", share, says="; left out: 1 node"), rows)
+        self.write("owner", script + "owner /moved SY\npublish\n")
+        self.runs(0, "undo", "changed.journal")
+        rows = self.runs(4, "write", "owner", share)
+        self.assertEqual(
+            rows, ["left\t/moved\tits list isn't the tree's, and the script changes its owner or group"]
+        )
+
+
+@needs_program
+class Ntfs(Volumes):
+    def test_a_volume(self) -> None:
+        """A file that was moved with Everyone's entry, and nodes below a folder that no tree has."""
+        folder = self.volume.folder
+        plant(self.volume.put, folder)
+        (folder / "none" / "below").touch()
+        odd = entry_bytes(allow(WD, FULL)).replace(b"\0", b"\5", 1)
+        self.volume.put(("none",), blob_of(0, odd))
+        self.read("script")
+        rows = self.runs(4, "find", "script", "/", USER, "0x2", says="2 nodes that couldn't be read")
+        self.assertEqual(rows[:3], [ASSUMED, "found\t/null", MOVED.replace("/a/moved", "/moved")])
+        self.assertRegex(rows[3], r"^skipped\t/none\t.*\t1$")
+        self.runs(4, "who", "script", "/moved", "FA")
+        self.runs(4, "lint", "script")
+        self.runs(4, "report", "script", "page")
