@@ -39,25 +39,15 @@ impl<T, R: Run<T>> Model for Level<T, R> {
 }
 
 impl<T: Drop, R: Run<T>> Level<T, R> {
-    /// The empty list.
-    pub fn new(alloc: Global) -> Level<T, R>
-        ensures { result ≡ [] }
-    {
-        Level {
-            blocks: Vec::new(alloc),
-            len: 0,
-        }
-    }
-
     /// The number of elements.
-    pub fn len(&self) -> usize
+    pub(crate) fn len(&self) -> usize
         ensures { result ≡ length self.now }
     {
         self.len
     }
 
     /// The element at a position; none where the list ends before it.
-    pub fn get(&self, at: usize) -> Option<&T>
+    pub(crate) fn get(&self, at: usize) -> Option<&T>
         ensures variant { IsSome result ↔ (at < length self.now) }
         ensures value { IfSome result (λ item. item.now ≡ slice_index_or self.now at item.now) }
     {
@@ -80,7 +70,7 @@ impl<T: Drop, R: Run<T>> Level<T, R> {
 
     /// Some elements from a position on, at least one, side by side in memory: an iteration takes the next run where
     /// this one ends.
-    pub fn run_from(&self, at: usize) -> &[T]
+    pub(crate) fn run_from(&self, at: usize) -> &[T]
         requires { at < length self.now }
         ensures { IsRunAt self.now at result.now }
     {
@@ -91,7 +81,7 @@ impl<T: Drop, R: Run<T>> Level<T, R> {
     }
 
     /// The position of an element that equals what is sought in a sorted list, or the position where it belongs.
-    pub fn search<S: Sought<T>>(&self, sought: &S) -> Result<usize, usize>
+    pub(crate) fn search<S: Sought<T>>(&self, sought: &S) -> Result<usize, usize>
         ensures bound { IsSearchInRange result (length self.now) }
         ensures position { IsBinarySearchResult (S.ord sought.now) self.now result }
     {
@@ -101,14 +91,14 @@ impl<T: Drop, R: Run<T>> Level<T, R> {
     }
 
     /// An equal list that shares all blocks. It fails only when memory is out.
-    pub fn copy(&self, alloc: Global) -> Result<Level<T, R>, AllocError>
+    pub(crate) fn copy(&self, alloc: Global) -> Result<Level<T, R>, AllocError>
         ensures { IfOk result (λ copy. copy ≡ self.now) }
     {
         share_blocks(alloc, self.blocks.as_slice(), 0, self.len)
     }
 
     /// Writes one element. It fails only when memory is out, and then the list is as it was.
-    pub fn set(&mut self, alloc: Global, at: usize, item: T) -> Result<(), AllocError>
+    pub(crate) fn set(&mut self, alloc: Global, at: usize, item: T) -> Result<(), AllocError>
         requires { at < length self.old }
         ensures done { OnOk result (self.new ≡ slice_set self.old at item) }
         ensures refused { OnErr result (self.new ≡ self.old) }
@@ -120,7 +110,7 @@ impl<T: Drop, R: Run<T>> Level<T, R> {
     }
 
     /// Inserts an element before a position. It fails only when memory is out, and then the list is as it was.
-    pub fn insert(&mut self, alloc: Global, at: usize, item: T) -> Result<(), AllocError>
+    pub(crate) fn insert(&mut self, alloc: Global, at: usize, item: T) -> Result<(), AllocError>
         requires { at ≤ length self.old }
         ensures done { OnOk result (self.new ≡ insert self.old at item) }
         ensures refused { OnErr result (self.new ≡ self.old) }
@@ -141,7 +131,7 @@ impl<T: Drop, R: Run<T>> Level<T, R> {
     }
 
     /// Removes the element at a position. It fails only when memory is out, and then the list is as it was.
-    pub fn remove(&mut self, alloc: Global, at: usize) -> Result<T, AllocError>
+    pub(crate) fn remove(&mut self, alloc: Global, at: usize) -> Result<T, AllocError>
         requires { at < length self.old }
         ensures value { IfOk result (λ item. item ≡ slice_index_or self.old at item) }
         ensures done { OnOk result (self.new ≡ remove self.old at) }

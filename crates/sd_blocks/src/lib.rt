@@ -16,6 +16,7 @@
 #![tactic(auto)]
 
 mod block;
+mod blocks;
 mod edits;
 mod laws;
 mod leaf;
@@ -30,14 +31,7 @@ mod shift;
 mod try_copy;
 mod write;
 
+pub use blocks::Blocks;
 pub use laws::snapshot_stays;
-pub use leaf::Leaf;
-pub use level::Level;
-pub use nested::Nested;
-pub use run::Run;
 pub use search::Sought;
 pub use try_copy::TryCopy;
-
-/// A list in blocks of blocks: with three levels the longest vector of a list of ten million has some hundred places.
-/// Contracts see the list of its elements.
-pub type Blocks<T> = Level<T, Nested<T, Nested<T, Leaf<T>>>>;

@@ -11,7 +11,12 @@ use std::alloc::{AllocError, Global};
 
 impl<T: Drop, R: Run<T>> Level<T, R> {
     /// Inserts elements before a position. It fails only when memory is out, and then the list is as it was.
-    pub fn insert_run(&mut self, alloc: Global, at: usize, run: Vec<T>) -> Result<(), AllocError>
+    pub(crate) fn insert_run(
+        &mut self,
+        alloc: Global,
+        at: usize,
+        run: Vec<T>,
+    ) -> Result<(), AllocError>
         requires { at ≤ length self.old }
         ensures done { OnOk result (self.new ≡ with_run at run.items self.old) }
         ensures refused { OnErr result (self.new ≡ self.old) }
@@ -24,7 +29,7 @@ impl<T: Drop, R: Run<T>> Level<T, R> {
 
     /// As many elements from the one position on give way to the run, which goes to the other, counted among those that
     /// stay. It fails only when memory is out, and then the list is as it was.
-    pub fn exchange_run(
+    pub(crate) fn exchange_run(
         &mut self,
         alloc: Global,
         from: usize,

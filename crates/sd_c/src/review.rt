@@ -178,7 +178,7 @@ fn review_text(alloc: Global, review: &NodeReview) -> Result<String, AllocError>
     Ok(text)
 }
 
-/// That of a node of the store's tree.
+/// The review of a node of the store's tree.
 fn node_review(alloc: Global, review: &Review<'_>, path: &Path) -> Result<NodeReview, AllocError>
     ensures { IfOk result (λ made. IsNodeReview (trees_of review.now) path.now made) }
 {
@@ -235,7 +235,7 @@ fn moved_review(
     })
 }
 
-/// That of a node of the published tree.
+/// The review of a node of the published tree.
 fn published_review(
     alloc: Global,
     review: &Review<'_>,
@@ -249,7 +249,7 @@ fn published_review(
     without_changes(alloc, GONE, path)
 }
 
-/// That of a node of which nothing is compared.
+/// The review of a node of which nothing is compared.
 fn without_changes(alloc: Global, what: u32, path: &Path) -> Result<NodeReview, AllocError>
     ensures path { IfOk result (λ made. string_bytes made.path ≡ text_of path.now) }
     ensures before { IfOk result (λ made. string_bytes made.before ≡ []) }

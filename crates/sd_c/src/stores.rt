@@ -31,8 +31,8 @@ pub extern "C" fn hudarin_store_open(
     begun(alloc, root, mapping, Ok(Limits::standard()), store)
 }
 
-/// The same within limits: at most so many nodes, the root counted, and so many edits. Refused also if they are no
-/// limits of a tree.
+/// Opens a store, as `hudarin_store_open`, within limits: its tree has at most so many nodes, the root counted, and so
+/// many edits. Refused also if these are no limits of a tree.
 #[unsafe(no_mangle)]
 pub extern "C" fn hudarin_store_open_within(
     alloc: Global,

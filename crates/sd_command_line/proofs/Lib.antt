@@ -1,2 +1,1 @@
-pub mod LawProofs
 pub mod Telling

@@ -7,11 +7,11 @@ use Rattle.sd_script.specs.declared.manner.Manner.{Manner}
 use Rattle.sd_script.specs.declared.tally.Tally.{Tally}
 use Rattle.sd_usage.specs.declared.row.OptionName.TheVariants.{Strict}
 use Rattle.sd_command_line.specs.Answer.{PrintsRun}
-use Rattle.sd_command_line.specs.CommandLine.{Runs, Script}
-use Rattle.sd_command_line.specs.Options.{IsManner, OptionsValue, has}
+use Rattle.sd_arguments.specs.CommandLine.{Runs, Script}
+use Rattle.sd_arguments.specs.Options.{IsManner, OptionsValue, has}
 use Rattle.sd_command_line.specs.Output.{LeavesAfter}
 use Rattle.sd_command_line.specs.Scripts.{script_outcome}
-use Rattle.sd_command_line.specs.declared.command_line.ScriptRun.{ScriptRun}
+use Rattle.sd_arguments.specs.declared.command_line.ScriptRun.{ScriptRun}
 
 -- it leaves it of the answer to the line
 pub output_leaves : (run : ScriptRun) (options : OptionsValue) (manner : Manner) → IsManner options manner

@@ -1,91 +1,24 @@
 -- What the program prints for a command line, and whether it did what was asked for.
-use Rattle.std.specs.Prelude.{◌≡◌, ◌⊎◌, ℕ, Bool, true, false, MatchBool, List, [], ◌++◌, Option, Some, None}
-use Rattle.std.specs.Prelude.{IfSome, if◌then◌else◌, MatchResult, Result, codes}
-use Rattle.std.specs.Str.{IsUtf8}
-use Rattle.sd_answer.specs.Answer.{line, fault_line}
+use Rattle.std.specs.Prelude.{◌≡◌, ℕ, Bool, List, [], Option, MatchResult, Result}
 use Rattle.sd_script.specs.Output.{PrintsAndCounts}
 use Rattle.sd_lines.specs.Output.{IsOutput}
 use Rattle.sd_script.specs.declared.manner.Manner.{Manner}
 use Rattle.sd_script.specs.declared.tally.Tally.{Tally}
 use Rattle.sd_script_audit.specs.Audit.{PrintsAuditAndCounts}
-use Rattle.sd_script.specs.Ids.{tagged}
 use Rattle.sd_script.specs.Printed.{PrintsAndCountsServed, PrintsAs}
-use Rattle.sd_lines.specs.Answers.{PrintsAndLeaves}
-use Rattle.sd_lines.specs.Decoder.{decoded}
-use Rattle.sd_lines.specs.declared.ending.Ending.TheVariants as endings
-use Rattle.sd_lines.specs.declared.form.Form.{Form}
-use Rattle.sd_command_line.specs.Scripts.{IsToldOfScript, script_outcome}
 use Rattle.sd_json.specs.Text.{printed_as}
-use Rattle.sd_json.specs.declared.tagging.Tagging.TheVariants.{Key, Nothing}
+use Rattle.sd_json.specs.declared.tagging.Tagging.TheVariants.{Nothing}
 use Rattle.sd_usage.specs.declared.row.OptionName.TheVariants.{Json, Strict}
-use Rattle.sd_usage.specs.declared.row.TextCommand.{TextCommand}
-use Rattle.sd_usage.specs.declared.row.TextCommand.TheVariants as questions
-use Rattle.sd_command_line.specs.CommandLine.{CommandLineValue, RequestValue, Ask, Each, Help, Runs, Script, Version}
-use Rattle.sd_command_line.specs.declared.command_line.ScriptRun.{ScriptRun}
-use Rattle.sd_command_line.specs.declared.command_line.ScriptRun.TheVariants.{AtOnce, LineByLine, Audit}
-use Rattle.sd_command_line.specs.Each.{after_key, has_key, key_of, outcome_of_lines, told_of_lines, with_line}
-use Rattle.sd_command_line.specs.Input.{is_blank, is_utf16, without_end}
-use Rattle.sd_command_line.specs.declared.flags.GivenFlags.{GivenFlags}
-use Rattle.sd_command_line.specs.Options.{OptionsValue, GivesManner, GivesSettings, has}
-use Rattle.sd_text.specs.Alias.{in_domain}
-use Rattle.sd_commands.specs.Answer.{AnswerValue, AnswersQuestion, IsDone, IsFault}
-use Rattle.sd_commands.specs.Diagnostic.{told_line, IsSidReason}
-use Rattle.sd_commands.specs.declared.answer.Outcome.{Outcome}
-use Rattle.sd_commands.specs.declared.answer.Outcome.TheVariants.{Done, Refused}
-use Rattle.sd_command_line.specs.declared.options.BadValue.{BadValue}
-use Rattle.sd_command_line.specs.declared.options.BadValue.TheVariants.{NoDomain, NoEdits, NoMapping, NoNodes}
-use Rattle.sd_commands.specs.declared.settings.Settings.{Settings}
-use Rattle.sd_command_line.specs.declared.version.TheConstants.{VERSION, KIT}
-
--- the name and the version, and the line of the toolchain that proved the program
-abbrev pub version_lines : List ℕ
-version_lines = line (codes "sdstore " ++ VERSION.now) ++ line KIT.now
-
--- ---- values of options that aren't read
-
--- the value of an option isn't read
-abbrev pub IsBadOption : List ℕ → List ℕ → AnswerValue → Type 0
-IsBadOption name reason answer = IsFault (fault_line name) (told_line (codes "--" ++ name) reason) answer
-
-abbrev pub IsBadValue : BadValue → AnswerValue → Type 0
-IsBadValue (NoDomain text points) answer =
-    (reason : List ℕ) × IsSidReason points (in_domain None) (codes "no domain") text.now reason
-    × IsBadOption (codes "domain") reason answer
-IsBadValue NoMapping answer = IsBadOption (codes "mapping") (codes "no such mapping") answer
-IsBadValue NoNodes answer = IsBadOption (codes "nodes") (codes "no number of nodes, 1 to 16777216") answer
-IsBadValue NoEdits answer = IsBadOption (codes "edits") (codes "no number of edits, 0 to 4294967296") answer
-
--- ---- the text that an input is
-
--- the input is no text that a command answers
-abbrev pub IsInputFault : List ℕ → List ℕ → AnswerValue → Type 0
-IsInputFault name reason answer = IsFault (fault_line name) (told_line (codes "standard input") reason) answer
-
--- the command's answer to the text of an input, but a blank one is a fault. What is no character in it isn't UTF-8
-abbrev pub AnswersInput : Settings → RequestValue → List ℕ → AnswerValue → Type 0
-AnswersInput settings request input answer =
-    let text = without_end (decoded input) in
-    (IsUtf8 text × MatchBool (is_blank text)
-    (IsInputFault (codes "blank") (codes "blank") answer)
-    (AnswersQuestion settings request.question text request.arguments answer))
-    ⊎ ((IsUtf8 text → ⊥) × MatchBool (is_utf16 input)
-    (IsInputFault (codes "utf16") (codes "not UTF-16") answer)
-    (IsInputFault (codes "utf8") (codes "not UTF-8") answer))
-
--- ---- one answer
-
--- what answers a text, or without one the input where it is known, under these settings
-abbrev pub AnswersUnder : Option (List ℕ) → Option (List ℕ) → RequestValue → Settings → AnswerValue → Type 0
-AnswersUnder input (Some text) request settings answer =
-    AnswersQuestion settings request.question text request.arguments answer
-AnswersUnder input None request settings answer =
-    (text : List ℕ) × IfSome input (λ bytes. text ≡ bytes) × AnswersInput settings request text answer
-
--- the same under what the options say
-abbrev pub AnswersOnce : Option (List ℕ) → OptionsValue → Option (List ℕ) → RequestValue → AnswerValue → Type 0
-AnswersOnce input options text request answer =
-    (said : Result Settings BadValue) × GivesSettings options said × MatchResult said
-    (λ settings. AnswersUnder input text request settings answer) (λ bad. IsBadValue bad answer)
+use Rattle.sd_arguments.specs.CommandLine.{CommandLineValue, Ask, Each, Help, Runs, Script, Version}
+use Rattle.sd_arguments.specs.Options.{OptionsValue, GivesManner, has}
+use Rattle.sd_arguments.specs.Version.{version_line}
+use Rattle.sd_arguments.specs.declared.command_line.ScriptRun.{ScriptRun}
+use Rattle.sd_arguments.specs.declared.command_line.ScriptRun.TheVariants.{AtOnce, LineByLine, Audit}
+use Rattle.sd_arguments.specs.declared.options.BadValue.{BadValue}
+use Rattle.sd_questions.specs.Answer.{AnswersEach, AnswersOnce, IsBadValue}
+use Rattle.sd_commands.specs.Answer.{AnswerValue, IsDone}
+use Rattle.sd_commands.specs.declared.answer.Outcome.TheVariants.{Done}
+use Rattle.sd_command_line.specs.Scripts.{IsToldOfScript, script_outcome}
 
 -- an answer, as it is printed
 abbrev pub printed_when : Bool → AnswerValue → AnswerValue
@@ -112,71 +45,11 @@ AnswersScript run input options answer =
     × (answer.outcome ≡ script_outcome (has options Strict) tally))
     (λ bad. IsPrinted options (IsBadValue bad) answer)
 
--- ---- of each line
-
--- the answer to a line's text is the one command's, but a blank line is a fault; no text is told of a line that is too
--- long
-abbrev pub AnswersTold : Result Settings BadValue → RequestValue → Option (List ℕ) → AnswerValue → Type 0
-AnswersTold settings request None answer = IsFault (fault_line (codes "long")) [] answer
-AnswersTold settings request (Some text) answer =
-    (IsUtf8 text × MatchBool (is_blank text) (IsFault (fault_line (codes "blank")) [] answer)
-    (MatchResult settings (λ said. AnswersQuestion said request.question text request.arguments answer)
-    (λ bad. IsBadValue bad answer)))
-    ⊎ ((IsUtf8 text → ⊥) × IsFault (fault_line (codes "utf8")) [] answer)
-
--- what follows each answer: an empty line, where an answer may have several lines
-abbrev pub after_answer : TextCommand → List ℕ
-after_answer questions.Why = codes "\n"
-after_answer questions.Who = codes "\n"
-after_answer questions.Compare = codes "\n"
-after_answer questions.Lint = codes "\n"
-after_answer question = []
-
--- a line's answer, and what came of it
-abbrev pub AnswersLine : Result Settings BadValue → RequestValue → Option (List ℕ) → List ℕ → Outcome → Type 0
-AnswersLine settings request told printed outcome =
-    (answer : AnswerValue) × AnswersTold settings request told answer
-    × (printed ≡ answer.printed ++ after_answer request.question) × (outcome ≡ answer.outcome)
-
--- where lines have keys, the same of one that is a key, a tab and a text, with the key and the tab before each line of
--- the text's answer; one without a key is a fault
-abbrev pub AnswersLineIn : Bool → Result Settings BadValue → RequestValue → Option (List ℕ) → List ℕ → Outcome → Type 0
-AnswersLineIn true settings request (Some line) printed outcome = MatchBool (has_key line)
-    ((answer : List ℕ) × AnswersLine settings request (Some (after_key line)) answer outcome
-    × (printed ≡ tagged (key_of line) true answer))
-    ((printed ≡ fault_line (codes "key") ++ after_answer request.question) × (outcome ≡ Refused))
-AnswersLineIn has_keys settings request told printed outcome = AnswersLine settings request told printed outcome
-
--- the same as it is printed, and what came of the lines up to this one
-abbrev pub AnswersNext : (has_keys is_json : Bool) → Result Settings BadValue → RequestValue → Option Outcome
-    → Option (List ℕ) → List ℕ → Option Outcome → Type 0
-AnswersNext has_keys is_json settings request before told printed after =
-    (plain : List ℕ) × (outcome : Outcome) × AnswersLineIn has_keys settings request told plain outcome
-    × (printed ≡ printed_as is_json (if has_keys then Key else Nothing) plain) × (after ≡ with_line before outcome)
-
--- the lines of an input, each of which a zero byte or a line feed ends. One that is too long is answered too
-abbrev pub form_of : Bool → Form
-form_of zero = record {
-  ending = if zero then endings.Zero else endings.Feed;
-  skips_mark = true;
-  stops_at_long = false;
-  line_by_line = false;
-}
-
--- the lines' answers, one after the other, all under the same settings; refused where one is or where there is none
-abbrev pub AnswersEach : OptionsValue → GivenFlags → RequestValue → Option (List ℕ) → AnswerValue → Type 0
-AnswersEach options given request input answer =
-    (settings : Result Settings BadValue) × GivesSettings options settings
-    × (text : List ℕ) × (last : Option Outcome) × IfSome input (λ bytes. text ≡ bytes)
-    × PrintsAndLeaves (form_of given.zero) (AnswersNext given.key (has options Json) settings request) None text
-    answer.printed last
-    × (answer.told ≡ told_of_lines last) × (answer.outcome ≡ outcome_of_lines last)
-
 -- what is printed for a command line, with this input where it is known, and what came of it; the help's text is
 -- `clap`'s
 abbrev pub Answers : Option (List ℕ) → CommandLineValue → AnswerValue → Type 0
 Answers input (Help command) answer = (answer.told ≡ []) × (answer.outcome ≡ Done)
-Answers input Version answer = IsDone version_lines answer
+Answers input Version answer = IsDone version_line answer
 Answers input (Runs options (Ask text request)) answer =
     IsPrinted options (AnswersOnce input options text request) answer
 Answers input (Runs options (Each given request)) answer = AnswersEach options given request input answer

@@ -1,10 +1,3 @@
 pub mod Answer
-pub mod CommandLine
-pub mod Each
-pub mod Flags
-pub mod Input
-pub mod Laws
-pub mod Mistake
-pub mod Options
 pub mod Output
 pub mod Scripts

@@ -1,6 +1,6 @@
 -- What the program leaves in a writer whose bytes are known.
-use Rattle.std.specs.Prelude.{◌≡◌, ◌⊎◌, ℕ, Bool, ◌||◌, List, Option, Some, None, Result, Err, codes}
-use Rattle.std.specs.Io.KnownBytes.{Appends, Keeps}
+use Rattle.std.specs.Prelude.{◌≡◌, ◌⊎◌, ℕ, Bool, ◌||◌, List, Option, Some, Err, codes}
+use Rattle.std.specs.Io.KnownBytes.{Keeps}
 use Rattle.std.specs.Borrow.{Bor}
 use Rattle.sd_lines.specs.Streams.{AppendsBeginning, ReadsPart, is_read_error, is_write_error}
 use Rattle.sd_lines.specs.declared.error.RunError.{RunError}
@@ -9,28 +9,20 @@ use Rattle.sd_answer.specs.Answer.{line}
 use Rattle.sd_script.specs.Printed.{PrintsServed}
 use Rattle.sd_script.specs.declared.manner.Manner.{Manner}
 use Rattle.sd_script.specs.declared.ids.TheConstants.{LINES}
-use Rattle.sd_lines.specs.Answers.{Prints}
 use Rattle.sd_lines.specs.Output.{LeavesAnswers}
-use Rattle.sd_command_line.specs.Answer.{Answers, AnswersNext, form_of}
-use Rattle.sd_commands.specs.Answer.{AnswerValue, outcome_status}
-use Rattle.sd_command_line.specs.CommandLine.{CommandLineValue, Each, Runs, Script, reading, IsAudit}
-use Rattle.sd_command_line.specs.declared.command_line.ScriptRun.TheVariants.{LineByLine}
-use Rattle.sd_command_line.specs.Options.{GivesSettings, IsManner, has}
-use Rattle.sd_command_line.specs.declared.options.BadValue.{BadValue}
-use Rattle.sd_commands.specs.declared.answer.Outcome.{Outcome}
-use Rattle.sd_commands.specs.declared.settings.Settings.{Settings}
-use Rattle.sd_usage.specs.declared.row.OptionName.TheVariants.{Json}
+use Rattle.sd_commands.specs.Answer.{AnswerValue}
+use Rattle.sd_arguments.specs.CommandLine.{CommandLineValue, Each, Runs, Script, reading, IsAudit}
+use Rattle.sd_arguments.specs.Options.{IsManner}
+use Rattle.sd_arguments.specs.declared.command_line.ScriptRun.TheVariants.{LineByLine}
+use Rattle.sd_questions.specs.Output.{AppendsWhole, LeavesEach}
+use Rattle.sd_command_line.specs.Answer.{Answers}
 
 -- ---- of a command line
 
 -- known bytes grow by the whole answer, with this input; this is told beside it, and it ends with this status
-pub record AppendsAnswerTo (line : CommandLineValue) (input old new : Option (List ℕ)) (told : List ℕ)
-    (status : ℕ) : Type 0 where
-  pub text : List ℕ
-  pub outcome : Outcome
-  pub answers : Answers input line (record { printed = text; told = told; outcome = outcome })
-  pub ended : status ≡ outcome_status outcome
-  pub appended : Appends old new text
+abbrev pub AppendsAnswerTo : CommandLineValue → Option (List ℕ) → Option (List ℕ) → Option (List ℕ) → List ℕ → ℕ
+    → Type 0
+AppendsAnswerTo line input = AppendsWhole (Answers input line)
 
 -- known bytes grow by a beginning of the answer
 pub record AppendsPartOfAnswerTo (line : CommandLineValue) (input old new : Option (List ℕ)) : Type 0 where
@@ -45,8 +37,7 @@ LeavesLinesOf (Runs options (Script (LineByLine has_ids))) input left old new er
     (manner : Manner) × IsManner options manner
     × LeavesAnswers LINES (PrintsServed has_ids manner.notation.is_json manner) input left old new error
 LeavesLinesOf (Runs options (Each given request)) input left old new error =
-    (said : Result Settings BadValue) × GivesSettings options said × LeavesAnswers (form_of given.zero)
-    (Prints (form_of given.zero) (AnswersNext given.key (has options Json) said request) None) input left old new error
+    LeavesEach options given request input left old new error
 LeavesLinesOf line input left old new error = ⊥
 
 -- what stands where the answer isn't there, or not the whole of it

@@ -11,21 +11,12 @@
 //! ```
 #![tactic(auto)]
 
-mod answer;
-mod command_line;
-mod each;
-mod flags;
-mod input;
-mod laws;
-mod mistake;
-mod options;
 mod perform;
 mod program;
 mod scripts;
-mod version;
 
-pub use laws::{dashes_keep_texts, each_asks_the_command, help_stands_alone, names_are_distinct};
-pub use program::{asks_help, drive, is_command_line, reads_input};
+pub use program::drive;
+pub use sd_arguments::{asks_help, is_command_line, reads_input};
 pub use sd_lines::{RunError, Watched};
 pub use sd_script::{Manner, Notation, PathSpelling, Tally, run};
 pub use sd_script_audit::run_audit;

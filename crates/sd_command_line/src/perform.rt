@@ -4,20 +4,17 @@ ghost use Rattle.sd_lines.specs.Watched.{has_failed, inner_of};
 ghost use Rattle.sd_lines.specs.Streams.{ReadsPart, is_read_error, is_write_error};
 ghost use Rattle.sd_commands.specs.Answer.{answer_of, outcome_status};
 ghost use Rattle.sd_command_line.specs.Answer.{Answers, printed_when};
-ghost use Rattle.sd_command_line.specs.CommandLine.{CommandLineValue, IsAudit, Runs, Script, command_line_of};
-ghost use Rattle.sd_command_line.specs.CommandLine.{uses_input};
-ghost use Rattle.sd_command_line.specs.Options.{options_of};
+ghost use Rattle.sd_arguments.specs.CommandLine.{CommandLineValue, IsAudit, Runs, Script, command_line_of};
+ghost use Rattle.sd_arguments.specs.CommandLine.{uses_input};
+ghost use Rattle.sd_arguments.specs.Options.{options_of};
 ghost use Rattle.sd_command_line.specs.Output.{AppendsAnswerTo, LeavesAfter};
 
-use crate::answer::{answer_to, bad_value};
-use crate::command_line::{Asked, CommandLine, Invocation, ScriptRun};
-use crate::each::answer_each;
-use crate::options::Options;
 use crate::scripts::end_of_script;
-use crate::version::version_text;
-use sd_commands::{Answer, Outcome};
+use sd_arguments::{Asked, CommandLine, Invocation, Options, ScriptRun, version_text};
+use sd_commands::Answer;
 use sd_json::{Tagging, printed_as};
 use sd_lines::{RunError, Watched, write_whole};
+use sd_questions::{Ended, answer_each, answer_to, bad_value};
 use sd_script::{run, serve};
 use sd_script_audit::run_audit;
 use sd_store::OpenGate;
@@ -26,13 +23,6 @@ use std::alloc::Global;
 use std::io::{Read, Write};
 use std::sync::Wait;
 use std::thread::Threads;
-
-/// What came of a run, and what standard error is told beside its output.
-#[derive(Debug, Drop)]
-pub(crate) struct Ended {
-    pub(crate) told: String,
-    pub(crate) outcome: Outcome,
-}
 
 /// Carries out a command line. Only what is answered from the input uses `reader`.
 pub(crate) fn perform<T: Threads + Wait + Sync, R: Read, W: Write>(

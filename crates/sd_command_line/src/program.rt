@@ -1,17 +1,16 @@
 //! The program over any words and streams: words in, an answer and a status out.
-ghost use Rattle.std.specs.Prelude.{◌≡◌, ◌≤◌, ◌⊎◌, ℕ, List, false, Some, is_some};
+ghost use Rattle.std.specs.Prelude.{◌≡◌, ◌≤◌, ◌⊎◌, ℕ, List, false};
 ghost use Rattle.std.specs.Io.KnownBytes.{Keeps};
 ghost use Rattle.sd_lines.specs.Watched.{has_failed, inner_of};
 ghost use Rattle.sd_lines.specs.Streams.{AppendsBeginning};
-ghost use Rattle.sd_command_line.specs.CommandLine.{IsUnread, asks_input, mistake_in, reading};
-ghost use Rattle.sd_command_line.specs.Laws.{shows};
-ghost use Rattle.sd_command_line.specs.Mistake.{message};
+ghost use Rattle.sd_arguments.specs.CommandLine.{IsUnread, asks_input};
+ghost use Rattle.sd_arguments.specs.Mistake.{IsMessage};
 ghost use Rattle.sd_command_line.specs.Output.{AppendsAnswer, AppendsPartOfAnswer, IsDue, LeavesByLine, error_line};
 
-use crate::command_line::{Asked, Invocation, read_command_line};
-use crate::mistake::{Mistake, message};
-use crate::perform::{Ended, perform};
+use crate::perform::perform;
+use sd_arguments::{message, read_command_line};
 use sd_lines::{RunError, Watched, write_whole};
+use sd_questions::Ended;
 use std::alloc::Global;
 use std::io::{Read, Write};
 use std::sync::Wait;
@@ -24,7 +23,7 @@ use std::thread::Threads;
 /// - 0: the text was printed, or the right granted, or the script carried out to its end. Help and
 ///   the version are such texts.
 /// - 1: an argument's fault was printed, or a verdict other than granted.
-/// - 2: the words aren't a command line, and `errors` has the message of the first mistake in them.
+/// - 2: the words aren't a command line, and `errors` has a message about one of them.
 /// - 3: memory was wanting, a stream failed, the script was too long, or an audit's workers got no
 ///   answers: `errors` has `sdstore: memory`, `sdstore: read`, `sdstore: write`,
 ///   `sdstore: too long` or `sdstore: thread`.
@@ -43,9 +42,8 @@ pub fn drive<T: Threads + Wait + Sync, R: Read, W: Write, E: Write>(
         × AppendsBeginning (E.contents (inner_of errors.old)) (E.contents (inner_of errors.new)) told }
     ensures unread { result ≡ 2 → IsUnread words.now
         × Keeps (W.contents (inner_of writer.old)) (W.contents (inner_of writer.new)) }
-    ensures mistaken { result ≡ 2 → (mistake : Mistake) × (mistake_in words.now ≡ Some mistake)
-        × AppendsBeginning (E.contents (inner_of errors.old)) (E.contents (inner_of errors.new))
-        (message words.now mistake) }
+    ensures mistaken { result ≡ 2 → (message : List ℕ) × IsMessage words.now message
+        × AppendsBeginning (E.contents (inner_of errors.old)) (E.contents (inner_of errors.new)) message }
     ensures refused { IsUnread words.now → (2 ≤ result)
         × Keeps (W.contents (inner_of writer.old)) (W.contents (inner_of writer.new)) }
     ensures failed { result ≡ 3
@@ -87,34 +85,6 @@ pub fn drive<T: Threads + Wait + Sync, R: Read, W: Write, E: Write>(
             }
         },
     }
-}
-
-/// Whether what these words ask for, of which the first is the program's name, is answered from the input.
-pub fn reads_input(words: &[&str]) -> bool
-    ensures { result ≡ asks_input words.now }
-{
-    match read_command_line(words) {
-        Ok(line) => match line.asked {
-            Asked::Runs(Invocation::Ask { text, .. }) => text.is_none(),
-            Asked::Runs(_) => true,
-            _ => false,
-        },
-        Err(_) => false,
-    }
-}
-
-/// Whether these words, of which the first is the program's name, are a command line.
-pub fn is_command_line(words: &[&str]) -> bool
-    ensures { result ≡ is_some (reading words.now) }
-{
-    read_command_line(words).is_ok()
-}
-
-/// Whether what these words ask for, of which the first is the program's name, is help or the version.
-pub fn asks_help(words: &[&str]) -> bool
-    ensures { result ≡ shows (reading words.now) }
-{
-    read_command_line(words).is_ok_and(|line| !matches!(line.asked, Asked::Runs(_)))
 }
 
 /// Tells standard error. What stands, stands also where the errors can't be written.

@@ -3,8 +3,8 @@ ghost use Rattle.std.specs.Prelude.{◌≡◌, IfOk, string_bytes};
 ghost use Rattle.sd_command_line.specs.Scripts.{IsToldOfScript, expect_note, line_if, line_note};
 ghost use Rattle.sd_command_line.specs.Scripts.{script_notes, script_outcome};
 
-use crate::perform::Ended;
 use sd_commands::{Outcome, told_line};
+use sd_questions::Ended;
 use sd_script::Tally;
 use std::alloc::{AllocError, Global};
 

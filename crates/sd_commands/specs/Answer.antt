@@ -48,8 +48,8 @@ use Rattle.sd_commands.specs.Diagnostic.{at_byte, fault_text, sacl_note, sddl_fa
 use Rattle.sd_commands.specs.Diagnostic.{wire_fault_text, word_argument}
 use Rattle.sd_commands.specs.Diagnostic.{IsStateReason, IsWordReason}
 use Rattle.sd_commands.specs.declared.answer.Answer.{Answer}
-use Rattle.sd_commands.specs.declared.answer.DescriptorCommand.{DescriptorCommand}
-use Rattle.sd_commands.specs.declared.answer.DescriptorCommand.TheVariants as about
+use Rattle.sd_usage.specs.declared.row.DescriptorCommand.{DescriptorCommand}
+use Rattle.sd_usage.specs.declared.row.DescriptorCommand.TheVariants as about
 use Rattle.sd_commands.specs.declared.answer.Outcome.{Outcome}
 use Rattle.sd_commands.specs.declared.answer.Outcome.TheVariants.{Done, Refused}
 use Rattle.sd_commands.specs.declared.descriptor.Given.{Given}
@@ -333,21 +333,15 @@ AnswersOn settings about.Sort arguments d = IsSorted settings d
 -- the self-relative form in hexadecimal
 AnswersOn settings about.ToBinary arguments d = IsDone (line (encode_lower (wire_of d)))
 
-abbrev pub AnswersOfText : Settings → List ℕ → DescriptorCommand → List (Bor (List ℕ)) → AnswerValue → Type 0
-AnswersOfText settings written question arguments =
-    AnswersOfArgument (codes "SDDL") settings written (AnswersOn settings question arguments)
+-- the name of the argument that a command's descriptor is
+abbrev pub descriptor_name : DescriptorCommand → List ℕ
+descriptor_name about.Compare = codes "OLD"
+descriptor_name question = codes "SDDL"
 
 -- what a command answers to a text and the arguments after it
 abbrev pub AnswersQuestion : Settings → TextCommand → List ℕ → List (Bor (List ℕ)) → AnswerValue → Type 0
-AnswersQuestion settings questions.Verdict text arguments = AnswersOfText settings text about.Verdict arguments
-AnswersQuestion settings questions.Why text arguments = AnswersOfText settings text about.Why arguments
-AnswersQuestion settings questions.Who text arguments = AnswersOfText settings text about.Who arguments
-AnswersQuestion settings questions.Compare text arguments =
-    AnswersOfArgument (codes "OLD") settings text (AnswersOn settings about.Compare arguments)
-AnswersQuestion settings questions.Lint text arguments = AnswersOfText settings text about.Lint arguments
-AnswersQuestion settings questions.Print text arguments = AnswersOfText settings text about.Print arguments
-AnswersQuestion settings questions.Sort text arguments = AnswersOfText settings text about.Sort arguments
-AnswersQuestion settings questions.ToBinary text arguments = AnswersOfText settings text about.ToBinary arguments
+AnswersQuestion settings (questions.Descriptor question) text arguments =
+    AnswersOfArgument (descriptor_name question) settings text (AnswersOn settings question arguments)
 AnswersQuestion settings questions.FromBinary text arguments = AnswersFromBinary settings text
 AnswersQuestion settings questions.Rights text arguments = AnswersRights settings text
 AnswersQuestion settings questions.Sid text arguments = AnswersSid settings text

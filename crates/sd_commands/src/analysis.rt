@@ -6,7 +6,7 @@ ghost use Rattle.sd_commands.specs.Analysis.{compare_outcome};
 ghost use Rattle.sd_commands.specs.Answer.{AnswersOfBase, AnswersOn, IsGroupFault, PrintsComparison};
 ghost use Rattle.sd_commands.specs.Answer.{PrintsWho, answer_of};
 
-use crate::answer::{Answer, Answered, DescriptorCommand, Outcome};
+use crate::answer::{Answer, Answered, Outcome};
 use crate::descriptor::{Given, noting};
 use crate::settings::Command;
 use crate::words::{argument, items_from};
@@ -17,6 +17,7 @@ use sd_answer::{
 };
 use sd_check::GroupState;
 use sd_sid::{Mask, Sid};
+use sd_usage::DescriptorCommand;
 use std::alloc::AllocError;
 
 impl Command {
@@ -86,13 +87,24 @@ impl Command {
         ensures { IfOk result (λ answer. AnswersOfBase self.settings words.now
             (PrintsComparison self.settings (descriptor_of old.now) (descriptor_of new.now)) (answer_of answer)) }
     {
-        let groups = match read_base(self.alloc, self.settings.aliases, words) {
-            Ok(groups) => groups,
-            Err(TokenError::NoWord { place }) => return self.group_fault(words, place),
-            Err(TokenError::Memory) => return Err(AllocError),
-        };
+        match read_base(self.alloc, self.settings.aliases, words) {
+            Ok(groups) => self.comparison(old, new, &groups),
+            Err(TokenError::NoWord { place }) => self.group_fault(words, place),
+            Err(TokenError::Memory) => Err(AllocError),
+        }
+    }
+
+    fn comparison(
+        self,
+        old: &Descriptor,
+        new: &Descriptor,
+        groups: &[(Sid, GroupState)],
+    ) -> Answered
+        ensures { IfOk result (λ answer. PrintsComparison self.settings (descriptor_of old.now) (descriptor_of new.now)
+            groups.now (answer_of answer)) }
+    {
         let (old, new) = (looked_at(old), looked_at(new));
-        let (base, mapping) = (Base { groups: &groups }, &self.settings.mapping);
+        let (base, mapping) = (Base { groups }, &self.settings.mapping);
         let comparison = compare(self.alloc, &old, &new, mapping, &base)?;
         let text = compare_text(self.alloc, self.settings.spelling, &old, &new, &comparison)?;
         Ok(Answer::of(self.alloc, text, compare_outcome(&comparison)))

@@ -3,7 +3,7 @@ ghost use Rattle.std.specs.Prelude.{◌≡◌, ◌<◌, ◌^◌, [], IfOk, strin
 ghost use Rattle.sd_answer.specs.Answer.{fault_line, sddl_fault_line};
 ghost use Rattle.sd_acl.specs.Descriptor.{descriptor_of};
 ghost use Rattle.sd_commands.specs.Answer.{AnswersOfArgument, AnswersOn, AnswersQuestion, IsAnswer, IsDone, IsFault};
-ghost use Rattle.sd_commands.specs.Answer.{IsFaultOf, IsTokenFault, answer_of, outcome_status};
+ghost use Rattle.sd_commands.specs.Answer.{IsFaultOf, IsTokenFault, answer_of, descriptor_name, outcome_status};
 ghost use Rattle.sd_commands.specs.Diagnostic.{sddl_fault_text, told_line};
 
 use crate::descriptor::{Given, noting};
@@ -13,11 +13,11 @@ use crate::verdict::Form;
 use sd_acl::Descriptor;
 use sd_answer::{fault_line, sddl_fault_line};
 use sd_text::{TextError, TextFault};
-use sd_usage::TextCommand;
+use sd_usage::{DescriptorCommand, TextCommand};
 use std::alloc::{AllocError, Global};
 
 /// What came of a command.
-#[derive(Clone, Copy, Debug, PartialEq, Eq)]
+#[derive(Clone, Copy, PartialEq, Eq)]
 pub enum Outcome {
     /// The text was printed, or the right granted.
     Done,
@@ -38,7 +38,7 @@ impl Outcome {
 }
 
 /// What is printed, what standard error is told beside it, and what came of it.
-#[derive(Debug, Drop)]
+#[derive(Drop)]
 pub struct Answer {
     /// Whole lines.
     pub text: String,
@@ -83,37 +83,21 @@ pub fn answer_question(
 {
     let command = Command { alloc, settings };
     match question {
-        TextCommand::Verdict => command.answer("SDDL", text, DescriptorCommand::Verdict, arguments),
-        TextCommand::Why => command.answer("SDDL", text, DescriptorCommand::Why, arguments),
-        TextCommand::Who => command.answer("SDDL", text, DescriptorCommand::Who, arguments),
-        TextCommand::Compare => command.answer("OLD", text, DescriptorCommand::Compare, arguments),
-        TextCommand::Lint => command.answer("SDDL", text, DescriptorCommand::Lint, arguments),
-        TextCommand::Print => command.answer("SDDL", text, DescriptorCommand::Print, arguments),
-        TextCommand::Sort => command.answer("SDDL", text, DescriptorCommand::Sort, arguments),
-        TextCommand::ToBinary => command.answer(
-            "SDDL",
-            text,
-            DescriptorCommand::ToBinary,
-            arguments,
-        ),
+        TextCommand::Descriptor(question) => command.answer(question, text, arguments),
         TextCommand::FromBinary => command.from_binary(text),
         TextCommand::Rights => command.rights(text),
         TextCommand::Sid => command.sid(text),
     }
 }
 
-/// What is asked of a descriptor.
-#[derive(Clone, Copy, Debug, PartialEq, Eq)]
-pub(crate) enum DescriptorCommand {
-    Verdict,
-    /// The verdict, and the reason of each bit.
-    Why,
-    Who,
-    Compare,
-    Lint,
-    Print,
-    Sort,
-    ToBinary,
+/// The name of the argument that a command's descriptor is.
+fn descriptor_name(question: DescriptorCommand) -> &'static str
+    ensures { result.now ≡ descriptor_name question }
+{
+    match question {
+        DescriptorCommand::Compare => "OLD",
+        _ => "SDDL",
+    }
 }
 
 /// The answer to an argument that isn't read: what it should have been, and what is told of it. The only error is out
@@ -129,18 +113,13 @@ pub fn fault(alloc: Global, what: &str, told: String) -> Result<Answer, AllocErr
 }
 
 impl Command {
-    /// The answer to a question about the descriptor that the argument of this name is, or the first fault of this
-    /// argument and of those after it.
-    fn answer(
-        self,
-        name: &str,
-        sddl: &str,
-        question: DescriptorCommand,
-        arguments: &[&str],
-    ) -> Answered
-        ensures { IfOk result (λ answer. AnswersOfArgument name.now self.settings sddl.now
+    /// The answer to a question about the descriptor that the text is, or the first fault of this argument and of those
+    /// after it.
+    fn answer(self, question: DescriptorCommand, sddl: &str, arguments: &[&str]) -> Answered
+        ensures { IfOk result (λ answer. AnswersOfArgument (descriptor_name question) self.settings sddl.now
             (AnswersOn self.settings question arguments.now) (answer_of answer)) }
     {
+        let name = descriptor_name(question);
         let read = match self.read_argument(name, sddl)? {
             Given::Descriptor(read) => read,
             Given::Refused(answer) => return Ok(answer),

@@ -14,7 +14,7 @@ use hex::FromHexError;
 use std::alloc::{AllocError, Global};
 
 /// Why a text is no bytes.
-#[derive(Debug, Drop)]
+#[derive(Drop)]
 pub(crate) enum BytesError {
     /// It spells none: what is wrong with it, and at which byte.
     NoBytes { what: &'static str, place: usize },

@@ -1,5 +1,5 @@
 //! The answers to `print`, `tobin`, `frombin` and `sid`: a descriptor or a SID in another form.
-ghost use Rattle.std.specs.Prelude.{IfOk, codes, string_bytes};
+ghost use Rattle.std.specs.Prelude.{◌≡◌, IfOk, codes, string_bytes};
 ghost use Rattle.sd_acl.specs.Descriptor.{descriptor_of};
 ghost use Rattle.hex.specs.Hex.{encode_lower};
 ghost use Rattle.sd_wire.specs.Writing.{wire_of};
@@ -103,15 +103,23 @@ fn wire_fault(alloc: Global, bytes: &[u8], fault: WireFault) -> Answered
         (λ answer. IsFault (wire_fault_line fault) (told_line (codes "BYTES") (told_wire_fault bytes.now fault))
         (answer_of answer)) }
 {
+    let what = wire_reason(alloc, bytes, fault)?;
     let number = fault.number();
     let name = fault.name();
-    let mut what = format!(in alloc; "{number} {name}")?;
-    let text = format!(in alloc; "fault wire {number} {name}\n")?;
-    let note = wire_kind_note(alloc, bytes, fault)?;
-    what.push_str(note.as_str())?;
     Ok(Answer {
-        text,
+        text: format!(in alloc; "fault wire {number} {name}\n")?,
         told: told_line(alloc, "BYTES", what.as_str())?,
         outcome: Outcome::Refused,
     })
+}
+
+/// The first test that the bytes don't pass, and which entry and which kind it is that isn't taken.
+fn wire_reason(alloc: Global, bytes: &[u8], fault: WireFault) -> Result<String, AllocError>
+    ensures { IfOk result (λ what. string_bytes what ≡ told_wire_fault bytes.now fault) }
+{
+    let note = wire_kind_note(alloc, bytes, fault)?;
+    let number = fault.number();
+    let name = fault.name();
+    let what = format!(in alloc; "{number} {name}{note}")?;
+    Ok(what)
 }

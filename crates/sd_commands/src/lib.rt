@@ -5,8 +5,9 @@
 //! It needs no stream and no thread. `sd_command_line` parses a command line to its arguments.
 //!
 //! ```text
+//! let question = TextCommand::Descriptor(DescriptorCommand::Verdict);
 //! let arguments = ["S-1-1-0", "0x1"];
-//! let answer = answer_question(alloc, settings, TextCommand::Verdict, "D:(A;;0x1;;;S-1-1-0)", &arguments)?;
+//! let answer = answer_question(alloc, settings, question, "D:(A;;0x1;;;S-1-1-0)", &arguments)?;
 //! // answer.text is "granted 0x1\n", and answer.outcome.status() is 0
 //! ```
 #![tactic(auto)]

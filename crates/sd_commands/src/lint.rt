@@ -9,6 +9,8 @@ use crate::settings::Command;
 use sd_acl::Descriptor;
 use sd_analysis::Base;
 use sd_answer::{TokenError, lint_text, read_base};
+use sd_check::GroupState;
+use sd_sid::Sid;
 use std::alloc::{AllocError, Global};
 
 impl Command {
@@ -18,12 +20,18 @@ impl Command {
         ensures { IfOk result (λ answer. AnswersOfBase self.settings words.now
             (PrintsFindings self.settings (descriptor_of descriptor.now)) (answer_of answer)) }
     {
-        let groups = match read_base(self.alloc, self.settings.aliases, words) {
-            Ok(groups) => groups,
-            Err(TokenError::NoWord { place }) => return self.group_fault(words, place),
-            Err(TokenError::Memory) => return Err(AllocError),
-        };
-        let base = Base { groups: &groups };
+        match read_base(self.alloc, self.settings.aliases, words) {
+            Ok(groups) => self.findings(descriptor, &groups),
+            Err(TokenError::NoWord { place }) => self.group_fault(words, place),
+            Err(TokenError::Memory) => Err(AllocError),
+        }
+    }
+
+    fn findings(self, descriptor: &Descriptor, groups: &[(Sid, GroupState)]) -> Answered
+        ensures { IfOk result (λ answer. PrintsFindings self.settings (descriptor_of descriptor.now) groups.now
+            (answer_of answer)) }
+    {
+        let base = Base { groups };
         let (mapping, spelling) = (&self.settings.mapping, self.settings.spelling);
         let mut lines = lint_text(self.alloc, mapping, spelling, &base, descriptor)?;
         let risks = risk_lines(self.alloc, self.settings, descriptor, &base)?;

@@ -1,5 +1,6 @@
 //! The lines of risks, which `--risks` adds to those of `lint`.
 ghost use Rattle.std.specs.Prelude.{◌≡◌, ◌++◌, IfOk, string_bytes};
+ghost use Rattle.std.specs.List.{flat_map};
 ghost use Rattle.sd_acl.specs.Descriptor.{descriptor_of};
 ghost use Rattle.sd_text.specs.Canon.{full_canon};
 ghost use Rattle.sd_answer.specs.Answer.{line};
@@ -27,9 +28,15 @@ pub(crate) fn risk_lines(
         return Ok(String::new(alloc));
     }
     let risks = risks_in(alloc, descriptor, &settings.mapping, base)?;
+    lines_of(alloc, settings.spelling, &risks)
+}
+
+fn lines_of(alloc: Global, spelling: Spelling, risks: &[Risk]) -> Result<String, AllocError>
+    ensures { IfOk result (λ text. string_bytes text ≡ flat_map (risk_line spelling) risks.now) }
+{
     let mut text = String::new(alloc);
-    for risk in &risks {
-        let line = risk_line(alloc, settings.spelling, risk)?;
+    for risk in risks {
+        let line = risk_line(alloc, spelling, risk)?;
         text.push_str(line.as_str())?;
     }
     Ok(text)

@@ -6,7 +6,7 @@ use sd_text::Aliases;
 use std::alloc::Global;
 
 /// How the bytes of a descriptor are spelled.
-#[derive(Clone, Copy, Debug, PartialEq, Eq)]
+#[derive(Clone, Copy, PartialEq, Eq)]
 pub enum ByteForm {
     /// In hexadecimal, two digits a byte.
     Hex,
@@ -17,7 +17,7 @@ pub enum ByteForm {
 }
 
 /// What the options say.
-#[derive(Clone, Copy, Debug)]
+#[derive(Clone, Copy)]
 pub struct Settings {
     /// How masks and the rights of entries are printed, and what the argument MASK may be.
     pub spelling: Spelling,

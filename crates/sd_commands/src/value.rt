@@ -7,7 +7,7 @@ use crate::words::items_from;
 use std::alloc::{AllocError, Global};
 
 /// How a value's bytes are spelled, and at which byte of the text they begin.
-#[derive(Clone, Copy, Debug)]
+#[derive(Clone, Copy)]
 pub(crate) enum Value {
     /// In hexadecimal, with signs between bytes.
     Hex(usize),

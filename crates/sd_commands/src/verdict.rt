@@ -16,7 +16,7 @@ use sd_text::read_sid_text_in;
 use std::alloc::AllocError;
 
 /// What is told of a verdict.
-#[derive(Clone, Copy, Debug, PartialEq, Eq)]
+#[derive(Clone, Copy)]
 pub(crate) enum Form {
     /// The verdict alone.
     Short,

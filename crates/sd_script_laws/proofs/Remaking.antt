@@ -1,9 +1,8 @@
 -- The lines of a dump, answered one after the other: an opening, one addition for each other node, and a publish.
-use Rattle.std.proofs.Common.{◌≡◌, ℕ, Bool, true, false, List, [], ◌∷◌, ◌++◌, length, map, take, Option, Some, None, inl, inr, refl, sym, ◌∙◌, ap, subst, replicate, slice_get, append_assoc, append-nil}
-use Rattle.std.specs.Prelude.{MatchBool, drop, codes, option_map}
+use Rattle.std.proofs.Common.{◌≡◌, ℕ, Bool, true, false, List, [], ◌∷◌, ◌++◌, length, map, take, Some, None, inl, inr, refl, sym, ◌∙◌, ap, subst, replicate, slice_get, append_assoc, append-nil}
+use Rattle.std.specs.Prelude.{MatchBool, codes}
 use Rattle.std.specs.Str.Lines.{lines}
 use Rattle.std.proofs.lemmas.List.{length-replicate}
-use Rattle.sd_sid.specs.Mapping.{MappingValue}
 use Rattle.sd_tree.specs.Additions.{addition_of, root_of}
 use Rattle.sd_tree.specs.Names.{Names}
 use Rattle.sd_tree.specs.Plain.{row_at}
@@ -12,8 +11,7 @@ use Rattle.sd_tree.specs.declared.edit.Edit.{Edit}
 use Rattle.sd_tree.specs.declared.node.Row.{Row}
 use Rattle.sd_tree.specs.declared.opening.Opening.{Opening}
 use Rattle.sd_tree.proofs.Closed.{closed_replay}
-use Rattle.sd_tree_renewal.specs.Renewal.{addition as added, IsShortest}
-use Rattle.sd_tree_renewal.proofs.Renewing.{a_container, first_entry, shortest_of_lawful}
+use Rattle.sd_tree_laws.proofs.Remade.{addition as added, a_container, first_entry, remade as made_again}
 use Rattle.sd_versions.specs.Machine.{Machine}
 use Rattle.sd_versions.specs.Starts.{IsReaderCount}
 use Rattle.sd_versions.specs.declared.request.Request.TheVariants as requests
@@ -141,11 +139,7 @@ remade notation m text sound back =
     let first = first_entry t row held.1 in
     let o = opening_in (same_manner notation m) (root_of row) in
     let edits = map added first.0 in
-    let shortest : IsShortest t (root_of row) edits = record {
-      root_is = ap (λ (x : Option Row). option_map root_of x) (sym held.1);
-      edits_are = ap (λ (es : List (Names × Row)). map added (drop 1 es)) first.1;
-    } in
-    let makes = shortest_of_lawful m.opening m.published sound.accepted sound.lawful (root_of row) edits shortest in
+    let makes = made_again m.opening m.published sound.accepted sound.lawful row held.2 held.1 first.0 first.1 in
     let are = subst (λ (es : List (Names × Row)). AreAskedBy notation false (lines text) (makings n es ++ Asking requests.Publish ∷ [])) (sym first.1) back in
     let reach = lines_reach (same_manner notation m) n row first.0 (lines text) sound.readers makes.accepted makes.lawful are in (
       shown o n edits,

@@ -1,10 +1,7 @@
 -- Beginnings of lists.
-use Rattle.std.proofs.Common.{◌≡◌, ◌<◌, ◌≤◌, true, false, nat_le, List, [], ◌∷◌, ◌++◌, length, refl, sym, ap, ◌∙◌, subst, arith, append_assoc, length-append, inl, inr}
+use Rattle.std.proofs.Common.{◌≡◌, ◌≤◌, List, [], ◌∷◌, ◌++◌, length, refl, sym, ap, ◌∙◌, subst, arith, append_assoc, length-append, inl, inr}
 use Rattle.std.proofs.lemmas.List.{append-nil}
-use Rattle.std.proofs.lemmas.Bool.Decides.{nat_tests}
 use mathlib.Core.List.{IsPrefix}
-use Rattle.sd_tree.specs.declared.edit.Edit.{Edit}
-use Rattle.sd_versions.specs.Versions.{longer}
 use Rattle.sd_history.specs.Chains.{Comparable}
 
 module _ {A : Type 0} where
@@ -37,9 +34,3 @@ module _ {A : Type 0} where
 
   pub turned : (xs ys : List A) → Comparable xs ys → Comparable ys xs
   turned xs ys c = elim c [ inl p ↦ inr p | inr p ↦ inl p ]
-
-pub longer_takes : (xs ys : List Edit) → length xs ≤ length ys → longer xs ys ≡ ys
-longer_takes xs ys le = let is : nat_le (length xs) (length ys) ≡ true = grind (arith, nat_tests) in rw is refl
-
-pub longer_keeps : (xs ys : List Edit) → length ys < length xs → longer xs ys ≡ xs
-longer_keeps xs ys less = let is : nat_le (length xs) (length ys) ≡ false = grind (arith, nat_tests) in rw is refl

@@ -3,5 +3,4 @@ pub mod Errors
 pub mod Marks
 pub mod Rules
 pub mod Sights
-pub mod Together
 pub mod Workers

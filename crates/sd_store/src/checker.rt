@@ -1,7 +1,6 @@
 //! The readers of a store.
 
-ghost use Rattle.std.specs.Prelude.{◌≡◌, ◌<◌, ◌⊎◌, length, map, OnOk, OnErr, IfOk, IfErr, IsSome, option_map};
-ghost use Rattle.std.specs.Prelude.{vec_capacity};
+ghost use Rattle.std.specs.Prelude.{◌≡◌, length, OnOk, OnErr, IfOk, IfErr, IsSome, option_map};
 ghost use mathlib.Core.List.{IsPrefix};
 ghost use Rattle.sd_acl.specs.Descriptor.{descriptor_of};
 ghost use Rattle.sd_tree.specs.Answers.{answer, descriptor_at};
@@ -9,15 +8,12 @@ ghost use Rattle.sd_tree.specs.Journal.{replay, IsLawful};
 ghost use Rattle.sd_versions.specs.Versions.{longer};
 ghost use Rattle.sd_store.specs.Marks.{last_of};
 ghost use Rattle.sd_store.specs.Sights.{IsGone};
-ghost use Rattle.sd_store.specs.Together.{AreNone, HasNode, answer_by};
 ghost use Rattle.sd_store.specs.declared.error.ShowError.TheVariants as show;
 
-use crate::answers::Answers;
 use crate::error::{AuditError, Gone, ShowError};
 use crate::floor::Floor;
 use crate::naming::Naming;
 use crate::notice::Notice;
-use crate::query::Query;
 use crate::read::{begin, end};
 use crate::rule::Seat;
 use sd_acl::Descriptor;
@@ -114,49 +110,6 @@ impl<J: Naming> Checker<J> {
         let entered = begin(&mut self.seat)?;
         let found = entered.get().tree.get().descriptor(path);
         end(&mut self.seat, &mut self.floor, entered, found)
-    }
-
-    /// Several questions at one moment: the verdict on each query ([MS-DTYP] 2.5.3.2) and the descriptor of each path
-    /// ([MS-DTYP] 2.4.6), all by the journal that is published at one moment of this call, whose length is returned. It
-    /// enters the shared store once, as `check` does, and waits for nobody. Room for the answers to queries and then
-    /// for the descriptors is made before that; then each descriptor takes memory for its list, in the order of the
-    /// paths.
-    /// `Gone` and `Memory` leave what the reader has seen, and no answers; `Memory` comes only where the room for them
-    /// was too small, or a path has a node.
-    pub fn check_all(
-        &mut self,
-        queries: &[Query],
-        paths: &[Path],
-        answers: &mut Answers,
-    ) -> Result<u64, ShowError>
-        ensures floor { OnOk result (self.new.floor ≡ self.new.view.journal) }
-        ensures extends { OnOk result (IsPrefix self.old.floor self.new.floor) }
-        ensures views { OnOk result (IsPrefix self.old.view.journal self.new.view.journal
-            × IsPrefix self.old.view.marks self.new.view.marks) }
-        ensures lawful { OnOk result (IsLawful J.opening self.new.floor) }
-        ensures seen { IfOk result (λ seen. (seen ≡ length self.new.floor)
-            × (seen ≡ last_of self.new.view.marks)) }
-        ensures checks { OnOk result (answers.new.checks.items
-            ≡ map (answer_by J.opening self.new.floor) queries.now) }
-        ensures descriptors { OnOk result (map (option_map descriptor_of) answers.new.descriptors.items
-            ≡ map (descriptor_at J.opening.mapping (replay J.opening self.new.floor)) paths.now) }
-        ensures failed { OnErr result ((self.new.floor ≡ self.old.floor) × AreNone answers.new) }
-        ensures gone { IfErr result (λ e. e ≡ show.Gone → IsGone self.old self.new) }
-        ensures memory { IfErr result (λ e. e ≡ show.Memory
-            → (vec_capacity answers.old.checks < length queries.now)
-            ⊎ (vec_capacity answers.old.descriptors < length paths.now)
-            ⊎ HasNode J.opening self.new.view.journal paths.now) }
-    {
-        answers.make_room(queries.len(), paths.len())?;
-        let entered = begin(&mut self.seat)?;
-        let filled = answers.fill(entered.get().tree.get(), queries, paths);
-        match end(&mut self.seat, &mut self.floor, entered, filled) {
-            Ok((seen, ())) => Ok(seen),
-            Err(error) => {
-                answers.clear();
-                return Err(error);
-            }
-        }
     }
 
     /// The reader learns of a publish: its floor becomes the longer of what it was and the notice's journal. An older

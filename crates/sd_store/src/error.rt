@@ -46,7 +46,7 @@ pub enum PublishError {
 #[error("the store is gone")]
 pub struct Gone;
 
-/// Why no descriptor was returned, or none of several questions answered.
+/// Why no descriptor was returned.
 #[derive(Clone, Copy, Debug, PartialEq, Eq, Error)]
 pub enum ShowError {
     /// As `Gone`.

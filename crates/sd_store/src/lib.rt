@@ -18,7 +18,6 @@
 //! `crates/sd_store_example` is such a client, proved.
 #![tactic(auto)]
 
-mod answers;
 mod auditing;
 mod checker;
 mod error;
@@ -36,7 +35,6 @@ mod rule;
 mod worker;
 mod writer;
 
-pub use answers::Answers;
 pub use auditing::audit;
 pub use checker::Checker;
 pub use error::{AuditError, EditError, Gone, PublishError, ShowError};

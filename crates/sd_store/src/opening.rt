@@ -47,7 +47,9 @@ pub fn start<J: Naming, R: Wait>(
     start_within::<J, R>(rt, alloc, history, mapping, root, limits, readers)
 }
 
-/// The same, of a store whose tree is within these limits.
+/// A store with no edit yet, whose tree stays within these limits: its writer, and 1 to 64 checkers, which have seen
+/// none. It is of the history that it takes, a new one. `Readers` for another number, and else the root's first
+/// refusal. It may wait where it answers `Place`.
 pub fn start_within<J: Naming, R: Wait>(
     rt: &R,
     alloc: Global,

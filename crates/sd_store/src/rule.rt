@@ -42,5 +42,5 @@ pub(crate) type Cell<J> = Writer<Published, Operation, View, Law<J>>;
 /// A reader's side.
 pub(crate) type Seat<J> = Reader<Published, View, Law<J>>;
 
-/// The same during a read.
+/// A reader's side during a read.
 pub(crate) type Entered<J> = Reading<Published, View, Law<J>>;

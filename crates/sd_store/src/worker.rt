@@ -53,7 +53,7 @@ fn draw<J: Naming, G: Gate>(
     Ok(answers)
 }
 
-/// The same, into a list that is empty.
+/// Puts the answers to the queries at the places `worker`, `worker + step` and so on into an empty list.
 fn fill<J: Naming, G: Gate>(
     worker: usize,
     step: usize,

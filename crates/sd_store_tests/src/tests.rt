@@ -5,7 +5,6 @@ mod calls;
 mod client;
 mod may_read;
 mod memory;
-mod onwards;
 mod store;
 mod threads;
 

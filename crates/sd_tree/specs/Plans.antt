@@ -1,6 +1,6 @@
 -- What an accepted edit does to the nodes. No public contract says so.
-use Rattle.std.specs.Prelude.{◌≡◌, ◌≢◌, ◌⊎◌, Bool, true, false, ℕ, ◌+◌, ◌<◌, ◌≤◌, List, [], ◌∷◌, ◌++◌, length, take}
-use Rattle.std.specs.Prelude.{drop, map, All, slice_index_or, slice_set, None, Some}
+use Rattle.std.specs.Prelude.{◌≡◌, ◌≢◌, ◌⊎◌, Bool, true, false, ℕ, ◌+◌, ◌<◌, ◌≤◌, List, [], ◌∷◌, ◌++◌, length}
+use Rattle.std.specs.Prelude.{map, All, slice_index_or, slice_set, None, Some}
 use Rattle.std.specs.List.{AllWithin, insert, remove}
 use Rattle.std.specs.FinMap as finite
 use Rattle.sd_blocks.specs.Runs.{exchanged}

@@ -2,7 +2,6 @@
 
 ghost use Rattle.std.specs.Prelude.{◌≡◌, IfOk};
 ghost use Rattle.sd_tree.specs.Additions.{addition_of, row_of};
-ghost use Rattle.sd_tree.specs.View.{proposed};
 
 use crate::node::{NodeDacl, NodeKind};
 use crate::opening::RootSpec;
@@ -132,35 +131,11 @@ impl Edit {
             }),
         }
     }
-}
 
-/// An edit that a tree is to accept.
-#[derive(Clone, Copy)]
-pub(crate) enum ProposedEdit<'a> {
-    /// One that the tree copies.
-    Borrowed(&'a Edit),
-    /// One that the tree shares.
-    Kept(&'a Shared<Edit>),
-}
-
-impl ProposedEdit<'_> {
-    /// The edit.
-    pub(crate) fn get(&self) -> &Edit
-        ensures { result.now ≡ proposed self.now }
+    /// An equal edit, for its first holder.
+    pub(crate) fn shared(&self, alloc: Global) -> Result<Shared<Edit>, AllocError>
+        ensures { IfOk result (λ edit. edit ≡ self.now) }
     {
-        match self {
-            ProposedEdit::Borrowed(edit) => edit,
-            ProposedEdit::Kept(edit) => edit.get(),
-        }
-    }
-
-    /// The edit, for the journal.
-    pub(crate) fn share(&self, alloc: Global) -> Result<Shared<Edit>, AllocError>
-        ensures { IfOk result (λ edit. edit ≡ proposed self.now) }
-    {
-        match self {
-            ProposedEdit::Borrowed(edit) => Shared::new(alloc, edit.copy(alloc)?),
-            ProposedEdit::Kept(edit) => edit.share(),
-        }
+        Shared::new(alloc, self.copy(alloc)?)
     }
 }

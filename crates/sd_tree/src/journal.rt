@@ -44,8 +44,8 @@ impl Edits {
     pub(crate) fn copy(&self, alloc: Global) -> Result<Edits, AllocError>
         ensures { IfOk result (λ copy. edits_in copy ≡ edits_in self.now) }
     {
-        let kept = self.kept.copy(alloc)?;
         let last = share_edits(alloc, &self.last)?;
+        let kept = self.kept.copy(alloc)?;
         Ok(Edits { kept, last })
     }
 

@@ -10,11 +10,11 @@ ghost use Rattle.sd_tree.specs.Plans.{IsPlan};
 ghost use Rattle.sd_tree.specs.Refusals.{early_refusal, first_fit, place_tests, addition_tests, move_tests};
 ghost use Rattle.sd_tree.specs.Refusals.{moves_too_deep, node_tests, room_tests, has_child, refusal_in};
 ghost use Rattle.sd_tree.specs.Stored.{path_of_node};
-ghost use Rattle.sd_tree.specs.View.{IsView, proposed, tree_in};
+ghost use Rattle.sd_tree.specs.View.{IsView, tree_in};
 ghost use Rattle.sd_tree.specs.declared.refusal.EditRefusal.TheVariants.{NotEmpty, IsRoot, TooDeep, NodesFull};
 ghost use Rattle.sd_tree.specs.declared.refusal.EditRefusal.TheVariants.{JournalFull};
 
-use crate::edit::{Edit, ProposedEdit};
+use crate::edit::Edit;
 use crate::limits::Limits;
 use crate::list_tests::list_refusal;
 use crate::node::{NodeDacl, NodeKind};
@@ -195,23 +195,23 @@ impl TreeView<'_> {
     /// limits.
     pub(crate) fn plan_or_refusal(
         &self,
-        edit: &ProposedEdit<'_>,
+        edit: &Edit,
         edits: u64,
         limits: Limits,
     ) -> Result<(Shared<Edit>, Plan), TreeError>
         requires { IsView self.now }
-        ensures edit { IfOk result (λ planned. planned.0 ≡ proposed edit.now) }
+        ensures edit { IfOk result (λ planned. planned.0 ≡ edit.now) }
         ensures plan { IfOk result (λ planned. IsPlan self.now.mapping.now (tree_in self.now)
-            (edited self.now.mapping.now (tree_in self.now) (proposed edit.now)) planned.1) }
+            (edited self.now.mapping.now (tree_in self.now) edit.now) planned.1) }
         ensures accepted { IfOk result (λ _.
-            refusal_in limits self.now.mapping.now (tree_in self.now) edits (proposed edit.now) ≡ None) }
+            refusal_in limits self.now.mapping.now (tree_in self.now) edits edit.now ≡ None) }
         ensures refused { IfErr result (λ e. IsError e
-            (refusal_in limits self.now.mapping.now (tree_in self.now) edits (proposed edit.now))) }
+            (refusal_in limits self.now.mapping.now (tree_in self.now) edits edit.now)) }
     {
-        if let Some(refusal) = self.early_refusal(edit.get()) {
+        if let Some(refusal) = self.early_refusal(edit) {
             return Err(TreeError::Refused(refusal));
         }
-        let edit = edit.share(self.alloc)?;
+        let edit = edit.shared(self.alloc)?;
         let plan = self.plan(&edit)?;
         match self.limit_refusal(edit.get(), edits, limits) {
             Some(refusal) => Err(TreeError::Refused(refusal)),

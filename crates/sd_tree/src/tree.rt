@@ -10,11 +10,11 @@ ghost use Rattle.sd_tree.specs.Plans.{IsPlanned};
 ghost use Rattle.sd_tree.specs.Refusals.{is_early, dacl_size};
 ghost use Rattle.sd_tree.specs.Inheritance.{dacl_of_row};
 ghost use Rattle.sd_tree.specs.Sizes.{IsSizeError};
-ghost use Rattle.sd_tree.specs.View.{IsView, proposed, tree_in};
+ghost use Rattle.sd_tree.specs.View.{IsView, tree_in};
 
 use crate::addition::Addition;
 use crate::describe::descriptor_of_node;
-use crate::edit::{Edit, ProposedEdit};
+use crate::edit::Edit;
 use crate::inherit::nothing;
 use crate::journal::{Edits, Journal};
 use crate::limits::Limits;
@@ -101,8 +101,7 @@ impl Tree {
             root: root.copy(alloc)?,
             limits,
         };
-        let mut nodes = Blocks::new(alloc);
-        nodes.insert(alloc, 0, node)?;
+        let nodes = Blocks::single(alloc, node)?;
         Ok(Tree {
             alloc,
             opening,
@@ -120,20 +119,7 @@ impl Tree {
         ensures accepted { OnOk result (refusal self.old.opening self.old.journal edit.now ≡ None) }
         ensures refused { IfErr result (λ e. IsError e (refusal self.old.opening self.old.journal edit.now)) }
     {
-        let (edit, plan) = self.plan_or_refusal(&ProposedEdit::Borrowed(edit))?;
-        self.accept(edit, plan)?;
-        Ok(())
-    }
-
-    /// The same of an edit that another tree has: it is kept once, whatever journals it is in.
-    pub fn apply_shared(&mut self, edit: &Shared<Edit>) -> Result<(), TreeError>
-        ensures opening { self.new.opening ≡ self.old.opening }
-        ensures journal { MatchResult result (λ _. self.new.journal ≡ self.old.journal ++ edit.now ∷ [])
-            (λ _. self.new.journal ≡ self.old.journal) }
-        ensures accepted { OnOk result (refusal self.old.opening self.old.journal edit.now ≡ None) }
-        ensures refused { IfErr result (λ e. IsError e (refusal self.old.opening self.old.journal edit.now)) }
-    {
-        let (edit, plan) = self.plan_or_refusal(&ProposedEdit::Kept(edit))?;
+        let (edit, plan) = self.plan_or_refusal(edit)?;
         self.accept(edit, plan)?;
         Ok(())
     }
@@ -209,7 +195,7 @@ impl Tree {
         ensures due { IfOk result (λ due. due ≡ refusal self.now.opening self.now.journal edit.now) }
         ensures memory { IfErr result (λ _. is_early (refusal self.now.opening self.now.journal edit.now) ≡ false) }
     {
-        match self.plan_or_refusal(&ProposedEdit::Borrowed(edit)) {
+        match self.plan_or_refusal(edit) {
             Ok(_) => Ok(None),
             Err(TreeError::Refused(refusal)) => Ok(Some(refusal)),
             Err(TreeError::Memory) => Err(AllocError),
@@ -247,12 +233,12 @@ impl Tree {
     }
 
     /// An edit, as the journal is to keep it, and its plan; or why it is refused.
-    fn plan_or_refusal(&self, edit: &ProposedEdit<'_>) -> Result<(Shared<Edit>, Plan), TreeError>
-        ensures edit { IfOk result (λ planned. planned.0 ≡ proposed edit.now) }
+    fn plan_or_refusal(&self, edit: &Edit) -> Result<(Shared<Edit>, Plan), TreeError>
+        ensures edit { IfOk result (λ planned. planned.0 ≡ edit.now) }
         ensures plan { IfOk result (λ planned.
-            IsPlanned self.now.opening self.now.journal (proposed edit.now) planned.1) }
+            IsPlanned self.now.opening self.now.journal edit.now planned.1) }
         ensures refused { IfErr result (λ e.
-            IsError e (refusal self.now.opening self.now.journal (proposed edit.now))) }
+            IsError e (refusal self.now.opening self.now.journal edit.now)) }
     {
         self.view()
             .plan_or_refusal(edit, self.len(), self.opening.limits)

@@ -1,5 +1,8 @@
+pub mod AnsweredAlike
+pub mod Bounded
 pub mod Copies
 pub mod ExplicitForm
+pub mod Fronts
 pub mod Keeping
 pub mod KeptGrants
 pub mod OrderGrants
@@ -9,6 +12,7 @@ pub mod Ordered
 pub mod OwnEntries
 pub mod ProtectedFirst
 pub mod Reach
+pub mod Remade
 pub mod Reordered
 pub mod Steps
 pub mod Trustees

@@ -18,7 +18,7 @@ use Rattle.sd_tree.specs.Descriptors.{is_protected}
 use Rattle.sd_tree.specs.Closed.{IsClosed}
 use Rattle.sd_tree.specs.Plain.{PlainTree, row_at, dacl_at}
 use Rattle.sd_tree.specs.Edits.{edited, touches}
-use Rattle.sd_tree.specs.Answers.{descriptor_at, reply_in, answer}
+use Rattle.sd_tree.specs.Answers.{kind_at, descriptor_at, reply_in, answer}
 use Rattle.sd_tree.specs.Journal.{replay, refusal, root_refusal, IsLawful}
 use Rattle.sd_tree.specs.Refusals.{own_entries}
 use Rattle.sd_tree.specs.declared.node.Row.{Row}
@@ -30,6 +30,7 @@ use Rattle.sd_tree.specs.declared.opening.Opening.{Opening}
 use Rattle.sd_tree.specs.declared.tree.CheckReply.TheVariants.{Verdict}
 use Rattle.sd_tree.specs.declared.edit.Edit.{Edit}
 use Rattle.sd_tree.specs.declared.edit.Edit.TheVariants.{SetOwner, SetGroup, ProtectKeeping, Move}
+use Rattle.sd_tree.specs.declared.refusal.EditRefusal.TheVariants.{JournalFull}
 
 -- ---- from the root down
 
@@ -47,6 +48,24 @@ RootInheritsNothing =
 abbrev pub LawfulTreesAreClosed : Type 0
 LawfulTreesAreClosed =
     (opening : Opening) (journal : List Edit) → IsLawful opening journal → IsClosed (replay opening journal)
+
+-- ---- a tree and its journals
+
+-- two openings and journals that answer alike, but for the room that the journals have left
+pub record AnswerAlike (o : Opening) (journal : List Edit) (o' : Opening) (journal' : List Edit) : Type 0 where
+  pub answers : (path : Names) (token : TokenValue) (asked : ℕ)
+      → answer o' journal' path token asked ≡ answer o journal path token asked
+  pub descriptors : (path : Names)
+      → descriptor_at o'.mapping (replay o' journal') path ≡ descriptor_at o.mapping (replay o journal) path
+  pub kinds : (path : Names) → kind_at (replay o' journal') path ≡ kind_at (replay o journal) path
+  pub refusals : (edit : Edit) → refusal o journal edit ≢ Some JournalFull → refusal o' journal' edit ≢ Some JournalFull
+      → refusal o' journal' edit ≡ refusal o journal edit
+
+-- of one mapping, within the same limits, and of journals that make one tree
+abbrev pub SameTreeAnswersAlike : Type 0
+SameTreeAnswersAlike =
+    (o o' : Opening) (journal journal' : List Edit) → o'.mapping ≡ o.mapping → o'.limits ≡ o.limits
+    → replay o' journal' ≡ replay o journal → AnswerAlike o journal o' journal'
 
 -- ---- how far an edit reaches
 

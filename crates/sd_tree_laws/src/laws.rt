@@ -2,7 +2,8 @@
 
 ghost use Rattle.sd_tree_laws.specs.Laws.{DaclIsOfParent, RootInheritsNothing, LawfulTreesAreClosed};
 ghost use Rattle.sd_tree_laws.specs.Laws.{OwnerChangesOneNode, GroupChangesOneNode, KeepingANullChangesNone};
-ghost use Rattle.sd_tree_laws.specs.Laws.{EditStaysBelow, MoveCarriesTheSubtree, MoveBackUndoesIt};
+ghost use Rattle.sd_tree_laws.specs.Laws.{SameTreeAnswersAlike, EditStaysBelow};
+ghost use Rattle.sd_tree_laws.specs.Laws.{MoveCarriesTheSubtree, MoveBackUndoesIt};
 ghost use Rattle.sd_tree_laws.specs.Laws.{ProtectedKeepLists, NullKeepLists, RenamedKeepLists, ProtectedStandsAlone};
 ghost use Rattle.sd_tree_laws.specs.Laws.{UnmarkedEntryStays, NoPropagateGoesOneLevel, NothingWaitsInAnObject};
 ghost use Rattle.sd_tree_laws.specs.Laws.{InheritedHasId, OwnHasNoId, WithoutIdIsOwn, EveryListIsCanonical};
@@ -20,6 +21,12 @@ pub fn dacl_is_of_parent()
 /// After a valid journal the root and the parent of each node exist and are containers.
 pub fn lawful_trees_are_closed()
     ensures { LawfulTreesAreClosed }
+{}
+
+/// Two openings with one mapping and the same limits, and journals that make one tree: each answer, descriptor and kind
+/// is the same, and so is each refusal but `JournalFull`.
+pub fn same_tree_answers_alike()
+    ensures { SameTreeAnswersAlike }
 {}
 
 /// An edit changes the descriptor of no node but the edited one and those below it; a move, of none but those at and

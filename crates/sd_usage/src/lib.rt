@@ -20,8 +20,9 @@ mod usage;
 
 pub use names::{Commands, argument_name, listed_commands, usage_line};
 pub use row::{
-    Argument, Arguments, Command, CommandName, CommandRow, Flag, Flags, OPTION_COUNT, OptionName,
-    OptionRow, ProgramOption, TextCommand, Value, command_named, option_named, takes_option,
+    Argument, Arguments, Command, CommandName, CommandRow, DescriptorCommand, Flag, Flags,
+    OPTION_COUNT, OptionName, OptionRow, ProgramOption, TextCommand, Value, command_named,
+    option_named, takes_option,
 };
 pub use table::{COMMANDS, OPTIONS};
 pub use usage::help;

@@ -148,18 +148,31 @@ fn arguments_text(alloc: Global, arguments: Arguments) -> Result<String, AllocEr
     match arguments {
         Arguments::Nothing => Ok(String::new(alloc)),
         Arguments::One(argument) => first_text(alloc, argument),
-        Arguments::Two(argument, next) => {
-            let (first, next) = (first_text(alloc, argument)?, argument_name(next));
-            let text = format!(in alloc; "{first} <{next}>")?;
-            Ok(text)
-        }
-        Arguments::Three(argument, next, last) => {
-            let (first, next) = (first_text(alloc, argument)?, argument_name(next));
-            let last = argument_name(last);
-            let text = format!(in alloc; "{first} <{next}> <{last}>")?;
-            Ok(text)
-        }
+        Arguments::Two(argument, next) => two_text(alloc, argument, next),
+        Arguments::Three(argument, next, last) => three_text(alloc, argument, next, last),
     }
+}
+
+fn two_text(alloc: Global, argument: Argument, next: Argument) -> Result<String, AllocError>
+    ensures { IfOk result (λ text. string_bytes text ≡ first_text argument ++ argument_text next) }
+{
+    let (first, next) = (first_text(alloc, argument)?, argument_name(next));
+    let text = format!(in alloc; "{first} <{next}>")?;
+    Ok(text)
+}
+
+fn three_text(
+    alloc: Global,
+    argument: Argument,
+    next: Argument,
+    last: Argument,
+) -> Result<String, AllocError>
+    ensures { IfOk result
+        (λ text. string_bytes text ≡ first_text argument ++ argument_text next ++ argument_text last) }
+{
+    let (first, last) = (two_text(alloc, argument, next)?, argument_name(last));
+    let text = format!(in alloc; "{first} <{last}>")?;
+    Ok(text)
 }
 
 /// The first argument, with the place of a first `--`: before the arguments, and of `each` before those of its command.

@@ -1,18 +1,11 @@
 //! The end of the help on each command, and on the program.
 
-use crate::row::{CommandName, TextCommand};
+use crate::row::{CommandName, DescriptorCommand, TextCommand};
 
 /// The end of a command's help, before its example.
 pub(crate) fn notes_of(command: CommandName) -> &'static str {
     match command {
-        CommandName::Ask(TextCommand::Verdict) => VERDICT_NOTES,
-        CommandName::Ask(TextCommand::Why) => WHY_NOTES,
-        CommandName::Ask(TextCommand::Who) => WHO_NOTES,
-        CommandName::Ask(TextCommand::Compare) => COMPARE_NOTES,
-        CommandName::Ask(TextCommand::Lint) => LINT_NOTES,
-        CommandName::Ask(TextCommand::Print) => PRINT_NOTES,
-        CommandName::Ask(TextCommand::Sort) => SORT_NOTES,
-        CommandName::Ask(TextCommand::ToBinary) => TO_BINARY_NOTES,
+        CommandName::Ask(TextCommand::Descriptor(question)) => descriptor_notes(question),
         CommandName::Ask(TextCommand::FromBinary) => FROM_BINARY_NOTES,
         CommandName::Ask(TextCommand::Rights) => RIGHTS_NOTES,
         CommandName::Ask(TextCommand::Sid) => SID_NOTES,
@@ -20,6 +13,19 @@ pub(crate) fn notes_of(command: CommandName) -> &'static str {
         CommandName::Serve => SERVE_NOTES,
         CommandName::Audit => AUDIT_NOTES,
         CommandName::Each => EACH_NOTES,
+    }
+}
+
+fn descriptor_notes(question: DescriptorCommand) -> &'static str {
+    match question {
+        DescriptorCommand::Verdict => VERDICT_NOTES,
+        DescriptorCommand::Why => WHY_NOTES,
+        DescriptorCommand::Who => WHO_NOTES,
+        DescriptorCommand::Compare => COMPARE_NOTES,
+        DescriptorCommand::Lint => LINT_NOTES,
+        DescriptorCommand::Print => PRINT_NOTES,
+        DescriptorCommand::Sort => SORT_NOTES,
+        DescriptorCommand::ToBinary => TO_BINARY_NOTES,
     }
 }
 

@@ -21,7 +21,7 @@ pub type CommandRow = (
 pub type OptionRow = (&'static str, ProgramOption, &'static str);
 
 /// A command of the program.
-#[derive(Clone, Copy, Debug, PartialEq, Eq)]
+#[derive(Clone, Copy, PartialEq, Eq)]
 pub enum CommandName {
     /// One that answers its arguments, of which the first can be a line of `each`.
     Ask(TextCommand),
@@ -36,8 +36,21 @@ pub enum CommandName {
 }
 
 /// A command that answers its arguments.
-#[derive(Clone, Copy, Debug, PartialEq, Eq)]
+#[derive(Clone, Copy, PartialEq, Eq)]
 pub enum TextCommand {
+    /// One whose first argument is a descriptor in SDDL.
+    Descriptor(DescriptorCommand),
+    /// `frombin`.
+    FromBinary,
+    /// `rights`.
+    Rights,
+    /// `sid`.
+    Sid,
+}
+
+/// A command about a descriptor.
+#[derive(Clone, Copy, PartialEq, Eq)]
+pub enum DescriptorCommand {
     /// `verdict`.
     Verdict,
     /// `why`.
@@ -54,12 +67,6 @@ pub enum TextCommand {
     Sort,
     /// `tobin`.
     ToBinary,
-    /// `frombin`.
-    FromBinary,
-    /// `rights`.
-    Rights,
-    /// `sid`.
-    Sid,
 }
 
 /// An option before a command.

@@ -5,8 +5,8 @@ use crate::options::{
     TEXT_OPTIONS,
 };
 use crate::row::{
-    Argument, Arguments, Command, CommandName, CommandRow, Flag, Flags, OptionName, OptionRow,
-    ProgramOption, TextCommand, Value,
+    Argument, Arguments, Command, CommandName, CommandRow, DescriptorCommand, Flag, Flags,
+    OptionName, OptionRow, ProgramOption, TextCommand, Value,
 };
 
 /// The commands, in the order in which help lists them.
@@ -14,7 +14,7 @@ pub const COMMANDS: &[CommandRow] = &[
     (
         "verdict",
         Command {
-            name: CommandName::Ask(TextCommand::Verdict),
+            name: CommandName::Ask(TextCommand::Descriptor(DescriptorCommand::Verdict)),
             flags: Flags::Nothing,
             arguments: Arguments::Three(Argument::Descriptor, Argument::User, Argument::Mask),
             repeated: Some(Argument::Word),
@@ -27,7 +27,7 @@ sdstore verdict 'D:(D;;0x2;;;S-1-5-21-1-2-3-1001)(A;;0x1f01ff;;;S-1-5-21-1-2-3-1
     (
         "why",
         Command {
-            name: CommandName::Ask(TextCommand::Why),
+            name: CommandName::Ask(TextCommand::Descriptor(DescriptorCommand::Why)),
             flags: Flags::Nothing,
             arguments: Arguments::Three(Argument::Descriptor, Argument::User, Argument::Mask),
             repeated: Some(Argument::Word),
@@ -39,7 +39,7 @@ sdstore verdict 'D:(D;;0x2;;;S-1-5-21-1-2-3-1001)(A;;0x1f01ff;;;S-1-5-21-1-2-3-1
     (
         "who",
         Command {
-            name: CommandName::Ask(TextCommand::Who),
+            name: CommandName::Ask(TextCommand::Descriptor(DescriptorCommand::Who)),
             flags: Flags::Nothing,
             arguments: Arguments::Two(Argument::Descriptor, Argument::Mask),
             repeated: Some(Argument::Group),
@@ -51,7 +51,7 @@ sdstore verdict 'D:(D;;0x2;;;S-1-5-21-1-2-3-1001)(A;;0x1f01ff;;;S-1-5-21-1-2-3-1
     (
         "compare",
         Command {
-            name: CommandName::Ask(TextCommand::Compare),
+            name: CommandName::Ask(TextCommand::Descriptor(DescriptorCommand::Compare)),
             flags: Flags::Nothing,
             arguments: Arguments::Two(Argument::Old, Argument::New),
             repeated: Some(Argument::Group),
@@ -63,7 +63,7 @@ sdstore verdict 'D:(D;;0x2;;;S-1-5-21-1-2-3-1001)(A;;0x1f01ff;;;S-1-5-21-1-2-3-1
     (
         "lint",
         Command {
-            name: CommandName::Ask(TextCommand::Lint),
+            name: CommandName::Ask(TextCommand::Descriptor(DescriptorCommand::Lint)),
             flags: Flags::Nothing,
             arguments: Arguments::One(Argument::Descriptor),
             repeated: Some(Argument::Group),
@@ -75,7 +75,7 @@ sdstore verdict 'D:(D;;0x2;;;S-1-5-21-1-2-3-1001)(A;;0x1f01ff;;;S-1-5-21-1-2-3-1
     (
         "print",
         Command {
-            name: CommandName::Ask(TextCommand::Print),
+            name: CommandName::Ask(TextCommand::Descriptor(DescriptorCommand::Print)),
             flags: Flags::Nothing,
             arguments: Arguments::One(Argument::Descriptor),
             repeated: None,
@@ -87,7 +87,7 @@ sdstore verdict 'D:(D;;0x2;;;S-1-5-21-1-2-3-1001)(A;;0x1f01ff;;;S-1-5-21-1-2-3-1
     (
         "sort",
         Command {
-            name: CommandName::Ask(TextCommand::Sort),
+            name: CommandName::Ask(TextCommand::Descriptor(DescriptorCommand::Sort)),
             flags: Flags::Nothing,
             arguments: Arguments::One(Argument::Descriptor),
             repeated: None,
@@ -99,7 +99,7 @@ sdstore verdict 'D:(D;;0x2;;;S-1-5-21-1-2-3-1001)(A;;0x1f01ff;;;S-1-5-21-1-2-3-1
     (
         "tobin",
         Command {
-            name: CommandName::Ask(TextCommand::ToBinary),
+            name: CommandName::Ask(TextCommand::Descriptor(DescriptorCommand::ToBinary)),
             flags: Flags::Nothing,
             arguments: Arguments::One(Argument::Descriptor),
             repeated: None,

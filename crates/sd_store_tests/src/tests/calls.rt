@@ -4,7 +4,6 @@ use super::*;
 use sd_sid::{GenericMapping, Sid};
 use sd_text::{Domain, alias_of};
 use sd_tree::{Name, NodeKind, Tree};
-use sd_tree_renewal::renewed;
 use std::process::Abort;
 
 /// S-1-5-21-7-8-9 as a domain, and its account 500.
@@ -22,8 +21,8 @@ fn a_domain_has_its_sid(rt: HostRuntime) {
     assert_eq!(rt; alias_of(&account), None);
 }
 
-/// A tree in which `/a` was removed, and its renewal.
-fn trees(alloc: Global) -> Option<(Tree, Tree)> {
+/// A tree in which `/a` was removed.
+fn tree(alloc: Global) -> Option<Tree> {
     let root = spec(alloc, "O:BAG:SYD:")?;
     let mut tree = Tree::opening(alloc, &GenericMapping::file(), &root).ok()?;
     for path in ["/a", "/b", "/b/c"] {
@@ -32,8 +31,7 @@ fn trees(alloc: Global) -> Option<(Tree, Tree)> {
     }
     let path = Path::read(alloc, "/a").ok()?;
     tree.apply(&Edit::Remove { path }).ok()?;
-    let again = renewed(&tree, alloc).ok()?;
-    Some((tree, again))
+    Some(tree)
 }
 
 /// The path of the child `c` of `/b`, by its name.
@@ -42,12 +40,10 @@ fn child(alloc: Global) -> Option<Path> {
     Path::read(alloc, "/b").ok()?.child(alloc, &name).ok()
 }
 
-/// A renewed tree has the same nodes by fewer edits.
 #[test]
-fn a_tree_is_renewed(rt: HostRuntime) {
-    let (tree, again) = trees(rt.alloc()).expect(&rt, "memory");
+fn a_child_is_found_by_its_name(rt: HostRuntime) {
+    let tree = tree(rt.alloc()).expect(&rt, "memory");
     let child = child(rt.alloc()).expect(&rt, "memory");
-    assert_eq!(rt; (tree.len(), again.len()), (4, 2));
-    assert_eq!(rt; (tree.node_count(), again.node_count()), (3, 3));
-    assert_eq!(rt; again.lookup(&child), Some(NodeKind::Container));
+    assert_eq!(rt; (tree.len(), tree.node_count()), (4, 3));
+    assert_eq!(rt; tree.lookup(&child), Some(NodeKind::Container));
 }

@@ -6,7 +6,7 @@
 
 use super::store::{Play, is_right};
 use super::*;
-use sd_store::{Answers, Checker, EditError, Naming, PublishError, ShowError, StoreWriter};
+use sd_store::{Checker, EditError, Naming, PublishError, ShowError, StoreWriter};
 use sd_tree::EditRefusal;
 use sd_versions::Answer;
 use std::process::Abort;
@@ -73,7 +73,6 @@ enum Step {
     Learn,
     Check,
     Describe,
-    AskAll,
 }
 
 /// What a step answered.
@@ -86,8 +85,6 @@ enum Outcome {
     Answered(u64, CheckReply),
     /// What was seen, and how many entries the node's DACL has.
     Described(u64, Option<usize>),
-    /// What was seen, and the last of the checks.
-    AnsweredAll(u64, CheckReply),
     Memory,
     Gone,
 }
@@ -99,7 +96,7 @@ const EDITS: [(Change, &str, &str); 4] = [
     (Change::Dacl, "/a", "O:BAG:SYD:(D;;0x1;;;BU)(A;;0x2;;;BU)"),
 ];
 
-const STORY: [(Step, Outcome); 14] = [
+const STORY: [(Step, Outcome); 12] = [
     (Step::Edit(0), Outcome::Done),
     (Step::Check, Outcome::Answered(0, CheckReply::NoNode)),
     (Step::Publish, Outcome::Published(1)),
@@ -107,12 +104,10 @@ const STORY: [(Step, Outcome); 14] = [
     (Step::Check, Outcome::Answered(1, GRANTED)),
     (Step::Edit(1), Outcome::Refused(EditRefusal::Exists)),
     (Step::Describe, Outcome::Described(1, Some(1))),
-    (Step::AskAll, Outcome::AnsweredAll(1, GRANTED)),
     (Step::Edit(2), Outcome::Done),
     (Step::Edit(3), Outcome::Done),
     (Step::Publish, Outcome::Published(3)),
     (Step::Check, Outcome::Answered(3, DENIED)),
-    (Step::AskAll, Outcome::AnsweredAll(3, DENIED)),
     (Step::Describe, Outcome::Described(3, Some(2))),
 ];
 
@@ -120,9 +115,7 @@ const STORY: [(Step, Outcome); 14] = [
 #[derive(Drop)]
 struct Inputs {
     edits: Vec<Edit>,
-    queries: Vec<Query>,
-    paths: Vec<Path>,
-    answers: Answers,
+    query: Query,
 }
 
 fn all_inputs(alloc: Global) -> Option<Inputs> {
@@ -130,13 +123,9 @@ fn all_inputs(alloc: Global) -> Option<Inputs> {
     for (change, path, sddl) in EDITS {
         edits.push(edit(alloc, change, path, sddl)?).ok()?;
     }
-    let queries = vec![in alloc; query(alloc, "/a")?].ok()?;
-    let paths = vec![in alloc; Path::read(alloc, "/a").ok()?].ok()?;
     Some(Inputs {
         edits,
-        queries,
-        paths,
-        answers: Answers::new(alloc),
+        query: query(alloc, "/a")?,
     })
 }
 
@@ -148,16 +137,16 @@ pub(super) fn story_is_right<J: Naming, R: Wait>(
     checkers: &mut [Checker<J>],
     refused: &Refused,
 ) -> Option<bool> {
-    let mut inputs = all_inputs(alloc)?;
+    let inputs = all_inputs(alloc)?;
     let checker = checkers.first_mut()?;
     let mut right = true;
     for (number, (step, wanted)) in STORY.iter().enumerate() {
         refused.begin(alloc, Some(number));
-        let outcome = stepped(rt, writer, checker, &mut inputs, *step);
+        let outcome = stepped(rt, writer, checker, &inputs, *step);
         let came = refused.end(alloc, Some(number));
         right &= may_be(outcome, came, *step, *wanted, refused.refusal);
         if outcome == Outcome::Memory {
-            right &= stepped(rt, writer, checker, &mut inputs, *step) == *wanted;
+            right &= stepped(rt, writer, checker, &inputs, *step) == *wanted;
         }
     }
     Some(right)
@@ -178,7 +167,7 @@ fn stepped<J: Naming, R: Wait>(
     rt: &R,
     writer: &mut StoreWriter<J>,
     checker: &mut Checker<J>,
-    inputs: &mut Inputs,
+    inputs: &Inputs,
     step: Step,
 ) -> Outcome {
     match step {
@@ -187,7 +176,6 @@ fn stepped<J: Naming, R: Wait>(
         Step::Learn => learned(writer, checker),
         Step::Check => checked(checker, inputs),
         Step::Describe => described(checker, inputs),
-        Step::AskAll => asked_all(checker, inputs),
     }
 }
 
@@ -215,9 +203,7 @@ fn learned<J: Naming>(writer: &mut StoreWriter<J>, checker: &mut Checker<J>) -> 
 }
 
 fn checked<J: Naming>(checker: &mut Checker<J>, inputs: &Inputs) -> Outcome {
-    let Some(query) = inputs.queries.first() else {
-        return Outcome::Gone;
-    };
+    let query = &inputs.query;
     match checker.check(&query.path, &query.token, query.asked) {
         Ok(Answer { seen, reply }) => Outcome::Answered(seen, reply),
         Err(_) => Outcome::Gone,
@@ -225,33 +211,14 @@ fn checked<J: Naming>(checker: &mut Checker<J>, inputs: &Inputs) -> Outcome {
 }
 
 fn described<J: Naming>(checker: &mut Checker<J>, inputs: &Inputs) -> Outcome {
-    let Some(path) = inputs.paths.first() else {
-        return Outcome::Gone;
-    };
-    match checker.descriptor(path) {
+    match checker.descriptor(&inputs.query.path) {
         Ok((seen, Some(descriptor))) => match &descriptor.dacl {
             Dacl::List(list) => Outcome::Described(seen, Some(list.entries().len())),
             _ => Outcome::Described(seen, None),
         },
         Ok((seen, None)) => Outcome::Described(seen, None),
-        Err(error) => failed(error),
-    }
-}
-
-fn asked_all<J: Naming>(checker: &mut Checker<J>, inputs: &mut Inputs) -> Outcome {
-    match checker.check_all(&inputs.queries, &inputs.paths, &mut inputs.answers) {
-        Ok(seen) => match inputs.answers.checks.last() {
-            Some(answer) => Outcome::AnsweredAll(seen, answer.reply),
-            None => Outcome::Gone,
-        },
-        Err(error) => failed(error),
-    }
-}
-
-fn failed(error: ShowError) -> Outcome {
-    match error {
-        ShowError::Memory => Outcome::Memory,
-        ShowError::Gone => Outcome::Gone,
+        Err(ShowError::Memory) => Outcome::Memory,
+        Err(ShowError::Gone) => Outcome::Gone,
     }
 }
 

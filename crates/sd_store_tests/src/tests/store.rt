@@ -5,7 +5,6 @@ ghost use Rattle.sd_tree.specs.Journal.{opening_of};
 
 use super::audits::{Turns, audited_beside};
 use super::memory::{Refused, story_is_right};
-use super::onwards::begun;
 use super::threads::are_right_beside;
 use super::{query, spec};
 use sd_history::Opened;
@@ -27,8 +26,6 @@ pub(super) enum Play<'a> {
     Memory(&'a Refused),
     /// Two of them answer an audit through a gate, beside a writer.
     Audit(&'a Turns),
-    /// The store continues in another one.
-    Onwards,
 }
 
 /// Whether all answers of a store with so many checkers were right; none when out of memory.
@@ -92,7 +89,6 @@ fn ended<J: Naming + Send + Sync + 'static, R: Threads + Wait + Sync>(
         Play::Threads => are_right_beside(rt, alloc, &mut writer, &mut checkers),
         Play::Memory(refused) => story_is_right(rt, alloc, &mut writer, &mut checkers, refused),
         Play::Audit(turns) => audited_beside(rt, alloc, &mut writer, &mut checkers, turns),
-        Play::Onwards => begun(rt, alloc, &mut writer, &mut checkers),
     };
     writer.end(rt);
     Some(right? && are_gone(alloc, checkers)?)

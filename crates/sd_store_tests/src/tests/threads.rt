@@ -4,7 +4,7 @@
 use super::store::{Play, is_right};
 use super::*;
 use sd_acl::Descriptor;
-use sd_store::{Answers, Checker, Naming, Notice, ShowError, StoreWriter};
+use sd_store::{Checker, Naming, Notice, ShowError, StoreWriter};
 use sd_versions::Answer;
 use std::sync::Wait;
 use std::thread;
@@ -17,20 +17,17 @@ const PUBLISHES: u64 = 200;
 /// How often a thread asks at most: it ends once it has seen the last publish.
 const MOST: u64 = 100_000;
 
-/// How many queries are asked at once, in turn for the one node and the other.
-const QUERIES: usize = 4;
-
 const NODES: [&str; 2] = ["/a", "/b"];
 
-/// A checker, the notice that it learns in its thread, what it asks at once, and what was answered.
+/// A checker, the notice that it learns in its thread, and what it asks: of one node a verdict, of the other the
+/// descriptor.
 #[derive(Drop)]
 struct Asker<J: Naming> {
     checker: Checker<J>,
     notice: Notice<J>,
-    queries: Vec<Query>,
-    paths: Vec<Path>,
-    answers: Answers,
-    /// Whether all that was asked at once was answered by one journal, each time by one no shorter than before.
+    query: Query,
+    path: Path,
+    /// Whether each answer was by a published journal, no shorter than what was seen before.
     right: bool,
 }
 
@@ -39,40 +36,35 @@ impl<J: Naming> Asker<J> {
         Some(Asker {
             checker,
             notice,
-            queries: all_queries(alloc)?,
-            paths: all_paths(alloc)?,
-            answers: Answers::new(alloc),
+            query: query(alloc, NODES[0])?,
+            path: Path::read(alloc, NODES[1]).ok()?,
             right: true,
         })
     }
 
-    /// Asks once, by a check and then by several questions at once.
+    /// Asks once.
     fn ask(&mut self) {
         let is_checked = self.is_checked();
-        let before = self.checker.seen();
-        let is_asked = match self.asked() {
-            Ok(seen) => before <= seen && seen % 2 == 0 && are_by(seen, &self.answers),
-            Err(ShowError::Memory) => self.answers.checks.is_empty(),
-            Err(ShowError::Gone) => false,
-        };
-        self.right = self.right && is_checked && is_asked;
+        let is_described = self.is_described();
+        self.right = self.right && is_checked && is_described;
     }
 
-    /// Whether a check is answered by a published journal no shorter than what was seen before.
     fn is_checked(&mut self) -> bool {
         let before = self.checker.seen();
-        let Some(query) = self.queries.first() else {
-            return false;
-        };
+        let query = &self.query;
         match self.checker.check(&query.path, &query.token, query.asked) {
             Ok(Answer { seen, reply }) => before <= seen && seen % 2 == 0 && reply == due(seen),
             Err(_) => false,
         }
     }
 
-    fn asked(&mut self) -> Result<u64, ShowError> {
-        self.checker
-            .check_all(&self.queries, &self.paths, &mut self.answers)
+    fn is_described(&mut self) -> bool {
+        let before = self.checker.seen();
+        match self.checker.descriptor(&self.path) {
+            Ok((seen, found)) => before <= seen && seen % 2 == 0 && is_of(seen, &found),
+            Err(ShowError::Memory) => true,
+            Err(ShowError::Gone) => false,
+        }
     }
 
     fn done(self) -> Asker<J> {
@@ -89,23 +81,6 @@ impl<J: Naming> Asker<J> {
     }
 }
 
-/// What each checker asks at once.
-fn all_queries(alloc: Global) -> Option<Vec<Query>> {
-    let mut queries = Vec::with_capacity(alloc, QUERIES).ok()?;
-    for place in 0..QUERIES {
-        queries.push(query(alloc, NODES[place % 2])?).ok()?;
-    }
-    Some(queries)
-}
-
-fn all_paths(alloc: Global) -> Option<Vec<Path>> {
-    let mut paths = Vec::with_capacity(alloc, NODES.len()).ok()?;
-    for node in NODES {
-        paths.push(Path::read(alloc, node).ok()?).ok()?;
-    }
-    Some(paths)
-}
-
 /// The reply by the journal of that length.
 fn due(seen: u64) -> CheckReply {
     match (seen, mask(seen)) {
@@ -113,22 +88,6 @@ fn due(seen: u64) -> CheckReply {
         (_, Mask(0x1)) => GRANTED,
         _ => DENIED,
     }
-}
-
-/// Whether all answers are by the journal of that length.
-fn are_by(seen: u64, answers: &Answers) -> bool {
-    let answer = Answer {
-        seen,
-        reply: due(seen),
-    };
-    let mut right = answers.checks.len() == QUERIES && answers.descriptors.len() == NODES.len();
-    for found in &answers.checks {
-        right &= *found == answer;
-    }
-    for found in &answers.descriptors {
-        right &= is_of(seen, found);
-    }
-    right
 }
 
 /// What both nodes' one entry grants after so many edits.

@@ -8,5 +8,5 @@ returns c = inl (
   descriptor_of c.in-Descriptor.read.descriptor,
   c.in-Descriptor.read.left_out,
   rw c.in-Descriptor.is at c.in_ok-read.ensures,
-  (answer_of c.in_ok-answer.answer, c.in_ok-noting.ensures, c.in_ok-answer.ensures),
+  (answer_of c.in_ok-answer.answer, rw c.descriptor_name-name.ensures at c.in_ok-noting.ensures, c.in_ok-answer.ensures),
 )

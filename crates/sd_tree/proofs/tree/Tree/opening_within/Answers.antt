@@ -1,5 +1,4 @@
-use Rattle.std.proofs.Common.{◌≡◌, [], ◌∷◌, sym, ap, ◌∙◌}
-use Rattle.std.specs.List.{insert}
+use Rattle.std.proofs.Common.{sym}
 use Rattle.std.proofs.lemmas.Result.{err_from_is_err_and}
 use Rattle.sd_tree.specs.Journal.{opening_within}
 use Rattle.sd_tree.proofs.Stands.{stored_first, root_error}
@@ -14,8 +13,7 @@ pub invariant_of-result : goal.invariant_of-result
 invariant_of-result c =
     let n = c.in_ok-node.ensures in
     let first = stored_first (opening_within c.args.mapping.now c.args.root.now c.args.limits) c.in_ok-node.node n.path n.row n.whole n.fits (sym c.in_default.ensures) in
-    let nodes : c.insert.new.self ≡ c.in_ok-node.node ∷ [] = c.in_ok-insert.ensures.done ∙ ap (λ ns. insert ns 0 c.in_ok-node.node) c.new-nodes.ensures in
-    rw (c.in_ok-copy.ensures, c.new.ensures, nodes) first
+    rw (c.in_ok-copy.ensures, c.new.ensures, c.in_ok-nodes.ensures) first
 
 pub returns-clause-accepted : goal.returns-clause-accepted
 returns-clause-accepted c =

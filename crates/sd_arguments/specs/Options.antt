@@ -1,0 +1,175 @@
+-- The options of a command line: what may stand between the program's name and the command, and what they say.
+use Rattle.std.specs.Prelude.{◌≡◌, ℕ, List, [], ◌∷◌, map, replicate, get_or, slice_set, Bool, true, false, not}
+use Rattle.std.specs.Prelude.{⊤, ◌⊎◌, ◌&&◌, is_some, if◌then◌else◌, Option, Some, None, option_map, Result, Ok}
+use Rattle.std.specs.Prelude.{MatchResult}
+use Rattle.std.specs.Option.{option_and_then, option_map_or}
+use Rattle.std.specs.Borrow.{Bor}
+use Rattle.sd_text.specs.Domain.{domain_sid}
+use Rattle.sd_text.specs.Grammar.{Spells}
+use Rattle.sd_text.specs.Sid.{sid_text}
+use Rattle.sd_text.specs.declared.domain.Domain.{Domain as DomainValue}
+use Rattle.sd_tree.specs.Limits.{IsLimits, LimitsValue, standard_limits}
+use Rattle.sd_script.specs.Argument.{IsNumber}
+use Rattle.sd_script.specs.declared.manner.Manner.{Manner}
+use Rattle.sd_script.specs.declared.paths.PathSpelling.TheVariants as paths
+use Rattle.sd_answer.specs.declared.answer.Spelling.{Spelling}
+use Rattle.sd_answer.specs.declared.answer.Spelling.TheVariants.{Number, Names as ByNames}
+use Rattle.sd_usage.specs.Table.{option_named, place, takes_option}
+use Rattle.sd_usage.specs.declared.row.OptionName.{OptionName}
+use Rattle.sd_usage.specs.declared.row.OptionName.TheVariants.{Aliases, Base64, Caret, Domain, Edits, Json}
+use Rattle.sd_usage.specs.declared.row.OptionName.TheVariants.{Loose, Mapping, Names, Nodes, Percent, RequireDacl}
+use Rattle.sd_usage.specs.declared.row.OptionName.TheVariants.{Risks, WithoutSacl}
+use Rattle.sd_usage.specs.declared.row.ProgramOption.{ProgramOption}
+use Rattle.sd_usage.specs.declared.row.TheConstants.{OPTION_COUNT}
+use Rattle.sd_commands.specs.Mapping.{GivesMapping, GivesNoMapping, kind_given}
+use Rattle.sd_commands.specs.declared.settings.ByteForm.TheVariants as forms
+use Rattle.sd_arguments.specs.declared.options.BadValue.{BadValue}
+use Rattle.sd_arguments.specs.declared.options.BadValue.TheVariants.{NoDomain, NoEdits, NoMapping, NoNodes}
+use Rattle.sd_arguments.specs.declared.options.Options.{Options}
+use Rattle.sd_commands.specs.declared.settings.Settings.{Settings}
+
+-- the options of a command line: at the place of each its value, where it is given: empty for one without a value
+abbrev pub OptionsValue : Type 0
+OptionsValue = List (Option (List ℕ))
+
+abbrev pub options_of : Options → OptionsValue
+options_of options = map (option_map (λ text. text.now)) options.values
+
+abbrev pub no_options : OptionsValue
+no_options = replicate OPTION_COUNT None
+
+-- the value of an option, where it is given
+abbrev pub given : OptionsValue → OptionName → Option (List ℕ)
+given options option = get_or options (place option) None
+
+abbrev pub has : OptionsValue → OptionName → Bool
+has options option = is_some (given options option)
+
+abbrev pub with_value : OptionsValue → OptionName → List ℕ → OptionsValue
+with_value options option value = slice_set options (place option) (Some value)
+
+-- one more option, where it isn't one of these already
+abbrev pub with_option : OptionsValue → OptionName → List ℕ → Option OptionsValue
+with_option options option value = if has options option then None else Some (with_value options option value)
+
+-- the options that the arguments begin with, each at most once, and the arguments after them; where an option that has
+-- a value is before them, that is the first
+abbrev pub options_from : Option OptionName → OptionsValue → List (Bor (List ℕ))
+    → Option (OptionsValue × List (Bor (List ℕ)))
+options_from None options [] = Some (options, [])
+options_from (Some option) options [] = None
+options_from None options (word ∷ words) =
+    elim (option_named word.now) [
+      | Some option ↦ if is_some option.value then options_from (Some option.name) options words
+          else option_and_then (λ more. options_from None more words) (with_option options option.name [])
+      | None ↦ Some (options, word ∷ words)
+    ]
+options_from (Some option) options (value ∷ words) =
+    option_and_then (λ more. options_from None more words) (with_option options option value.now)
+
+abbrev pub options_in : OptionsValue → List (Bor (List ℕ)) → Option (OptionsValue × List (Bor (List ℕ)))
+options_in = options_from None
+
+-- ---- before which commands they go
+
+-- the option may go before the command of this name, and beside the others
+abbrev pub goes_before : List ℕ → OptionsValue → ProgramOption → Bool
+goes_before name options option =
+    takes_option name option.name && not (option_map_or (has options) option.excludes false)
+
+-- so may each of the options that the arguments begin with: an option's value is none
+abbrev pub go_before_from : Bool → List ℕ → OptionsValue → List (Bor (List ℕ)) → Bool
+go_before_from is_value name options [] = true
+go_before_from true name options (value ∷ words) = go_before_from false name options words
+go_before_from false name options (word ∷ words) =
+    elim (option_named word.now) [
+      | None ↦ true
+      | Some option ↦ goes_before name options option && go_before_from (is_some option.value) name options words
+    ]
+
+abbrev pub go_before : List ℕ → OptionsValue → List (Bor (List ℕ)) → Bool
+go_before = go_before_from false
+
+-- ---- what they say
+
+-- how masks are told
+abbrev pub spelling_of : OptionsValue → Spelling
+spelling_of options = if has options Names then ByNames (kind_given (given options Mapping)) else Number
+
+-- the text is the SID of this domain, or neither is there
+abbrev pub GivesDomain : Option (List ℕ) → Option DomainValue → Type 0
+GivesDomain None None = ⊤
+GivesDomain (Some text) (Some domain) = Spells sid_text text (domain_sid domain)
+GivesDomain given domain = ⊥
+
+-- the text is no domain's SID
+abbrev pub IsNoDomain : List ℕ → Type 0
+IsNoDomain text = (domain : DomainValue) → Spells sid_text text (domain_sid domain) → ⊥
+
+-- what the options say of a descriptor
+pub record AreSettings (options : OptionsValue) (settings : Settings) : Type 0 where
+  pub spelling : settings.spelling ≡ spelling_of options
+  pub domain : GivesDomain (given options Domain) settings.aliases.domain
+  pub later : settings.aliases.later ≡ has options Aliases
+  pub mapping : GivesMapping (given options Mapping) settings.mapping
+  pub kind : settings.kind ≡ kind_given (given options Mapping)
+  pub without_sacl : settings.without_sacl ≡ has options WithoutSacl
+  pub require_dacl : settings.require_dacl ≡ has options RequireDacl
+  pub risks : settings.risks ≡ has options Risks
+  pub bytes : settings.bytes ≡ (if has options Base64 then forms.Base64
+      else (if has options Loose then forms.Loose else forms.Hex))
+  pub points : settings.points ≡ has options Caret
+
+-- the value of an option isn't read: the domain's, or else the mapping's
+abbrev pub HasBadValue : OptionsValue → BadValue → Type 0
+HasBadValue options (NoDomain text points) =
+    (given options Domain ≡ Some text.now) × IsNoDomain text.now × (points ≡ has options Caret)
+HasBadValue options NoMapping = ((domain : Option DomainValue) × GivesDomain (given options Domain) domain)
+    × GivesNoMapping (given options Mapping)
+HasBadValue options bad = ⊥
+
+-- these settings, or this value that isn't read
+abbrev pub GivesSettings : OptionsValue → Result Settings BadValue → Type 0
+GivesSettings options said = MatchResult said (AreSettings options) (HasBadValue options)
+
+-- ---- what they say of a script
+
+-- the number that an option's value writes in decimal digits, and without the option the standard one
+abbrev pub GivesNumber : Option (List ℕ) → ℕ → ℕ → Type 0
+GivesNumber None standard n = n ≡ standard
+GivesNumber (Some text) standard n = IsNumber text n
+
+-- limits of as many nodes as the options say, and of as many edits
+abbrev pub HasNodes : OptionsValue → LimitsValue → Type 0
+HasNodes options limits = IsLimits limits × GivesNumber (given options Nodes) standard_limits.nodes limits.nodes
+
+abbrev pub HasEdits : OptionsValue → LimitsValue → Type 0
+HasEdits options limits = IsLimits limits × GivesNumber (given options Edits) standard_limits.edits limits.edits
+
+-- no limits have so many nodes, or else none so many edits
+abbrev pub HasBadLimit : OptionsValue → BadValue → Type 0
+HasBadLimit options NoNodes = (limits : LimitsValue) → HasNodes options limits → ⊥
+HasBadLimit options NoEdits = ((limits : LimitsValue) × HasNodes options limits)
+    × ((limits : LimitsValue) → HasEdits options limits → ⊥)
+HasBadLimit options bad = ⊥
+
+-- these limits, or this value that isn't read
+abbrev pub GivesLimits : OptionsValue → Result LimitsValue BadValue → Type 0
+GivesLimits options said =
+    MatchResult said (λ limits. HasNodes options limits × HasEdits options limits) (HasBadLimit options)
+
+-- how a script is carried out
+pub record IsManner (options : OptionsValue) (manner : Manner) : Type 0 where
+  pub mapping : GivesMapping (given options Mapping) manner.mapping
+  pub limits : GivesLimits options (Ok manner.limits)
+  pub paths : manner.notation.paths ≡ (if has options Percent then paths.Percent else paths.Plain)
+  pub spelling : manner.notation.spelling ≡ spelling_of options
+  pub domain : GivesDomain (given options Domain) manner.notation.aliases.domain
+  pub later : manner.notation.aliases.later ≡ has options Aliases
+  pub without_sacl : manner.notation.without_sacl ≡ has options WithoutSacl
+  pub is_json : manner.notation.is_json ≡ has options Json
+
+-- in this manner, or this value that isn't read: a limit's only where the others' are
+abbrev pub GivesManner : OptionsValue → Result Manner BadValue → Type 0
+GivesManner options said = MatchResult said (IsManner options) (λ bad.
+    HasBadValue options bad ⊎ (((settings : Settings) × AreSettings options settings) × HasBadLimit options bad))

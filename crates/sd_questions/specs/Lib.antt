@@ -1,0 +1,4 @@
+pub mod Answer
+pub mod Each
+pub mod Input
+pub mod Output

@@ -1,0 +1,257 @@
+//! The answers of one command to each line of an input.
+ghost use Rattle.std.specs.Prelude.{◌≡◌, ◌≢◌, ◌≤◌, ◌⊎◌, ◌||◌, ◌++◌, true, false, IfErr, IfNone, IfOk, IfSome, length};
+ghost use Rattle.std.specs.Prelude.{option_map, string_bytes};
+ghost use Rattle.std.specs.Io.KnownBytes.{Keeps};
+ghost use Rattle.sd_lines.specs.Watched.{has_failed, inner_of};
+ghost use Rattle.sd_lines.specs.Streams.{is_read_error, is_write_error};
+ghost use Rattle.sd_commands.specs.Answer.{answer_of, outcome_status};
+ghost use Rattle.sd_questions.specs.Answer.{AnswersLine, AnswersLineIn, AnswersNext, AnswersTold};
+ghost use Rattle.sd_questions.specs.Answer.{AnswersEach, after_answer, form_of};
+ghost use Rattle.sd_arguments.specs.CommandLine.{request_of};
+ghost use Rattle.sd_questions.specs.Each.{after_key, has_key, key_len, key_of, no_line_note};
+ghost use Rattle.sd_questions.specs.Each.{told_of_lines, with_line};
+ghost use Rattle.sd_arguments.specs.Options.{options_of};
+ghost use Rattle.sd_questions.specs.Output.{AppendsWhole, LeavesEach};
+
+use crate::answer::bad_value;
+use crate::input::is_blank;
+use sd_arguments::{BadValue, GivenFlags, Options, TextRequest};
+use sd_commands::{Answer, Outcome, Settings, answer_question, fault, told_line};
+use sd_json::{Tagging, printed_as};
+use sd_lines::{AnswersLines, Ending, Form, RunError, Watched, answer_lines};
+use sd_script::tagged;
+use sd_usage::{DescriptorCommand, OptionName, TextCommand};
+use std::alloc::{AllocError, Global};
+use std::io::{Read, Write};
+use std::str::from_utf8;
+
+/// What came of a run, and what standard error is told beside its output.
+#[derive(Drop)]
+pub struct Ended {
+    /// Whole lines, or nothing.
+    pub told: String,
+    pub outcome: Outcome,
+}
+
+/// What is printed of a line, and what came of it.
+#[derive(Drop)]
+struct Answered {
+    printed: Vec<u8>,
+    outcome: Outcome,
+}
+
+/// A command with its arguments, under its options, that is asked of each line.
+#[derive(Clone, Copy)]
+struct LineQuestion<'a> {
+    /// Whether each line begins with a key and a tab.
+    has_keys: bool,
+    /// Whether each line of its answer is printed as an object of JSON.
+    is_json: bool,
+    /// What its options say, or which of their values isn't read.
+    settings: Result<Settings, BadValue<'a>>,
+    request: TextRequest<'a>,
+}
+
+impl AnswersLines for LineQuestion<'_> {
+    /// What came of the lines so far, if there was one.
+    type State = Option<Outcome>;
+
+    ghost answers = { λ question before told printed after. AnswersNext question.has_keys question.is_json
+        question.settings (request_of question.request) before told printed after };
+
+    fn answer(
+        &self,
+        alloc: Global,
+        lines: &mut Option<Outcome>,
+        line: Option<&[u8]>,
+        text: &mut Vec<u8>,
+    ) -> Result<(), AllocError> {
+        let answered = self.answer_in(alloc, line)?;
+        let tagging = if self.has_keys {
+            Tagging::Key
+        } else {
+            Tagging::Nothing
+        };
+        let printed = printed_as(alloc, self.is_json, tagging, answered.printed)?;
+        text.extend_from_slice(&printed)?;
+        *lines = with_line(*lines, answered.outcome);
+        Ok(())
+    }
+}
+
+impl LineQuestion<'_> {
+    /// The answer to a line: where lines have keys and it is a key, a tab and a text, the text's, each line of which
+    /// begins with the key and the tab. One without a key is a fault.
+    fn answer_in(&self, alloc: Global, line: Option<&[u8]>) -> Result<Answered, AllocError>
+        ensures { IfOk result (λ answered. AnswersLineIn self.now.has_keys self.now.settings
+            (request_of self.now.request) (option_map (λ bytes. bytes.now) line.entry)
+            answered.printed.items answered.outcome) }
+    {
+        if !self.has_keys {
+            return self.answer_line(alloc, line);
+        }
+        let Some(bytes) = line else {
+            return self.answer_line(alloc, None);
+        };
+        let Some((key, text)) = parted(bytes) else {
+            return self.ended(fault(alloc, "key", String::new(alloc))?);
+        };
+        let answered = self.answer_line(alloc, Some(text))?;
+        Ok(Answered {
+            printed: tagged(alloc, key, &answered.printed)?,
+            outcome: answered.outcome,
+        })
+    }
+
+    /// The answer to a line, and what follows it.
+    fn answer_line(&self, alloc: Global, line: Option<&[u8]>) -> Result<Answered, AllocError>
+        ensures { IfOk result (λ answered. AnswersLine self.now.settings (request_of self.now.request)
+            (option_map (λ bytes. bytes.now) line.entry) answered.printed.items answered.outcome) }
+    {
+        self.ended(self.answer_told(alloc, line)?)
+    }
+
+    /// An answer, and what follows it.
+    fn ended(&self, answer: Answer) -> Result<Answered, AllocError>
+        ensures { IfOk result (λ ended. (ended.printed.items
+            ≡ (answer_of answer).printed ++ after_answer self.now.request.question)
+            × (ended.outcome ≡ answer.outcome)) }
+    {
+        let Answer { text, outcome, .. } = answer;
+        let mut printed = text.into_bytes();
+        printed.extend_from_slice(after_answer(self.request.question).as_bytes())?;
+        Ok(Answered { printed, outcome })
+    }
+
+    /// The answer to a line, of which there is no text where it is too long.
+    fn answer_told(&self, alloc: Global, line: Option<&[u8]>) -> Result<Answer, AllocError>
+        ensures { IfOk result (λ answer. AnswersTold self.now.settings (request_of self.now.request)
+            (option_map (λ bytes. bytes.now) line.entry) (answer_of answer)) }
+    {
+        let Some(bytes) = line else {
+            return fault(alloc, "long", String::new(alloc));
+        };
+        let Ok(text) = from_utf8(bytes) else {
+            return fault(alloc, "utf8", String::new(alloc));
+        };
+        if is_blank(bytes) {
+            return fault(alloc, "blank", String::new(alloc));
+        }
+        let TextRequest {
+            question,
+            arguments,
+        } = self.request;
+        match self.settings {
+            Ok(settings) => answer_question(alloc, settings, question, text, arguments),
+            Err(bad) => bad_value(alloc, bad),
+        }
+    }
+}
+
+/// The key of a line with the tab after it, and the text after that. `None`: no tab is there, or a line feed before it.
+fn parted(line: &[u8]) -> Option<(&[u8], &[u8])>
+    ensures some { IfSome result (λ parts. (has_key line.now ≡ true) × (parts.0.now ≡ key_of line.now)
+        × (parts.1.now ≡ after_key line.now)) }
+    ensures none { IfNone result (has_key line.now ≡ false) }
+{
+    let len = key_len(line);
+    if len < line.len() && !line[..len].contains(&b'\n') {
+        Some((&line[..len + 1], &line[len + 1..]))
+    } else {
+        None
+    }
+}
+
+/// How many bytes are before the first tab, or all if there is none.
+fn key_len(line: &[u8]) -> usize
+    ensures len { result ≡ key_len line.now }
+    ensures within { result ≤ length line.now }
+{
+    let len = line.iter().position(|byte| *byte == b'\t');
+    len.unwrap_or(line.len())
+}
+
+/// What follows each answer: an empty line, where an answer may have several lines.
+fn after_answer(question: TextCommand) -> &'static str
+    ensures { result.now ≡ after_answer question }
+{
+    match question {
+        TextCommand::Descriptor(
+            DescriptorCommand::Why
+            | DescriptorCommand::Who
+            | DescriptorCommand::Compare
+            | DescriptorCommand::Lint,
+        ) => "\n",
+        _ => "",
+    }
+}
+
+/// What came of the lines, if there was one, with one more, of which this came.
+fn with_line(lines: Option<Outcome>, outcome: Outcome) -> Option<Outcome>
+    ensures { result ≡ with_line lines outcome }
+{
+    match lines {
+        Some(Outcome::Refused) => lines,
+        _ => Some(outcome),
+    }
+}
+
+/// What standard error is told of the lines: this note, where there was none.
+fn told_of_lines(alloc: Global, lines: Option<Outcome>, note: String) -> String
+    requires { string_bytes note ≡ no_line_note }
+    ensures { string_bytes result ≡ told_of_lines lines }
+{
+    match lines {
+        None => note,
+        Some(_) => String::new(alloc),
+    }
+}
+
+/// The lines of an input, each of which a zero byte or a line feed ends. One that is too long is answered too.
+fn form_of(zero: bool) -> Form
+    ensures { result ≡ form_of zero }
+{
+    Form {
+        ending: if zero { Ending::Zero } else { Ending::Feed },
+        skips_mark: true,
+        stops_at_long: false,
+        line_by_line: false,
+    }
+}
+
+/// Answers each line of the input.
+pub fn answer_each<R: Read, W: Write>(
+    alloc: Global,
+    options: Options<'_>,
+    given: GivenFlags,
+    request: TextRequest<'_>,
+    reader: &mut Watched<R>,
+    writer: &mut Watched<W>,
+) -> Result<Ended, RunError>
+    ensures ok { IfOk result (λ ended. AppendsWhole
+        (AnswersEach (options_of options.entry) given (request_of request.entry) (R.remaining (inner_of reader.old)))
+        (W.contents (inner_of writer.old)) (W.contents (inner_of writer.new)) (string_bytes ended.told)
+        (outcome_status ended.outcome)) }
+    ensures err { IfErr result (λ error. Keeps (W.contents (inner_of writer.old)) (W.contents (inner_of writer.new))
+        ⊎ LeavesEach (options_of options.entry) given (request_of request.entry) (R.remaining (inner_of reader.old))
+        (R.remaining (inner_of reader.new))
+        (W.contents (inner_of writer.old)) (W.contents (inner_of writer.new)) error) }
+    ensures read { has_failed reader.new ≡ (has_failed reader.old || is_read_error result) }
+    ensures write { has_failed writer.new ≡ (has_failed writer.old || is_write_error result) }
+    ensures only { IfErr result (λ error. (error ≢ RunError.TooLong) × (error ≢ RunError.Thread)) }
+{
+    let note = told_line(alloc, "standard input", "no line")?;
+    let question = LineQuestion {
+        has_keys: given.key,
+        is_json: options.has(OptionName::Json),
+        settings: options.settings(),
+        request,
+    };
+    let mut lines = None;
+    let form = form_of(given.zero);
+    answer_lines(alloc, &question, &mut lines, form, reader, writer)?;
+    Ok(Ended {
+        told: told_of_lines(alloc, lines, note),
+        outcome: lines.unwrap_or(Outcome::Refused),
+    })
+}

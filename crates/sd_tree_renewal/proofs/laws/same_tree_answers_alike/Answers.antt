@@ -1,5 +1,0 @@
-use Rattle.sd_tree_renewal.proofs.AnsweredAlike.{same_tree_answers_alike}
-use Rattle.sd_tree_renewal.proofs.laws.same_tree_answers_alike.Goals as goal
-
-pub returns : goal.returns
-returns c = same_tree_answers_alike
