@@ -9,8 +9,8 @@ use Rattle.sd_tree.specs.Answers.{given_at}
 use Rattle.sd_tree.specs.Descriptors.{own_descriptor_of_row, own_list}
 use Rattle.sd_tree.specs.History.{History}
 use Rattle.sd_tree.specs.Journal.{replay}
-use Rattle.sd_tree.specs.declared.node.NodeKind.{NodeKind}
-use Rattle.sd_tree.specs.declared.node.NodeKind.TheVariants.{Container, Object}
+use Rattle.sd_inheritance.specs.declared.kind.NodeKind.{NodeKind}
+use Rattle.sd_inheritance.specs.declared.kind.NodeKind.TheVariants.{Container, Object}
 use Rattle.sd_tree.specs.declared.node.Row.{Row}
 use Rattle.sd_c.specs.declared.handle.Handle.{Handle}
 use Rattle.sd_c.specs.declared.handle.kept.Kept.{Kept}

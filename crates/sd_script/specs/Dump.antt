@@ -11,8 +11,8 @@ use Rattle.sd_tree.specs.Names.{Names, is_root}
 use Rattle.sd_tree.specs.Plain.{PlainTree}
 use Rattle.sd_tree.specs.Descriptors.{own_descriptor_of_row}
 use Rattle.sd_tree.specs.Journal.{replay}
-use Rattle.sd_tree.specs.declared.node.NodeKind.{NodeKind}
-use Rattle.sd_tree.specs.declared.node.NodeKind.TheVariants.{Container, Object}
+use Rattle.sd_inheritance.specs.declared.kind.NodeKind.{NodeKind}
+use Rattle.sd_inheritance.specs.declared.kind.NodeKind.TheVariants.{Container, Object}
 use Rattle.sd_tree.specs.declared.node.Row.{Row}
 use Rattle.sd_versions.specs.Machine.{Machine}
 use Rattle.sd_versions.specs.declared.request.Request.TheVariants as requests

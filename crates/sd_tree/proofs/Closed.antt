@@ -15,8 +15,8 @@ use Rattle.sd_tree.specs.Answers.{kind_at}
 use Rattle.sd_tree.specs.Journal.{opened, root_row, replay, IsLawful}
 use Rattle.sd_tree.specs.Refusals.{early_refusal, early_tests, first_fit, is_object, is_object_kind, has_child, addition_tests, move_tests}
 use Rattle.sd_tree.specs.declared.node.Row.{Row}
-use Rattle.sd_tree.specs.declared.node.NodeKind.{NodeKind}
-use Rattle.sd_tree.specs.declared.node.NodeKind.TheVariants.{Container, Object}
+use Rattle.sd_inheritance.specs.declared.kind.NodeKind.{NodeKind}
+use Rattle.sd_inheritance.specs.declared.kind.NodeKind.TheVariants.{Container, Object}
 use Rattle.sd_tree.specs.declared.node.NodeDacl.{NodeDacl}
 use Rattle.sd_tree.specs.declared.edit.Edit.{Edit}
 use Rattle.sd_tree.specs.declared.edit.Edit.TheVariants.{AddContainer, AddObject, SetOwner, SetGroup, SetDacl, Remove, ProtectKeeping, Move}

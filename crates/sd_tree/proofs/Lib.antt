@@ -8,7 +8,6 @@ pub mod Dacls
 pub mod Fitting
 pub mod Given
 pub mod Going
-pub mod HandedOn
 pub mod Journals
 pub mod Kept
 pub mod Listed

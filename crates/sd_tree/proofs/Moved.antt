@@ -14,7 +14,7 @@ use Rattle.sd_tree.specs.Edits.{moved_entry, moved}
 use Rattle.sd_tree.specs.Inheritance.{dacl_of_row}
 use Rattle.sd_tree.specs.Plain.{PlainTree, row_at, dacl_here, dacl_below, dacl_at}
 use Rattle.sd_tree.specs.declared.node.Row.{Row}
-use Rattle.sd_tree.specs.declared.node.NodeKind.TheVariants.{Container}
+use Rattle.sd_inheritance.specs.declared.kind.NodeKind.TheVariants.{Container}
 use Rattle.sd_path.proofs.Paths.{names_cmp_total, names_cmp_prefix, within-append, within_rest, within_trans, within_up, moved_path-append, moved_path-outside, up-append}
 use Rattle.sd_tree.proofs.Below.{nothing_below}
 use Rattle.sd_tree.proofs.Dacls.{dacl_at_up, dacl_at_alike}

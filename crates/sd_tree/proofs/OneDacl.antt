@@ -5,12 +5,13 @@ use Rattle.std.proofs.lemmas.Bool.{false≢true}
 use Rattle.sd_sid.specs.Mapping.{MappingValue}
 use Rattle.sd_sid.specs.Sid.{SidValue, same_sid}
 use Rattle.sd_acl.specs.declared.ace.Ace.{Ace}
-use Rattle.sd_tree.specs.Inheritance.{object_inherit, container_inherit, no_propagate, creator_owner, creator_group, created_by, effective_copy, waiting_copy, whole_copy, is_split, pass_on, handed_on, dacl_under, dacl_of_row}
+use Rattle.sd_inheritance.specs.Inheritance.{object_inherit, container_inherit, no_propagate, creator_owner, creator_group, created_by, effective_copy, waiting_copy, whole_copy, is_split, pass_on}
+use Rattle.sd_tree.specs.Inheritance.{handed_on, dacl_under, dacl_of_row}
 use Rattle.sd_tree.specs.Refusals.{own_entries}
 use Rattle.sd_tree.specs.Sharing.{names_creator, trustees_matter, AreAlike, InheritOne}
 use Rattle.sd_tree.specs.Node.{behind_own, dacl_with, whole_with, inherits}
-use Rattle.sd_tree.specs.declared.node.NodeKind.{NodeKind}
-use Rattle.sd_tree.specs.declared.node.NodeKind.TheVariants.{Container, Object}
+use Rattle.sd_inheritance.specs.declared.kind.NodeKind.{NodeKind}
+use Rattle.sd_inheritance.specs.declared.kind.NodeKind.TheVariants.{Container, Object}
 use Rattle.sd_tree.specs.declared.node.NodeDacl.{NodeDacl}
 use Rattle.sd_tree.specs.declared.node.NodeDacl.TheVariants.{Null, List as Entries}
 use Rattle.sd_tree.specs.declared.node.Row.{Row}

@@ -9,7 +9,8 @@ use Rattle.sd_acl.specs.declared.ace.Ace.{Ace}
 use Rattle.sd_path.specs.Names.{Names, up, is_root, is_within}
 use Rattle.sd_path.proofs.Paths.{within_rest}
 use Rattle.sd_path.proofs.PathBytes.{length-up}
-use Rattle.sd_tree.specs.Inheritance.{object_inherit, container_inherit, no_propagate, effective_copy, waiting_copy, whole_copy, is_split, pass_on, handed_on, dacl_under, dacl_of_row}
+use Rattle.sd_inheritance.specs.Inheritance.{object_inherit, container_inherit, no_propagate, effective_copy, waiting_copy, whole_copy, is_split, pass_on}
+use Rattle.sd_tree.specs.Inheritance.{handed_on, dacl_under, dacl_of_row}
 use Rattle.sd_tree.specs.Plain.{PlainTree, row_at, dacl_at, dacl_here, dacl_below}
 use Rattle.sd_tree.specs.Closed.{IsClosed}
 use Rattle.sd_tree.specs.Edits.{changed}
@@ -18,14 +19,14 @@ use Rattle.sd_tree.specs.Refusals.{has_child}
 use Rattle.sd_tree.specs.declared.node.Row.{Row}
 use Rattle.sd_tree.specs.declared.node.RowChange.{RowChange}
 use Rattle.sd_tree.specs.declared.node.RowChange.TheVariants.{Owner, Group, Dacl}
-use Rattle.sd_tree.specs.declared.node.NodeKind.{NodeKind}
-use Rattle.sd_tree.specs.declared.node.NodeKind.TheVariants.{Container, Object}
+use Rattle.sd_inheritance.specs.declared.kind.NodeKind.{NodeKind}
+use Rattle.sd_inheritance.specs.declared.kind.NodeKind.TheVariants.{Container, Object}
 use Rattle.sd_tree.specs.declared.node.NodeDacl.{NodeDacl}
 use Rattle.sd_tree.specs.declared.node.NodeDacl.TheVariants.{Null, List as Entries}
 use Rattle.sd_tree.proofs.Adding.{nothing_below_childless}
 use Rattle.sd_tree.proofs.Rows.{row_at-changed_same, row_at-changed_other}
 use Rattle.sd_tree.proofs.Dacls.{dacl_at_here, dacl_over, dacl_at-append, below_alike, dacl_at_outside}
-use Rattle.sd_tree.proofs.HandedOn.{effective_hands_nothing, once}
+use Rattle.sd_inheritance.proofs.HandedOn.{effective_hands_nothing, once}
 
 -- ---- what is handed on two levels down doesn't depend on the trustees of the first
 

@@ -11,7 +11,7 @@ use Rattle.sd_tree.specs.Descriptors.{descriptor_of_row, own_descriptor_of_row}
 use Rattle.sd_tree.specs.Journal.{replay}
 use Rattle.sd_tree.specs.Refusals.{is_early}
 use Rattle.sd_tree.specs.declared.node.Row.{Row}
-use Rattle.sd_tree.specs.declared.node.NodeKind.{NodeKind}
+use Rattle.sd_inheritance.specs.declared.kind.NodeKind.{NodeKind}
 use Rattle.sd_tree.specs.declared.opening.Opening.{Opening}
 use Rattle.sd_tree.specs.declared.edit.Edit.{Edit}
 use Rattle.sd_tree.specs.declared.tree.CheckReply.{CheckReply}

@@ -4,7 +4,7 @@ use Rattle.sd_path.specs.Names.{Names, up, is_root, is_within}
 use Rattle.sd_tree.specs.Plain.{PlainTree, row_at}
 use Rattle.sd_tree.specs.Answers.{kind_at}
 use Rattle.sd_tree.specs.declared.node.Row.{Row}
-use Rattle.sd_tree.specs.declared.node.NodeKind.TheVariants.{Container}
+use Rattle.sd_inheritance.specs.declared.kind.NodeKind.TheVariants.{Container}
 
 -- the root is there and is a container, and so is what holds each node
 pub record IsClosed (t : PlainTree) : Type 0 where

@@ -7,7 +7,7 @@ use Rattle.sd_tree.specs.Plain.{PlainTree}
 use Rattle.sd_tree.specs.Edits.{edited}
 use Rattle.sd_tree.specs.Refusals.{first_fit, list_tests, has_large_dacl, refusal_in}
 use Rattle.sd_tree.specs.declared.node.Row.{Row}
-use Rattle.sd_tree.specs.declared.node.NodeKind.TheVariants.{Container}
+use Rattle.sd_inheritance.specs.declared.kind.NodeKind.TheVariants.{Container}
 use Rattle.sd_tree.specs.declared.opening.Opening.{Opening}
 use Rattle.sd_tree.specs.declared.opening.RootSpec.{RootSpec}
 use Rattle.sd_tree.specs.declared.edit.Edit.{Edit}

@@ -4,8 +4,9 @@ ghost use Rattle.std.specs.Prelude.{◌≡◌, true, IfOk};
 ghost use Rattle.sd_tree.specs.Additions.{added, is_addition};
 
 use crate::edit::Edit;
-use crate::node::{NodeKind, Row, RowRef};
+use crate::node::{Row, RowRef};
 use crate::shared::Shared;
+use sd_inheritance::NodeKind;
 use sd_path::Path;
 use std::alloc::{AllocError, Global};
 use std::marker::Model;

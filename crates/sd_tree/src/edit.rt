@@ -3,9 +3,10 @@
 ghost use Rattle.std.specs.Prelude.{◌≡◌, IfOk};
 ghost use Rattle.sd_tree.specs.Additions.{addition_of, row_of};
 
-use crate::node::{NodeDacl, NodeKind};
+use crate::node::NodeDacl;
 use crate::opening::RootSpec;
 use crate::shared::Shared;
+use sd_inheritance::NodeKind;
 use sd_path::Path;
 use sd_sid::Sid;
 use std::alloc::{AllocError, Global};

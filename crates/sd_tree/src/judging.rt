@@ -17,12 +17,13 @@ ghost use Rattle.sd_tree.specs.declared.refusal.EditRefusal.TheVariants.{Journal
 use crate::edit::Edit;
 use crate::limits::Limits;
 use crate::list_tests::list_refusal;
-use crate::node::{NodeDacl, NodeKind};
+use crate::node::NodeDacl;
 use crate::nodes::{locate, node_at};
 use crate::plan::Plan;
 use crate::refusal::{EditRefusal, TreeError};
 use crate::shared::Shared;
 use crate::tree_view::TreeView;
+use sd_inheritance::NodeKind;
 use sd_path::{Path, PathRef};
 
 /// The most names of a node's path, a choice of this profile: it bounds how many levels down an edit reaches.

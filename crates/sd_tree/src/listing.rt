@@ -8,10 +8,11 @@ ghost use Rattle.sd_tree.specs.Listing.{given_of, listed};
 ghost use Rattle.sd_tree.specs.Plain.{row_at};
 
 use crate::describe::own_descriptor_of_row;
-use crate::node::{NodeDacl, NodeKind};
+use crate::node::NodeDacl;
 use crate::nodes::{node_at, node_in};
 use crate::tree::Tree;
 use sd_acl::Descriptor;
+use sd_inheritance::NodeKind;
 use sd_path::Path;
 use sd_sid::{GenericMapping, Sid};
 use std::alloc::AllocError;

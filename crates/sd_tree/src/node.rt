@@ -13,19 +13,11 @@ use crate::refusal::{EditRefusal, TreeError};
 use crate::shared::Shared;
 use sd_acl::{ACL_HEADER_BYTES, Ace, Dacl, Descriptor, MAX_ACL_BYTES};
 use sd_blocks::TryCopy;
+use sd_inheritance::NodeKind;
 use sd_path::{Path, PathRef};
 use sd_sid::Sid;
 use std::alloc::{AllocError, Global};
 use std::marker::Model;
-
-/// What a node is to inheritance ([MS-DTYP] 2.5.3.4): only a container has nodes below it.
-#[derive(Clone, Copy, Debug, PartialEq, Eq)]
-pub enum NodeKind {
-    /// A folder, a registry key: it holds nodes.
-    Container,
-    /// A file, a registry value: it holds none.
-    Object,
-}
 
 /// The DACL that is given to a node, without what it inherits ([MS-DTYP] 2.4.6).
 #[derive(Debug, Drop)]

@@ -6,9 +6,9 @@ ghost use Rattle.sd_tree.specs.Sharing.{names_creator, trustees_matter, AreAlike
 ghost use Rattle.sd_tree.specs.Node.{inherits};
 
 use crate::entries::same_entries;
-use crate::inherit::{is_creator_group, is_creator_owner};
 use crate::node::{Node, NodeDacl, RowRef};
 use sd_acl::Ace;
+use sd_inheritance::{is_creator_group, is_creator_owner};
 
 /// Whether a node with this DACL inherits: it is neither null nor protected.
 pub(crate) fn inherits(dacl: &NodeDacl) -> bool

@@ -8,11 +8,11 @@ use Rattle.sd_sid.specs.Mapping.{MappingValue}
 use Rattle.sd_sid.specs.Sid.{SidValue}
 use Rattle.sd_acl.specs.Canonical.{is_explicit}
 use Rattle.sd_acl.specs.declared.ace.Ace.{Ace}
-use Rattle.sd_tree.specs.Inheritance.{object_inherit, container_inherit, no_propagate, effective_copy, waiting_copy, whole_copy, is_split, pass_on}
-use Rattle.sd_tree.proofs.HandedOn.{flag_of, unmarked_stays, effective_off, effective_hands_nothing, once}
+use Rattle.sd_inheritance.specs.Inheritance.{object_inherit, container_inherit, no_propagate, effective_copy, waiting_copy, whole_copy, is_split, pass_on}
+use Rattle.sd_inheritance.proofs.HandedOn.{flag_of, unmarked_stays, effective_off, effective_hands_nothing, once}
 use Rattle.sd_tree_laws.specs.Laws.{UnmarkedEntryStays, NoPropagateGoesOneLevel, speaks_of_children, NothingWaitsInAnObject, InheritedHasId}
-use Rattle.sd_tree.specs.declared.node.NodeKind.{NodeKind}
-use Rattle.sd_tree.specs.declared.node.NodeKind.TheVariants.{Container, Object}
+use Rattle.sd_inheritance.specs.declared.kind.NodeKind.{NodeKind}
+use Rattle.sd_inheritance.specs.declared.kind.NodeKind.TheVariants.{Container, Object}
 
 -- ---- flags that are kept, and one that is set
 

@@ -9,9 +9,9 @@ use Rattle.sd_acl.specs.Canonical.{explicit_entry, explicit_entries}
 use Rattle.sd_check.specs.Check.{decides, is_allowed_by, first, limits_owner}
 use Rattle.sd_acl.specs.declared.ace.Ace.{Ace}
 use Rattle.sd_acl.specs.declared.ace.AceKind.{AceKind}
-use Rattle.sd_tree.specs.Inheritance.{effective_copy, waiting_copy, whole_copy, is_split, pass_on}
-use Rattle.sd_tree.specs.declared.node.NodeKind.{NodeKind}
-use Rattle.sd_tree.specs.declared.node.NodeKind.TheVariants.{Container, Object}
+use Rattle.sd_inheritance.specs.Inheritance.{effective_copy, waiting_copy, whole_copy, is_split, pass_on}
+use Rattle.sd_inheritance.specs.declared.kind.NodeKind.{NodeKind}
+use Rattle.sd_inheritance.specs.declared.kind.NodeKind.TheVariants.{Container, Object}
 use Rattle.sd_tree_laws.proofs.Ordered.{flag_kept}
 
 same_flags : (f kept : ℕ) → bit_and 0xEF kept ≡ kept → bit_and (bit_and f 0xEF) kept ≡ bit_and f kept

@@ -19,8 +19,8 @@ use Rattle.sd_tree.specs.Edits.{edited}
 use Rattle.sd_tree.specs.Journal.{opening_within, opened, replay, refusal, root_refusal, IsLawful}
 use Rattle.sd_tree.specs.Refusals.{first_fit, early_tests, list_tests, addition_tests, is_object, is_object_kind, room_tests, refusal_in, has_large_dacl, dacl_size}
 use Rattle.sd_tree.specs.declared.node.Row.{Row}
-use Rattle.sd_tree.specs.declared.node.NodeKind.{NodeKind}
-use Rattle.sd_tree.specs.declared.node.NodeKind.TheVariants.{Container, Object}
+use Rattle.sd_inheritance.specs.declared.kind.NodeKind.{NodeKind}
+use Rattle.sd_inheritance.specs.declared.kind.NodeKind.TheVariants.{Container, Object}
 use Rattle.sd_tree.specs.declared.opening.Opening.{Opening}
 use Rattle.sd_tree.specs.declared.edit.Edit.{Edit}
 use Rattle.sd_tree.specs.declared.refusal.EditRefusal.{EditRefusal}

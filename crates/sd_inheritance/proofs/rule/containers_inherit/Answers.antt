@@ -1,7 +1,7 @@
 -- The flag is the second place.
 use Rattle.std.proofs.Common.{◌∙◌}
 use Rattle.sd_sid.proofs.Masks.{flag_test}
-use Rattle.sd_tree.proofs.inherit.containers_inherit.Goals as goal
+use Rattle.sd_inheritance.proofs.rule.containers_inherit.Goals as goal
 
 pub returns : goal.returns
 returns c = c.contains.ensures tt ∙ flag_test c.args.entry.now.flags.0 1

@@ -1,7 +1,7 @@
 -- The flag is the third place.
 use Rattle.std.proofs.Common.{◌∙◌}
 use Rattle.sd_sid.proofs.Masks.{flag_test}
-use Rattle.sd_tree.proofs.inherit.stops_here.Goals as goal
+use Rattle.sd_inheritance.proofs.rule.stops_here.Goals as goal
 
 pub returns : goal.returns
 returns c = c.contains.ensures tt ∙ flag_test c.args.entry.now.flags.0 2

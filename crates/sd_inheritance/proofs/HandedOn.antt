@@ -7,9 +7,9 @@ use Rattle.sd_sid.specs.Mapping.{MappingValue}
 use Rattle.sd_sid.specs.Sid.{SidValue}
 use Rattle.sd_sid.proofs.Masks.{holds-or, holds-and}
 use Rattle.sd_acl.specs.declared.ace.Ace.{Ace}
-use Rattle.sd_tree.specs.Inheritance.{object_inherit, container_inherit, effective_copy, pass_on}
-use Rattle.sd_tree.specs.declared.node.NodeKind.{NodeKind}
-use Rattle.sd_tree.specs.declared.node.NodeKind.TheVariants.{Container, Object}
+use Rattle.sd_inheritance.specs.Inheritance.{object_inherit, container_inherit, effective_copy, pass_on}
+use Rattle.sd_inheritance.specs.declared.kind.NodeKind.{NodeKind}
+use Rattle.sd_inheritance.specs.declared.kind.NodeKind.TheVariants.{Container, Object}
 
 -- ---- flags that are kept, and one that is set
 
