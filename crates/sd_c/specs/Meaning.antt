@@ -3,6 +3,8 @@ use Rattle.std.specs.Prelude.{◌≡◌, ℕ, ◌==◌, List, [], Option, Some, 
 use Rattle.sd_sid.specs.Sid.{sid_error_name, sid_error_number}
 use Rattle.sd_sid.specs.declared.sid.SidError.{SidError}
 use Rattle.sd_sid.specs.declared.sid.SidError.TheVariants as sids
+use Rattle.sd_path.specs.PathText.{path_error_number}
+use Rattle.sd_path.specs.declared.error.PathError.TheVariants as paths
 use Rattle.sd_text.specs.Fault.{name_of as text_fault_name, number_of as text_fault_number}
 use Rattle.sd_text.specs.declared.fault.TextFault.{TextFault}
 use Rattle.sd_text.specs.declared.fault.TextFault.TheVariants as texts
@@ -125,11 +127,16 @@ fault_name status n =
     else if status == 19 then name_or_nothing limits_error_name (limits_fault n)
     else []
 
--- each fault has its name at its number
+-- each fault that a call answers has its name at its number: bytes have no authority of 2^48, and memory has its own status
 abbrev pub FaultsHaveNames : Type 0
 FaultsHaveNames =
     ((f : TextFault) → fault_name 4 (text_fault_number f) ≡ text_fault_name f)
     × ((f : WireFault) → fault_name 5 (wire_fault_number f) ≡ wire_fault_name f)
+    × (fault_name 6 (sid_error_number sids.Revision) ≡ sid_error_name sids.Revision)
+    × (fault_name 6 (sid_error_number sids.Count) ≡ sid_error_name sids.Count)
     × (fault_name 6 (sid_error_number sids.Short) ≡ sid_error_name sids.Short)
+    × (fault_name 13 (path_error_number paths.Syntax) ≡ codes "Syntax")
+    × (fault_name 13 (path_error_number paths.NameTooLong) ≡ codes "NameTooLong")
+    × (fault_name 13 (path_error_number paths.TooManyNames) ≡ codes "TooManyNames")
     × ((r : EditRefusal) → fault_name 15 (refusal_number r) ≡ refusal_name r)
     × ((l : LimitsError) → fault_name 19 (limits_error_number l) ≡ limits_error_name l)

@@ -1,12 +1,12 @@
 -- The answers of the calls that write into the caller's buffer.
-use Rattle.std.specs.Prelude.{◌≡◌, ◌⊎◌, ℕ, nat_lt, List, ◌++◌, length, drop, Ok, Err, if◌then◌else◌}
+use Rattle.std.specs.Prelude.{◌≡◌, ◌⊎◌, ℕ, nat_lt, true, List, ◌++◌, length, drop, Ok, Err, if◌then◌else◌}
 use Rattle.std.specs.Str.{IsUtf8, IsValidUpTo}
 use Rattle.sd_sid.specs.Sid.{SidValue, sid_error_number}
 use Rattle.sd_sid.specs.SidBytes.{sid_reading, bytes_of_sid}
 use Rattle.sd_acl.specs.Descriptor.{DescriptorValue}
 use Rattle.sd_text.specs.Canon.{canon, full_canon, sid_canon}
 use Rattle.sd_text.specs.Fault.{number_of}
-use Rattle.sd_text.specs.Grammar.{Grammar, Spells, HasFault}
+use Rattle.sd_text.specs.Grammar.{Grammar, Spells, SpellsOne, HasFault}
 use Rattle.sd_text.specs.MaskNames.{mask_names}
 use Rattle.sd_text.specs.Sddl.{sddl}
 use Rattle.sd_text.specs.Sid.{sid_text}
@@ -69,9 +69,10 @@ Answers Right Holds old new answer =
 abbrev pub IsNotUtf8 : List ℕ → ℕ → Type 0
 IsNotUtf8 text place = ¬ (IsUtf8 text) × IsValidUpTo text place
 
--- a text of the grammar is refused: it isn't UTF-8 from there on, or its fault is there
+-- a text of the grammar is refused: it isn't UTF-8 from there on, or its fault is there. Memory is wanting only for a text
+-- that is valid
 abbrev pub RefusesText : {A : Type 0} → Grammar A → List ℕ → Refusal → Type 0
-RefusesText grammar text Memory = Unit {0}
+RefusesText grammar text Memory = SpellsOne (λ value. true) grammar text
 RefusesText grammar text (Utf8 place) = IsNotUtf8 text place
 RefusesText grammar text (Text fault place) = HasFault grammar text fault place
 RefusesText grammar text _ = ⊥
