@@ -122,6 +122,8 @@ class Kills(rig.Case):
         chance, made = random.Random(3), 0
         for _ in range(6):
             self.start()
+            made += 1
+            self.send(made, waits=True)
             end = time.monotonic() + chance.random() * 0.2
             while time.monotonic() < end:
                 made += 1
@@ -134,13 +136,15 @@ class Kills(rig.Case):
         self.assertEqual(one, other)
         self.assertGreater(len(one), 0)
 
-    def send(self, number: int) -> None:
-        """A request, whose answer nobody waits for."""
+    def send(self, number: int, waits: bool = False) -> None:
+        """A request, for whose answer nobody waits, but for some."""
         edits = [{"edit": "addo", "path": f"/{name}{number}", "descriptor": "O:BAG:SYD:"} for name in "ab"]
         body = json.dumps({"edits": edits, "publish": True})
         with contextlib.suppress(OSError), rig.connected(self.http) as asked:
             asked.sendall(f"POST /v1/edit HTTP/1.1\r\nHost: x\r\nContent-Type: application/json\r\n"
                           f"Content-Length: {len(body)}\r\n\r\n{body}".encode())
+            if waits:
+                asked.recv(1)
 
 
 if __name__ == "__main__":
