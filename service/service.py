@@ -30,11 +30,12 @@ from long_answers import BUSY, STOPPING, LongAnswers, Work
 from metrics import Metrics, seconds_since
 from questions import Questions
 from rarely import Rarely
+from shown import Shown
 from slots import Slots
 from task import NO_MEMORY, UNMADE, Task
 from tree import MAPPINGS
 from turn import Turn
-from writer import NO_LEADER, UNAVAILABLE, Shown, Writer
+from writer import NO_LEADER, UNAVAILABLE, Writer
 
 #: The answer to a question that raised what nothing expects, and to what has no record in the log.
 FAILED, NO_RECORD = "unavailable failed", "unavailable log"
