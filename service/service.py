@@ -233,22 +233,24 @@ class Service:
         if not caller.may("edit"):
             self.refuse(" ".join(lines[0]), caller, reply)
             return
-        parts = [self._task(words, caller, reply) for words in lines]
-        task = parts[0]
-        if len(parts) > 1 or only_if is not None:
+        if len(lines) == 1 and only_if is None:
+            task = self._task(lines[0], caller, reply)
+            if task.answer:
+                raise Fault(task.answer)
+        else:
+            parts = [self._task(words, caller, reply) for words in lines]
             task = Task(None, "", "", caller.who, reply, parts=parts, only_if=only_if)
             if any(part.answer for part in parts):
                 task.settle(UNMADE)
                 reply(task)
                 return
-        elif task.answer:
-            raise Fault(task.answer)
         self._begin(task)
         self._writer.put(task)
 
     def _begin(self, task: Task) -> None:
         """The edits are in progress. Fault: they aren't taken now."""
-        count, length = len(task.each), sum([len(each.line) for each in task.each])
+        each = task.parts or (task,)
+        count, length = len(each), sum([len(one.line) for one in each])
         if not self._writer.leads:
             raise Fault(NO_LEADER)
         if self.is_stopping:

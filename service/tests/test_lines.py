@@ -119,6 +119,16 @@ class Lines(rig.Case):
                          ["fault words"] * 6)
         self.assertEqual(self.said(f"once {'k' * 101} publish", "once é publish"), ["fault key", "fault key"])
 
+    def test_a_question_after_edits(self) -> None:
+        """It is answered once they are, though they were sent together."""
+        self.make()
+        self.start()
+        with self.connect() as asked:
+            for at in range(1, 20):
+                asked.send(b"x addo /n%d O:BAG:SYD:\nx publish\nx tell\n" % at)
+                self.assertEqual([asked.read() for _ in range(3)],
+                                 [b"x ok\n", b"x published %d\n" % at, b"x told %d\n" % at])
+
     def test_roles(self) -> None:
         """Who isn't allowed to edit can't; who isn't allowed to ask can't; nobody else gets an answer."""
         self.make()
