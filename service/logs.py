@@ -16,8 +16,8 @@ from collections.abc import Callable, Sequence
 from dataclasses import dataclass
 from itertools import islice
 
-#: The bytes that may wait for the stream: an event beyond these is lost, and counted.
-_MOST_BYTES = 1 << 20
+#: The bytes that may wait for the stream, and of events alone: one beyond these is lost, and counted.
+_MOST_BYTES, _MOST_OF_EVENTS = 1 << 20, 1 << 19
 #: The events, or records of one commit, that are written at once.
 _AT_ONCE = 64
 #: A record that isn't there after so many seconds isn't waited for any more.
@@ -77,7 +77,7 @@ class Log:
         """One line. False: too many wait, and this one is lost."""
         text = _lines(what, [fields])
         with self._changed:
-            if self._bytes >= _MOST_BYTES:
+            if self._bytes >= _MOST_OF_EVENTS:
                 self.lost += 1
                 return False
             self._put(_Waiting(text, time.monotonic()))

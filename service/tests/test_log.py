@@ -62,7 +62,8 @@ class Logs(rig.Case):
         taken = sum(log.event("denial", text="x" * 1000) for _ in range(3000))
         self.assertEqual(taken + log.lost, 3000)
         self.assertGreater(log.lost, 1000)
-        self.assertLess(log.waiting_bytes, 2 << 20)
+        # (what records of edits have is beyond that)
+        self.assertLess(log.waiting_bytes, 3 << 18)
 
     def test_few(self) -> None:
         """What anybody can cause is written up to a number, and the next one says how many weren't."""
