@@ -307,8 +307,8 @@ class Connection(asyncio.BufferedProtocol):
             self.transport.close()
 
     def _has_left(self) -> bool:
-        """Whether the client has closed the connection, from which nothing is taken while an answer is made. Over TLS
-        it can't be half open."""
+        """Whether the client has closed the connection, of which what isn't read yet says nothing. Over TLS it can't be
+        half open."""
         poll = select.poll()
         poll.register(self.transport.get_extra_info("socket"), select.POLLRDHUP if self._is_tls else 0)
         return bool(poll.poll(0))
