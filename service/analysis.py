@@ -8,6 +8,7 @@ from dataclasses import dataclass, field
 
 from hudarin import Descriptor, Group, Refused, Token, Verdict, View
 
+import apart
 from deadline import Deadline
 from errors import Fault
 from spelling import fault_of, path_of, spelled
@@ -85,14 +86,14 @@ def checked(
         yield from view.check_all(paths[at : at + at_once], token, asked)
 
 
-def granted(view: View, path: str, asked: int, base: Sequence[Group], mapping: Mapping) -> Iterator[str]:
+def granted(
+    view: View, path: str, asked: int, base: Sequence[Group], mapping: Mapping, deadline: Deadline
+) -> Iterator[str]:
     """Whom the node grants which of the rights, of all tokens that have the base."""
     with view:
         descriptor = descriptor_in(view, path)
-    if descriptor is None:
-        yield "nonode"
-        return
-    yield from map(str, descriptor.who(asked, base, mapping) or ["empty"])
+    lines = ["nonode"] if descriptor is None else apart.granted(descriptor, asked, base, mapping, deadline)
+    yield from lines or ["empty"]
 
 
 def compared(view: View, path: str, new: Descriptor, base: Sequence[Group], mapping: Mapping) -> Iterator[str]:

@@ -14,8 +14,8 @@ from errors import Fault
 from json_request import Given
 from questions import MOST_WORDS
 from script import FEW_WORDS, MOST_PATHS, Reader
+from shown import Shown
 from spelling import path_of
-from writer import Shown
 
 
 #: The words of a token, times the masks of a request, whose checks are answered in the loop.

@@ -8,7 +8,7 @@ from typing import Any, Protocol
 from caller import Caller
 from json_request import Given
 from service import Service
-from writer import Shown
+from shown import Shown
 
 
 @dataclass(frozen=True, slots=True)

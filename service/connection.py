@@ -13,7 +13,8 @@ from service import Service
 
 #: The bytes of a long answer that a client has to take in the time of a request.
 _LEAST_TAKEN = 1 << 16
-#: So many bytes of an answer are given to the system at once, which keeps as many for a client.
+#: So many bytes of an answer are given to the system at once, which keeps as many for a client; and so many of requests
+#: wait before no more are read: to stop and to go on reading takes longer than a check.
 _PIECE = 1 << 16
 #: What is received at once. All connections are read by the one thread of the loop, into this: a buffer of its own for
 #: each read takes longer than a check.
@@ -148,10 +149,10 @@ class Connection(asyncio.BufferedProtocol):
         waits = self.answer_waiting()
         if self.transport.is_closing() or self._finishes:
             return
-        if waits:
-            self.transport.pause_reading()
-        else:
+        if not waits:
             self.transport.resume_reading()
+        elif self.received > _PIECE:
+            self.transport.pause_reading()
         owes = self.has_part and not waits
         self._owes_since = (self._owes_since or time.monotonic()) if owes else None
         if self._is_ended and not waits and not self.in_progress and not self._unsent:
@@ -271,7 +272,7 @@ class Connection(asyncio.BufferedProtocol):
     @property
     def has_waiting(self) -> bool:
         """Whether there is anything else to answer, or to read on."""
-        return bool(self._buffer) or not self.transport.is_reading()
+        return self.received > 0 or not self.transport.is_reading()
 
     @property
     def idle_since(self) -> float | None:
@@ -306,8 +307,8 @@ class Connection(asyncio.BufferedProtocol):
             self.transport.close()
 
     def _has_left(self) -> bool:
-        """Whether the client has closed the connection, from which nothing is taken while an answer is made. Over TLS
-        it can't be half open."""
+        """Whether the client has closed the connection, of which what isn't read yet says nothing. Over TLS it can't be
+        half open."""
         poll = select.poll()
         poll.register(self.transport.get_extra_info("socket"), select.POLLRDHUP if self._is_tls else 0)
         return bool(poll.poll(0))

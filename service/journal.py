@@ -110,6 +110,10 @@ class Journal:
             row = self._database.execute("SELECT number, chain FROM lines WHERE number = ?", (number,)).fetchone()
         return None if row is None else Place(*row)
 
+    def last_place(self) -> Place | None:
+        """The place of the last line, or the one before the first."""
+        return self.place_at(self.last_number())
+
     def by_key(self, key: str) -> Line | None:
         """The last line that was accepted with this key."""
         # The index is of lines with a key alone, and without the second term SQLite looks at all lines.

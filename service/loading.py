@@ -43,6 +43,33 @@ class Loaded:
         self.last, self.time, self.epoch = place, line.time, max(self.epoch, line.epoch)
 
 
+class Moment:
+    """What a state is now, to be that again: `with Moment(state) as before: ..`, or until `close`."""
+
+    def __init__(self, state: Loaded) -> None:
+        tree = state.tree
+        self.last, self._state = state.last, dict(vars(state))
+        self._view, self._length, self._pending = tree.view, tree.length, tree.pending_view()
+
+    def __enter__(self) -> "Moment":
+        return self
+
+    def __exit__(self, *_: object) -> None:
+        self.close()
+
+    def restore(self, state: Loaded) -> None:
+        """Makes the state what it was. The view that was published then is open yet. MemoryError: it is as it is."""
+        tree = state.tree
+        tree.revert(self._pending)
+        if tree.view is not self._view:
+            tree.view.close()
+        tree.view, tree.length = self._view, self._length
+        vars(state).update(self._state)
+
+    def close(self) -> None:
+        self._pending.close()
+
+
 def load(journal: Journal) -> Loaded:
     """The state after the journal's last line. Mismatch: a line isn't the one that was written, or has another outcome
     today, or lines are missing."""

@@ -8,6 +8,7 @@ import contextlib
 import json
 import os
 import select
+import stat
 import threading
 import time
 from collections import deque
@@ -15,8 +16,8 @@ from collections.abc import Callable, Sequence
 from dataclasses import dataclass
 from itertools import islice
 
-#: The bytes that may wait for the stream: an event beyond these is lost, and counted.
-_MOST_BYTES = 1 << 20
+#: The bytes that may wait for the stream, and of events alone: one beyond these is lost, and counted.
+_MOST_BYTES, _MOST_OF_EVENTS = 1 << 20, 1 << 19
 #: The events, or records of one commit, that are written at once.
 _AT_ONCE = 64
 #: A record that isn't there after so many seconds isn't waited for any more.
@@ -41,6 +42,7 @@ class Log:
 
     def __init__(self, out: int = 2) -> None:
         self._out = out
+        self._is_file = stat.S_ISREG(os.fstat(out).st_mode)
         self._ready = select.poll()
         self._ready.register(out, select.POLLOUT)
         self._changed = threading.Condition()
@@ -59,6 +61,8 @@ class Log:
         """Whether the stream takes what is put, as far as is known."""
         if self._is_failing or self._bytes >= _MOST_BYTES:
             return False
+        if not self._bytes:
+            return True
         try:
             return time.monotonic() - self._waiting[0].since <= RECORD_SECONDS
         except IndexError:
@@ -73,7 +77,7 @@ class Log:
         """One line. False: too many wait, and this one is lost."""
         text = _lines(what, [fields])
         with self._changed:
-            if self._bytes >= _MOST_BYTES:
+            if self._bytes >= _MOST_OF_EVENTS:
                 self.lost += 1
                 return False
             self._put(_Waiting(text, time.monotonic()))
@@ -122,8 +126,9 @@ class Log:
         """Writes the only one, as far as the stream takes it at once. Returns whether all is there, in time."""
         rest = memoryview(first.text)
         with contextlib.suppress(OSError):
-            while rest and self._ready.poll(0):
-                rest = rest[os.write(self._out, rest[: select.PIPE_BUF]) :]
+            # (a ready pipe takes so many bytes; each look at it, and each write, gives other threads a turn)
+            while rest and (self._is_file or self._ready.poll(0)):
+                rest = rest[os.write(self._out, rest if self._is_file else rest[: select.PIPE_BUF]) :]
         with self._changed:
             self._bytes -= len(first.text) - len(rest)
             first.text, is_waited_for = bytes(rest), first.then is not None
@@ -202,5 +207,5 @@ def _call(thens: Sequence[Callable[[bool], object]], is_written: bool) -> None:
 
 def _lines(what: str, many: Sequence[dict[str, object]]) -> bytes:
     """A line each. Texts may come from outside: JSON escapes what would make a line of its own."""
-    head = {"time": round(time.time(), 3), "event": what}
-    return "".join(json.dumps(head | fields) + "\n" for fields in many).encode()
+    head = json.dumps({"time": round(time.time(), 3), "event": what})[:-1]
+    return "".join([f"{head}{', ' if fields else ''}{json.dumps(fields)[1:]}\n" for fields in many]).encode()

@@ -13,9 +13,9 @@ from analysis import checked, descriptor_in
 from deadline import Deadline
 from edits import require_paths
 from errors import Fault
+from shown import Shown
 from spelling import fault_of, sid_of
 from tree import Mapping
-from writer import Shown
 
 #: The most words of a token: a Windows token has at most 1,024 groups.
 MOST_WORDS = 2_048

@@ -189,7 +189,7 @@ def _dump(words: Sequence[str], questions: Questions, reader: Reader, deadline: 
 
 def _who(words: Sequence[str], questions: Questions, reader: Reader, deadline: Deadline) -> Iterator[str]:
     path, bits, base = _path(words[1], questions), mask_of(words[2]), base_of(words[3:])
-    return analysis.granted(questions.shown.view.share(), path, bits, base, questions.mapping)
+    return analysis.granted(questions.shown.view.share(), path, bits, base, questions.mapping, deadline)
 
 
 def _compare(words: Sequence[str], questions: Questions, reader: Reader, deadline: Deadline) -> Iterator[str]:

@@ -30,11 +30,12 @@ from long_answers import BUSY, STOPPING, LongAnswers, Work
 from metrics import Metrics, seconds_since
 from questions import Questions
 from rarely import Rarely
+from shown import Shown
 from slots import Slots
 from task import NO_MEMORY, UNMADE, Task
 from tree import MAPPINGS
 from turn import Turn
-from writer import NO_LEADER, UNAVAILABLE, Shown, Writer
+from writer import NO_LEADER, UNAVAILABLE, Writer
 
 #: The answer to a question that raised what nothing expects, and to what has no record in the log.
 FAILED, NO_RECORD = "unavailable failed", "unavailable log"
@@ -232,22 +233,24 @@ class Service:
         if not caller.may("edit"):
             self.refuse(" ".join(lines[0]), caller, reply)
             return
-        parts = [self._task(words, caller, reply) for words in lines]
-        task = parts[0]
-        if len(parts) > 1 or only_if is not None:
+        if len(lines) == 1 and only_if is None:
+            task = self._task(lines[0], caller, reply)
+            if task.answer:
+                raise Fault(task.answer)
+        else:
+            parts = [self._task(words, caller, reply) for words in lines]
             task = Task(None, "", "", caller.who, reply, parts=parts, only_if=only_if)
             if any(part.answer for part in parts):
                 task.settle(UNMADE)
                 reply(task)
                 return
-        elif task.answer:
-            raise Fault(task.answer)
         self._begin(task)
         self._writer.put(task)
 
     def _begin(self, task: Task) -> None:
         """The edits are in progress. Fault: they aren't taken now."""
-        count, length = len(task.each), sum([len(each.line) for each in task.each])
+        each = task.parts or (task,)
+        count, length = len(each), sum([len(one.line) for one in each])
         if not self._writer.leads:
             raise Fault(NO_LEADER)
         if self.is_stopping:

@@ -6,7 +6,7 @@ from dataclasses import dataclass, field
 
 from edits import Edit
 from entry import Batch
-from loading import Loaded
+from loading import Loaded, Moment
 
 NO_MEMORY = "unavailable memory"
 #: The answer to an edit that isn't made, since another one that was sent with it isn't.
@@ -72,9 +72,9 @@ def make_together(
 
 
 def _make_all(whole: Task, state: Loaded, batch: Batch, make: Callable[[Task, Batch], None]) -> None:
-    last, published, when, count = state.last, state.published, state.time, len(batch.lines)
+    count = len(batch.lines)
     try:
-        before = state.tree.pending_view()
+        before = Moment(state)
     except MemoryError:
         whole.answer = NO_MEMORY
         return
@@ -82,8 +82,7 @@ def _make_all(whole: Task, state: Loaded, batch: Batch, make: Callable[[Task, Ba
         for part in whole.parts:
             make(part, batch)
             if not part.was_made:
-                state.tree.revert(before)
-                state.last, state.published, state.time = last, published, when
+                before.restore(state)
                 for line, _ in batch.lines[count:]:
                     batch.by_key.pop(line.key, None)
                 del batch.lines[count:]

@@ -24,7 +24,8 @@ from epochs import Maker
 from errors import Fault, Mismatch, ServiceError
 from journal import Journal
 from leading import Lines
-from loading import Loaded, load
+from loading import Loaded, Moment, load
+from shown import Shown
 from stream import Stream
 from task import NO_MEMORY, Task, make_together
 
@@ -37,22 +38,6 @@ MOST_EDITS = 900_000
 RETRY_SECONDS = 5.0
 ACCEPTED, PUBLISHED = "ok", "published {}"
 UNAVAILABLE, NO_LEADER = "unavailable journal", "unavailable replica"
-
-
-@dataclass(frozen=True, slots=True)
-class Shown:
-    """What readers see."""
-
-    view: View
-    length: int
-    place: Place
-    epoch: int
-    #: The last line on disk, and when it was accepted, in milliseconds since 1970.
-    last: Place
-    time: int
-    takes_edits: bool
-    #: No answer is given after that, by the clock of `clock.now`: a replica knows no more of its source.
-    fresh_until: float
 
 
 #: What is pending, and the numbers of the published line and of the last one.
@@ -82,8 +67,9 @@ class Writer:
     #: Views that no reader uses any more: the thread closes them.
     retired: deque[View] = field(default_factory=deque)
     _thread: threading.Thread | None = None
-    #: The store isn't the journal's since a commit failed.
+    #: The store isn't the journal's since a commit failed; and what it was before that, or before the one in progress.
     is_lost: bool = False
+    _before: Moment | None = None
 
     def __post_init__(self) -> None:
         #: What readers see: only what is on disk.
@@ -184,12 +170,12 @@ class Writer:
         return tasks, item, item is None
 
     def _carry_out(self, tasks: list[Task]) -> None:
-        """Makes the edits and commits them. If that fails none is acknowledged, and the store is read again."""
+        """Makes the edits and commits them. If that fails none is acknowledged."""
         batch = Batch()
         try:
             if self.is_lost:
                 self._reload()
-            last = self.state.last
+            last = self._begin_commit()
             for task in tasks:
                 self._make(task, batch)
             if self.stream is not None and self.leads:
@@ -197,6 +183,7 @@ class Writer:
                 self.stream.append(last, batch.lines)
             if batch.lines:
                 self.journal.append(batch.lines)
+            self._end_commit()
         except (sqlite3.Error, OSError, ServiceError, MemoryError) as error:
             self.is_lost = True
             # A replica asks whether it leads.
@@ -268,10 +255,25 @@ class Writer:
         if view is not self.shown.view:
             view.close()
 
+    def _begin_commit(self) -> Place:
+        """The last line, after which others are made. Until the end of the commit they can be taken back."""
+        self._before = Moment(self.state)
+        return self._before.last
+
+    def _end_commit(self) -> None:
+        if self._before is not None:
+            self._before.close()
+        self._before = None
+
     def _reload(self) -> None:
-        """Reads the store again, as a start does. Readers keep what was published, which is on disk."""
-        state = load(self.journal)
-        self._go_on_in(state)
+        """Makes the store that of the journal, which has all of the commit that failed or nothing of it; if that isn't
+        known, it is read again, as at a start. Readers keep what was published, which is on disk."""
+        before, last = self._before, self.journal.last_place()
+        if before is not None and last == before.last:
+            before.restore(self.state)
+        elif before is None or last != self.state.last:
+            self._go_on_in(load(self.journal))
+        self._end_commit()
         self.is_lost = False
 
     def _may_try_again(self) -> bool:
@@ -281,8 +283,8 @@ class Writer:
     def _try_again(self) -> None:
         """Takes edits again, if the journal is the store's and something can be written to it."""
         try:
-            self._reload()
             self.journal.require_room()
+            self._reload()
         except (sqlite3.Error, OSError, ServiceError, MemoryError) as error:
             self.is_lost = True
             self.warn(f"the journal still takes no edits: {error}")
@@ -316,12 +318,14 @@ class Writer:
                 self._reload()
                 return
             # What it has appended itself since it asked is there too.
-            lines = [each for each in following.lines if each[0].number > self.state.last.number]
+            last = self._begin_commit()
+            lines = [each for each in following.lines if each[0].number > last.number]
             for line, chain in lines:
                 self._require_next(line, chain)
                 self.state.replay(line, chain, self._drop)
             if lines:
                 self.journal.append(lines)
+            self._end_commit()
             has_all = self.state.last.number >= following.last
             led, self.leads = self.leads, following.leads and has_all
             if self.leads and not led:

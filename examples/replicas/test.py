@@ -5,6 +5,7 @@
 
 The last line is 'N passed, M failed'."""
 
+import contextlib
 import json
 import random
 import shutil
@@ -27,8 +28,8 @@ from client import Client, Unavailable  # noqa: E402 (rig says where)
 from redis_client import Redis  # noqa: E402
 
 NAMES = ("a", "b", "c")
-#: A lease that is short, and an age that a busy machine doesn't exceed by chance.
-LEASE = "lease_seconds = 2\nmax_age_seconds = 20"
+#: A lease and an age that a busy machine doesn't exceed by chance.
+LEASE, AGE = 5, 20
 #: The kills of the random test.
 KILLS = 15
 
@@ -41,17 +42,25 @@ class Server:
         self._process: subprocess.Popen[bytes] | None = None
 
     def start(self) -> None:
-        command = ["redis-server", "--port", "0", "--unixsocket", str(self.socket), "--dir", str(self.room), "--save", "",
-                   "--appendonly", "yes", "--appendfsync", "always", *self._options]
-        self._process = subprocess.Popen(command, stdout=subprocess.PIPE)
-        if not any(b"ready to accept connections" in line for line in self._process.stdout):
-            raise RuntimeError("redis-server isn't ready")
+        command = ["redis-server", "--port", "0", "--unixsocket", str(self.socket), "--dir", str(self.room),
+                   "--save", "", "--appendonly", "yes", "--appendfsync", "always", "--logfile", "redis.log",
+                   *self._options]
+        self._process = subprocess.Popen(command)
+        end = time.monotonic() + rig.PATIENCE
+        while not self._is_ready():
+            if self._process.poll() is not None or time.monotonic() > end:
+                raise RuntimeError("redis-server isn't ready")
+            time.sleep(0.01)
+
+    def _is_ready(self) -> bool:
+        with contextlib.suppress(OSError):
+            return self.ask("PING") == b"PONG"
+        return False
 
     def kill(self, number: int = signal.SIGKILL) -> None:
         self._process.send_signal(number)
         if number == signal.SIGKILL:
             self._process.wait()
-            self._process.stdout.close()
 
     def ask(self, *words: str | int) -> object:
         redis = Redis(lambda: rig.connected(self.socket))
@@ -80,14 +89,15 @@ class Replicas(rig.Case):
         for node in self.nodes.values():
             self.start_node(node)
 
-    def configure_node(self, node: rig.Case, limits: str = "lines_in_epoch = 40") -> None:
+    def configure_node(self, node: rig.Case, age: int = AGE) -> None:
         # (a name of its own, which a test takes away)
         (node.room / "redis").unlink(missing_ok=True)
         (node.room / "redis").symlink_to(self.redis.socket)
-        node.configure(limits, more=f'[redis]\nunix = "{node.room / "redis"}"\n{LEASE}')
+        node.configure("lines_in_epoch = 40", more=f'[redis]\nunix = "{node.room / "redis"}"\n'
+                       f"lease_seconds = {LEASE}\nmax_age_seconds = {age}")
 
-    def start_node(self, node: rig.Case) -> None:
-        self.configure_node(node)
+    def start_node(self, node: rig.Case, age: int = AGE) -> None:
+        self.configure_node(node, age)
         node.launch()
         node.wait_until_ready()
 
@@ -142,11 +152,10 @@ class Replicas(rig.Case):
     def test_a_leader_that_sleeps(self) -> None:
         """Its lease ends meanwhile: what it then gets isn't made, and it answers by nothing old."""
         leader = self.leader()
-        with leader.connect() as asked, self.client() as client:
+        others = [str(node.lines) for node in self.others(leader)]
+        with leader.connect() as asked, Client(others, timeout=rig.PATIENCE) as client:
             leader.process.send_signal(signal.SIGSTOP)
             asked.send(b"x addo /late O:BAG:SYD:\nx publish\n")
-            client.close()
-            client._where = str(self.others(leader)[0].lines)
             client.edit("addo", "/early", "O:BAG:SYD:")
             self.assertEqual(client.publish(), 1)
             leader.process.send_signal(signal.SIGCONT)
@@ -284,6 +293,10 @@ class Replicas(rig.Case):
 
     def test_a_replica_of_a_leader_that_is_deposed(self) -> None:
         """It answers by nothing older than its own limit, whatever that of the service is that it follows."""
+        age = 2 * rig.PATIENCE
+        for node in self.nodes.values():
+            node.kill()
+            self.start_node(node, age)
         deposed = self.leader()
         replica = rig.Case()
         replica.setUp()
@@ -297,10 +310,7 @@ class Replicas(rig.Case):
         with Client([str(node.lines) for node in self.others(deposed)], timeout=rig.PATIENCE) as client:
             client.edit("dacl", "/a", "D:")
             self.assertEqual(client.publish(), 2)
-        published = time.monotonic()
         replica.wait_for(lambda: replica.said(check) == ["unavailable behind"])
-        # (and a busy machine takes its time)
-        self.assertLess(time.monotonic() - published, 2 + 5)
         self.assertEqual(deposed.said(check), ["seen 1 granted 0x120116"])
 
     def test_the_log_without_redis(self) -> None:
@@ -311,8 +321,9 @@ class Replicas(rig.Case):
         for _ in range(20):
             self.assertTrue(leader.said("addo /b O:BAG:SYD:")[0].startswith("unavailable "))
         for node in self.nodes.values():
+            node.wait_for(lambda: any(each["event"] == "warning" for each in node.events()))
             warned = [each for each in node.events() if each["event"] == "warning"]
-            self.assertTrue(0 < len(warned) < 10, warned)
+            self.assertLess(len(warned), 10, warned)
         self.redis.start()
         leader = self.leader()
         for node in self.nodes.values():

@@ -3,6 +3,7 @@
 import contextlib
 import json
 import os
+import random
 import shutil
 import signal
 import socket
@@ -26,8 +27,17 @@ PROGRAM = [os.environ["SDSTORED"]] if "SDSTORED" in os.environ else [sys.executa
 SDSTORE = TOP / "crates/sdstore/out/sdstore"
 USER = "S-1-5-21-1-2-3-1001"
 DUMP = "open 1 O:BAG:SYD:(A;OICI;FR;;;BU)\npublish\n"
-#: A process ends, or a socket is there, within so many seconds.
-PATIENCE = 60
+#: A process ends, or a socket is there, within so many seconds, however busy the machine is.
+PATIENCE = 180
+#: Where tests have their folders: a socket's path has 107 bytes at most.
+ROOMS = tempfile.gettempdir() if len(os.fsencode(tempfile.gettempdir())) < 60 else "/tmp"
+
+# What is started here can be interrupted, though a shell had this program ignore it, as it does with what is in its
+# background.
+signal.signal(signal.SIGINT, signal.default_int_handler)
+# Services here are asked by nobody else.
+for each in [each for each in os.environ if each.lower().endswith("_proxy")]:
+    del os.environ[each]
 
 
 def run(*words: object, given: str = "", status: int = 0) -> subprocess.CompletedProcess[str]:
@@ -40,10 +50,11 @@ def run(*words: object, given: str = "", status: int = 0) -> subprocess.Complete
 
 
 def free_port() -> int:
-    """A port of the loopback interface at which nobody listened a moment ago."""
-    with socket.socket() as found:
-        found.bind(("127.0.0.1", 0))
-        return int(found.getsockname()[1])
+    """A port of the loopback interface at which nobody listened a moment ago, and from which nobody connects."""
+    while True:
+        with socket.socket() as found, contextlib.suppress(OSError):
+            found.bind(("127.0.0.1", random.randrange(10_000, 32_768)))
+            return int(found.getsockname()[1])
 
 
 def connected(where: Path) -> socket.socket:
@@ -102,6 +113,9 @@ class Scripted:
 
     def __init__(self, where: Path, answer: Callable[[str], list[str] | None]) -> None:
         self._answer, self._listening = answer, socket.socket(socket.AF_UNIX)
+        self._client: socket.socket | None = None
+        #: The questions so far.
+        self.count = 0
         where.unlink(missing_ok=True)
         self._listening.bind(str(where))
         self._listening.listen()
@@ -112,20 +126,23 @@ class Scripted:
         return self
 
     def __exit__(self, *_: object) -> None:
-        self._listening.shutdown(socket.SHUT_RDWR)
+        for each in (self._listening, self._client):
+            with contextlib.suppress(OSError, AttributeError):
+                each.shutdown(socket.SHUT_RDWR)
         self._thread.join()
         self._listening.close()
 
     def _run(self) -> None:
         with contextlib.suppress(OSError):
             while True:
-                client, _ = self._listening.accept()
-                with client, client.makefile("rb") as lines, contextlib.suppress(ConnectionError):
+                self._client, _ = self._listening.accept()
+                with self._client as client, client.makefile("rb") as lines, contextlib.suppress(ConnectionError):
                     self._serve(client, lines)
 
     def _serve(self, client: socket.socket, lines: BinaryIO) -> None:
         while line := lines.readline().decode().rstrip("\n"):
             tag, _, asked = line.partition(" ")
+            self.count += 1
             said = self._answer(asked)
             if said is None:
                 return
@@ -136,7 +153,7 @@ class Case(unittest.TestCase):
     """A test with a folder, which is gone at its end, and so are its processes."""
 
     def setUp(self) -> None:
-        self.room = Path(tempfile.mkdtemp(prefix="sdstored-"))
+        self.room = Path(tempfile.mkdtemp(prefix="sdstored-", dir=ROOMS))
         self.addCleanup(shutil.rmtree, self.room, ignore_errors=True)
         self.store, self.lines, self.http = self.room / "store", self.room / "lines", self.room / "http"
         self.log = self.room / "log"
@@ -162,10 +179,11 @@ class Case(unittest.TestCase):
         self.launch()
         self.wait_until_ready()
 
-    def launch(self) -> None:
+    def launch(self, into: int | None = None) -> None:
+        """Starts the service, whose log is in an open file, or in the file `log`."""
         with open(self.log, "ab") as log:
             self.log_start = log.tell()
-            self.process = subprocess.Popen([*PROGRAM, "run", str(self.config)], stderr=log)
+            self.process = subprocess.Popen([*PROGRAM, "run", str(self.config)], stderr=log if into is None else into)
 
     def wait_until_ready(self) -> None:
         self.wait_for(lambda: any(each["event"] == "ready" for each in self.events()))

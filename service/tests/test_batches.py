@@ -14,6 +14,7 @@ import rig
 import loading
 import stores
 from edits import edit_of
+from entry import Line
 from journal import Journal
 from task import NOT_FOR_THIS, UNMADE, Task
 from tree import dumped
@@ -97,6 +98,44 @@ class Batches(rig.Case):
         self.assertEqual(answers, [[UNAVAILABLE] * 3, ["ok", "published 1"]])
         self.assertEqual(self.nodes(), ["/a"])
 
+    def test_the_store_after_a_commit_that_fails(self) -> None:
+        """It is that of the journal, which isn't replayed for it: whether the commit is there or not, and of whatever
+        edits it was."""
+        append, chained, left = Journal.append, Line.chained, [0]
+
+        def fail(journal: Journal, lines: list[object], is_there: bool) -> None:
+            left[0] -= 1
+            if left[0] != 0 or is_there:
+                append(journal, lines)
+            if left[0] == 0:
+                raise sqlite3.OperationalError("disk I/O error")
+
+        def lack(*arguments: object) -> bytes:
+            left[0] -= 1
+            if left[0] == 0:
+                raise MemoryError
+            return chained(*arguments)
+
+        lines = [ADD.format("a"), "publish", ADD.format("b"), "remove /a", "publish", ADD.format("c"), "publish"]
+        for name, patch in (("before", mock.patch.object(Journal, "append", lambda *given: fail(*given, False))),
+                            ("after", mock.patch.object(Journal, "append", lambda *given: fail(*given, True))),
+                            ("memory", mock.patch.object(Line, "chained", lack))):
+            for at in range(1, len(lines)):
+                with self.subTest(name, at=at), patch, mock.patch("writer.load", wraps=loading.load) as load, \
+                        mock.patch("writer.MOST_AT_ONCE", at if name == "memory" else 2):
+                    left[0] = at if name == "memory" else (at + 1) // 2
+                    answers = self.run_all(*(self.task(line) for line in (*lines, ADD.format("z"), "publish")))
+                    self.assertIn([UNAVAILABLE], answers)
+                    self.assertEqual(answers[-2:], [["ok"], [f"published {self.shown.length}"]])
+                    self.assertEqual(load.call_count, 0)
+                    with self.writer.state.tree.pending_view() as view:
+                        nodes = [line.split(" ")[1] for line in dumped(view) if line.startswith("addo ")]
+                    self.assertEqual(nodes, self.nodes())
+                    shown = [line.split(" ")[1] for line in dumped(self.shown.view) if line.startswith("addo ")]
+                    self.assertEqual(shown, nodes)
+                self.doCleanups()
+                self.setUp()
+
     def test_memory(self) -> None:
         """Out of memory at any of them: none is made."""
         with mock.patch("tree.Tree.publish", side_effect=MemoryError):
@@ -122,6 +161,8 @@ class Kills(rig.Case):
         chance, made = random.Random(3), 0
         for _ in range(6):
             self.start()
+            made += 1
+            self.send(made, waits=True)
             end = time.monotonic() + chance.random() * 0.2
             while time.monotonic() < end:
                 made += 1
@@ -134,13 +175,15 @@ class Kills(rig.Case):
         self.assertEqual(one, other)
         self.assertGreater(len(one), 0)
 
-    def send(self, number: int) -> None:
-        """A request, whose answer nobody waits for."""
+    def send(self, number: int, waits: bool = False) -> None:
+        """A request, for whose answer nobody waits, but for some."""
         edits = [{"edit": "addo", "path": f"/{name}{number}", "descriptor": "O:BAG:SYD:"} for name in "ab"]
         body = json.dumps({"edits": edits, "publish": True})
         with contextlib.suppress(OSError), rig.connected(self.http) as asked:
             asked.sendall(f"POST /v1/edit HTTP/1.1\r\nHost: x\r\nContent-Type: application/json\r\n"
                           f"Content-Length: {len(body)}\r\n\r\n{body}".encode())
+            if waits:
+                asked.recv(1)
 
 
 if __name__ == "__main__":

@@ -1,6 +1,7 @@
 """Copies of a store: backups and what is made of them, what is left of those that are killed, and read-only mounts."""
 
 import os
+import shutil
 import signal
 import subprocess
 import threading
@@ -63,15 +64,26 @@ class Copies(rig.Case):
                 assert asked.ask(f"addo /e{at} O:BAG:SYD:") == "ok"
 
     def begun(self, *words: object) -> "subprocess.Popen[bytes]":
-        """A command that has begun to make a copy beside the store."""
+        """A command that has begun to make a copy beside the store, or has made it already."""
         before = set(self.room.glob(".*/*"))
         nothing = subprocess.DEVNULL
         command = subprocess.Popen([*rig.PROGRAM, *map(str, words)], stdout=nothing, stderr=nothing)
         end = time.monotonic() + rig.PATIENCE
-        while set(self.room.glob(".*/*")) == before:
-            self.assertIsNone(command.poll())
+        while set(self.room.glob(".*/*")) == before and command.poll() is None:
             self.assertLess(time.monotonic(), end)
         return command
+
+    def ended_by(self, number: int, name: str, *words: object) -> int:
+        """The status of a command that gets this signal while it makes the copy: if that was there already, it is
+        taken away, and made again."""
+        for _ in range(30):
+            command = self.begun(*words)
+            command.send_signal(number)
+            status, made = command.wait(rig.PATIENCE), self.room / name
+            if not made.exists():
+                return status
+            shutil.rmtree(made) if made.is_dir() else made.unlink()
+        raise AssertionError(f"{words} has always ended before")
 
     def hidden(self) -> list[Path]:
         """What isn't ready."""
@@ -82,13 +94,10 @@ class Copies(rig.Case):
         dump = [f"addo /n{at} O:BAG:SYD:(A;;FR;;;BU)" for at in range(MANY)]
         self.make("\n".join(["open 1 O:BAG:SYD:", *dump, "publish", ""]))
         rig.run("backup", self.store, self.room / "copy")
-        commands = (("backup", self.store, self.room / "a"), ("restore", self.room / "copy", self.room / "b"))
-        for words in commands:
+        for *words, name in (("backup", self.store, "a"), ("restore", self.room / "copy", "b")):
             for number in (signal.SIGTERM, signal.SIGHUP, signal.SIGINT, signal.SIGKILL):
                 with self.subTest(words[0], number=number):
-                    command = self.begun(*words)
-                    command.send_signal(number)
-                    status = command.wait(rig.PATIENCE)
+                    status = self.ended_by(number, name, *words, self.room / name)
                     self.assertEqual(status, -number if number == signal.SIGKILL else 3)
                     self.assertEqual(len(self.hidden()), number == signal.SIGKILL)
                     rig.run("backup", self.store, self.room / "later")

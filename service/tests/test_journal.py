@@ -323,13 +323,16 @@ class Journals(rig.Case):
         with self.connect() as asked:
             accepted, published = self.fill_journal(asked)
             self.assertGreater(published, 20)
-            self.assertEqual((self.get("/readyz")[0], self.metrics()["sdstored_takes_edits"]), (503, 0))
+            long = f"addo /p O:BAG:SYD:{'(A;;FR;;;BU)' * 2000}"
+            # (it is tried again every five seconds, and something short may fit)
+            self.wait_for(lambda: asked.ask(long) == "unavailable journal" and self.get("/readyz")[0] == 503
+                          and self.metrics()["sdstored_takes_edits"] == 0)
             rig.run("backup", self.store, small / "copy", status=3)
             rig.run("restore", self.store / "journal.sqlite", small / "other", status=3)
             self.assertEqual(os.listdir(small), ["store"])
             for _ in range(3):
                 # A publish that isn't on disk is shown to nobody.
-                asked.send(f"p addo /p O:BAG:SYD:{'(A;;FR;;;BU)' * 2000}\np publish\np tell\n".encode())
+                asked.send(f"p {long}\np publish\np tell\n".encode())
                 said = [asked.read().decode() for _ in range(3)]
                 self.assertEqual(said[0], "p unavailable journal\n")
                 if said[1] == f"p published {accepted}\n":

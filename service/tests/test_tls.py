@@ -68,7 +68,7 @@ class Tls(rig.Case):
         self.port, self.http_port = rig.free_port(), rig.free_port()
         self.make()
         self.tls_web = self.listen('{"cn:web" = "edit", "cn:watch" = "watch"}')
-        self.start(more=self.tls_web)
+        self.start("handshake_seconds = 60", more=self.tls_web)
 
     def listen(self, allow: str) -> str:
         """Places for lines and for HTTP, with certificates."""
@@ -86,12 +86,9 @@ class Tls(rig.Case):
 
     def said_to(self, name: str | None) -> bytes:
         """What a client with this certificate is answered before it is disconnected."""
-        try:
-            with self.connected(name) as asked:
-                asked.sendall(b"1 tell\n")
-                return asked.recv(1000)
-        except OSError:
-            return b""
+        with contextlib.suppress(OSError), self.connected(name) as asked:
+            return self.told(asked)
+        return b""
 
     def test_certificates(self) -> None:
         with self.client("web") as client:
@@ -100,9 +97,10 @@ class Tls(rig.Case):
             self.assertTrue(client.check("/a b", rig.USER, "FW", ["BU"]))
         for name in (None, "mail", "two", "foreign"):
             with self.subTest(name):
-                self.assertEqual(self.said_to(name), b"")
                 reason = "no certificate" if name in (None, "foreign") else "not allowed"
-                self.wait_for(lambda: [each.get("reason") for each in self.events()][-1] == reason)
+                before = self.reasons().count(reason)
+                self.assertEqual(self.said_to(name), b"")
+                self.wait_for(lambda: self.reasons().count(reason) > before)
                 with self.client(name, 0.5) as client, self.assertRaises(Unavailable):
                     client.check("/a b", rig.USER, "FW", ["BU"])
         with self.client("watch") as client, self.assertRaises(Rejected):
@@ -111,6 +109,9 @@ class Tls(rig.Case):
             plain.sendall(b"1 tell\n")
             self.assertNotIn(b"told", plain.recv(1000))
         self.assertEqual(self.said("tell"), ["told 1"])
+
+    def reasons(self) -> list[object]:
+        return [each.get("reason") for each in self.events()]
 
     def test_tasks(self) -> None:
         """The client for asyncio shows its certificate too, and gets no answer without one."""
@@ -186,7 +187,7 @@ class Tls(rig.Case):
             began = time.monotonic()
             with self.client("web") as client:
                 self.assertEqual(client.publish(), 0)
-            self.assertLess(time.monotonic() - began, 10)
+            self.assertLess(time.monotonic() - began, 60)
             self.assertLess(self.metrics()["sdstored_connections"], 4)
             self.assertGreater(self.metrics()['sdstored_rejected_total{reason="handshake too slow"}'], 3)
         self.kill()
@@ -195,7 +196,7 @@ class Tls(rig.Case):
             began = time.monotonic()
             with contextlib.suppress(ConnectionError):
                 self.assertEqual(silent.recv(100), b"")
-            self.assertLess(time.monotonic() - began, 5)
+            self.assertLess(time.monotonic() - began, 30)
 
     def test_an_authority_that_is_replaced(self) -> None:
         """Who showed a certificate that it didn't sign is disconnected, and one that is added disconnects nobody; nor
@@ -234,12 +235,20 @@ class Tls(rig.Case):
 
     def test_a_certificate_that_ends(self) -> None:
         """Its client is disconnected then."""
-        self.ours.sign("brief", "/CN=web", seconds=4)
-        with self.connected("brief") as brief:
-            self.assertEqual(self.told(brief), b"1 told 0\n")
+        seconds = 4
+        with contextlib.ExitStack() as stack:
+            while True:
+                self.ours.sign("brief", "/CN=web", seconds)
+                with contextlib.suppress(OSError):
+                    brief = stack.enter_context(self.connected("brief"))
+                    if self.told(brief) == b"1 told 0\n":
+                        break
+                # (a busy machine takes longer than that to sign it and to connect)
+                seconds *= 3
+                self.assertLess(seconds, rig.PATIENCE)
             with contextlib.suppress(ConnectionError):
                 self.assertEqual(brief.recv(100), b"")
-        self.wait_for(lambda: "certificate ended" in [each.get("reason") for each in self.events()])
+        self.wait_for(lambda: "certificate ended" in self.reasons())
 
 
 if __name__ == "__main__":

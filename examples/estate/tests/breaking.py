@@ -5,6 +5,7 @@
 
 import os
 import runpy
+import signal
 import sys
 from pathlib import Path
 from typing import Any
@@ -29,5 +30,7 @@ def broken(*arguments: Any) -> Any:
 
 
 setattr(attributes, call, broken)
+# (a shell has what is in its background ignore it)
+signal.signal(signal.SIGINT, signal.default_int_handler)
 sys.argv = [FOLDER, *words]
 runpy.run_path(FOLDER, run_name="__main__")
