@@ -127,7 +127,8 @@ fault_name status n =
     else if status == 19 then name_or_nothing limits_error_name (limits_fault n)
     else []
 
--- each fault that a call answers has its name at its number: bytes have no authority of 2^48, and memory has its own status
+-- each fault that a call answers has its name at its number. Bytes have no authority of 2^48, and want of memory is a
+-- status
 abbrev pub FaultsHaveNames : Type 0
 FaultsHaveNames =
     ((f : TextFault) → fault_name 4 (text_fault_number f) ≡ text_fault_name f)

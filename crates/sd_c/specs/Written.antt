@@ -69,8 +69,8 @@ Answers Right Holds old new answer =
 abbrev pub IsNotUtf8 : List ℕ → ℕ → Type 0
 IsNotUtf8 text place = ¬ (IsUtf8 text) × IsValidUpTo text place
 
--- a text of the grammar is refused: it isn't UTF-8 from there on, or its fault is there. Memory is wanting only for a text
--- that is valid
+-- a text of the grammar is refused: it isn't UTF-8 from there on, or its fault is there. Memory is wanting only for a
+-- text that is valid
 abbrev pub RefusesText : {A : Type 0} → Grammar A → List ℕ → Refusal → Type 0
 RefusesText grammar text Memory = SpellsOne (λ value. true) grammar text
 RefusesText grammar text (Utf8 place) = IsNotUtf8 text place
