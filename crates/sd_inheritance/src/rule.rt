@@ -183,8 +183,8 @@ fn pass_on(
     }
 }
 
-/// Appends what each entry of the parent's DACL hands on to the child, in order ([MS-DTYP] 2.5.3.4). After an error some
-/// are appended.
+/// Appends what each entry of the parent's DACL hands on to the child, in order ([MS-DTYP] 2.5.3.4). After an error
+/// some are appended.
 pub fn hand_on(
     handed: &mut Vec<Ace>,
     mapping: &GenericMapping,
