@@ -8,7 +8,7 @@ use Rattle.sd_text.specs.Domain.{domain_sid}
 use Rattle.sd_text.specs.Grammar.{Spells}
 use Rattle.sd_text.specs.Sid.{sid_text}
 use Rattle.sd_text.specs.declared.domain.Domain.{Domain as DomainValue}
-use Rattle.sd_tree.specs.Limits.{IsLimits, LimitsValue, standard_limits}
+use Rattle.sd_edit.specs.Limits.{IsLimits, LimitsValue, standard_limits}
 use Rattle.sd_script.specs.Argument.{IsNumber}
 use Rattle.sd_script.specs.declared.manner.Manner.{Manner}
 use Rattle.sd_script.specs.declared.paths.PathSpelling.TheVariants as paths

@@ -1,8 +1,8 @@
 -- Why a tree wasn't opened or changed, and why nothing of a node is written.
 use Rattle.std.proofs.Common.{Option, Some, None, IsSome, option_map, refl}
-use Rattle.sd_tree.specs.Answers.{IsError}
-use Rattle.sd_tree.specs.declared.refusal.EditRefusal.{EditRefusal}
-use Rattle.sd_tree.specs.declared.refusal.TreeError.{TreeError}
+use Rattle.sd_edit.specs.Answers.{IsError}
+use Rattle.sd_edit.specs.declared.refusal.EditRefusal.{EditRefusal}
+use Rattle.sd_edit.specs.declared.refusal.TreeError.{TreeError}
 use Rattle.sd_c.specs.Publishing.{IsTreeReason, tree_reason}
 
 -- an error of a tree, as the reason that it is

@@ -7,11 +7,11 @@ use Rattle.sd_wire.specs.Memory.{TakesMemory}
 use Rattle.sd_wire.specs.Reading.{descriptor_read}
 use Rattle.sd_path.specs.Names.{Names, is_root}
 use Rattle.sd_path.specs.PathText.{path_of}
-use Rattle.sd_tree.specs.Descriptors.{own_dacl}
-use Rattle.sd_tree.specs.declared.edit.Edit.{Edit}
-use Rattle.sd_tree.specs.declared.edit.Edit.TheVariants.{AddContainer, AddObject, SetOwner, SetGroup, SetDacl, Remove}
-use Rattle.sd_tree.specs.declared.edit.Edit.TheVariants.{ProtectKeeping, Move}
-use Rattle.sd_tree.specs.declared.node.NodeDacl.{NodeDacl}
+use Rattle.sd_edit.specs.Descriptors.{own_dacl}
+use Rattle.sd_edit.specs.declared.edit.Edit.{Edit}
+use Rattle.sd_edit.specs.declared.edit.Edit.TheVariants.{AddContainer, AddObject, SetOwner, SetGroup, SetDacl, Remove}
+use Rattle.sd_edit.specs.declared.edit.Edit.TheVariants.{ProtectKeeping, Move}
+use Rattle.sd_edit.specs.declared.node.NodeDacl.{NodeDacl}
 use Rattle.sd_c.specs.Written.{IsNotUtf8}
 use Rattle.sd_c.specs.declared.not_done.PathArgument.{PathArgument}
 use Rattle.sd_c.specs.declared.not_done.PathArgument.TheVariants as arguments

@@ -4,7 +4,7 @@ use Rattle.std.specs.Prelude.{if◌then◌else◌}
 use Rattle.std.specs.Arc.{arc_value}
 use Rattle.sd_acl.specs.Descriptor.{DescriptorValue, descriptor_of}
 use Rattle.sd_check.specs.Token.{TokenValue}
-use Rattle.sd_tree.specs.History.{History, history_of}
+use Rattle.sd_edit.specs.History.{History, history_of}
 use Rattle.sd_versions.specs.Versions.{VersionsValue}
 use Rattle.sd_wire.specs.Reading.{descriptor_read}
 use Rattle.sd_c.specs.declared.answer.CheckAnswer.{CheckAnswer}

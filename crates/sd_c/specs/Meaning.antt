@@ -11,12 +11,12 @@ use Rattle.sd_text.specs.declared.fault.TextFault.TheVariants as texts
 use Rattle.sd_wire.specs.Fault.{wire_fault_name, wire_fault_number}
 use Rattle.sd_wire.specs.declared.fault.WireFault.{WireFault}
 use Rattle.sd_wire.specs.declared.fault.WireFault.TheVariants as wires
-use Rattle.sd_tree.specs.Limits.{limits_error_name, limits_error_number}
-use Rattle.sd_tree.specs.Refusals.{name_of as refusal_name, number_of as refusal_number}
-use Rattle.sd_tree.specs.declared.limits.LimitsError.{LimitsError}
-use Rattle.sd_tree.specs.declared.limits.LimitsError.TheVariants as limits
-use Rattle.sd_tree.specs.declared.refusal.EditRefusal.{EditRefusal}
-use Rattle.sd_tree.specs.declared.refusal.EditRefusal.TheVariants as refusals
+use Rattle.sd_edit.specs.Limits.{limits_error_name, limits_error_number}
+use Rattle.sd_edit.specs.Refusals.{name_of as refusal_name, number_of as refusal_number}
+use Rattle.sd_edit.specs.declared.limits.LimitsError.{LimitsError}
+use Rattle.sd_edit.specs.declared.limits.LimitsError.TheVariants as limits
+use Rattle.sd_edit.specs.declared.refusal.EditRefusal.{EditRefusal}
+use Rattle.sd_edit.specs.declared.refusal.EditRefusal.TheVariants as refusals
 
 -- what a status means; nothing of a number that is no status
 abbrev pub status_text : ℕ → List ℕ

@@ -5,13 +5,13 @@ use Rattle.sd_acl.specs.Descriptor.{DescriptorValue, HaveNamedFlags, IsDescripto
 use Rattle.sd_path.specs.Names.{Names}
 use Rattle.sd_path.specs.PathText.{path_of, text_of}
 use Rattle.sd_wire.specs.Writing.{wire_of}
-use Rattle.sd_tree.specs.Answers.{given_at}
-use Rattle.sd_tree.specs.Descriptors.{own_descriptor_of_row, own_list}
-use Rattle.sd_tree.specs.History.{History}
-use Rattle.sd_tree.specs.Journal.{replay}
+use Rattle.sd_edit.specs.Answers.{given_at}
+use Rattle.sd_edit.specs.Descriptors.{own_descriptor_of_row, own_list}
+use Rattle.sd_edit.specs.History.{History}
+use Rattle.sd_edit.specs.Journal.{replay}
 use Rattle.sd_inheritance.specs.declared.kind.NodeKind.{NodeKind}
 use Rattle.sd_inheritance.specs.declared.kind.NodeKind.TheVariants.{Container, Object}
-use Rattle.sd_tree.specs.declared.node.Row.{Row}
+use Rattle.sd_edit.specs.declared.node.Row.{Row}
 use Rattle.sd_c.specs.declared.handle.Handle.{Handle}
 use Rattle.sd_c.specs.declared.handle.kept.Kept.{Kept}
 use Rattle.sd_c.specs.declared.nodes.NodeAnswer.{NodeAnswer}

@@ -3,10 +3,10 @@ use Rattle.std.specs.Prelude.{ℕ}
 use Rattle.sd_sid.specs.Sid.{sid_error_number}
 use Rattle.sd_wire.specs.Fault.{wire_fault_number}
 use Rattle.sd_path.specs.PathText.{path_error_number}
-use Rattle.sd_tree.specs.Limits.{limits_error_number}
-use Rattle.sd_tree.specs.Refusals.{number_of}
-use Rattle.sd_tree.specs.declared.limits.LimitsError.{LimitsError}
-use Rattle.sd_tree.specs.declared.limits.LimitsError.TheVariants as limits
+use Rattle.sd_edit.specs.Limits.{limits_error_number}
+use Rattle.sd_edit.specs.Refusals.{number_of}
+use Rattle.sd_edit.specs.declared.limits.LimitsError.{LimitsError}
+use Rattle.sd_edit.specs.declared.limits.LimitsError.TheVariants as limits
 use Rattle.sd_c.specs.declared.answer.CheckAnswer.{CheckAnswer}
 use Rattle.sd_c.specs.declared.not_done.PathArgument.{PathArgument}
 use Rattle.sd_c.specs.declared.not_done.PathArgument.TheVariants as arguments

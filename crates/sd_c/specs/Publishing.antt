@@ -1,16 +1,16 @@
 -- The answers of the calls over stores, and the content of the handles afterwards.
 use Rattle.std.specs.Prelude.{◌≡◌, ◌⊎◌, ℕ, List, [], ◌∷◌, ◌++◌, length, Option, Some, None, IsSome, Result, Ok, Err}
 use Rattle.std.specs.Prelude.{IsOk}
-use Rattle.sd_tree.specs.Answers.{IsError}
-use Rattle.sd_tree.specs.History.{History}
-use Rattle.sd_tree.specs.Journal.{refusal, root_refusal}
-use Rattle.sd_tree.specs.Limits.{LimitsValue}
-use Rattle.sd_tree.specs.declared.edit.Edit.{Edit}
-use Rattle.sd_tree.specs.declared.limits.LimitsError.{LimitsError}
-use Rattle.sd_tree.specs.declared.opening.Opening.{Opening}
-use Rattle.sd_tree.specs.declared.refusal.EditRefusal.{EditRefusal}
-use Rattle.sd_tree.specs.declared.refusal.TreeError.{TreeError}
-use Rattle.sd_tree.specs.declared.refusal.TreeError.TheVariants as errors
+use Rattle.sd_edit.specs.Answers.{IsError}
+use Rattle.sd_edit.specs.History.{History}
+use Rattle.sd_edit.specs.Journal.{refusal, root_refusal}
+use Rattle.sd_edit.specs.Limits.{LimitsValue}
+use Rattle.sd_edit.specs.declared.edit.Edit.{Edit}
+use Rattle.sd_edit.specs.declared.limits.LimitsError.{LimitsError}
+use Rattle.sd_edit.specs.declared.opening.Opening.{Opening}
+use Rattle.sd_edit.specs.declared.refusal.EditRefusal.{EditRefusal}
+use Rattle.sd_edit.specs.declared.refusal.TreeError.{TreeError}
+use Rattle.sd_edit.specs.declared.refusal.TreeError.TheVariants as errors
 use Rattle.sd_versions.specs.Versions.{VersionsValue, accepted}
 use Rattle.sd_c.specs.declared.answer.CheckAnswer.{CheckAnswer}
 use Rattle.sd_c.specs.declared.answer.Written.{Written}

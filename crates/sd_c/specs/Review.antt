@@ -6,8 +6,8 @@ use Rattle.sd_sid.specs.Mapping.{MappingValue}
 use Rattle.sd_acl.specs.Descriptor.{DescriptorValue}
 use Rattle.sd_path.specs.Names.{Names}
 use Rattle.sd_path.specs.PathText.{text_of}
-use Rattle.sd_tree.specs.Answers.{descriptor_at, kind_at}
-use Rattle.sd_tree.specs.declared.node.Row.{Row}
+use Rattle.sd_edit.specs.Answers.{descriptor_at, kind_at}
+use Rattle.sd_edit.specs.declared.node.Row.{Row}
 use Rattle.sd_versions.specs.Versions.{VersionsValue}
 use Rattle.sd_analysis.specs.Compare.{AreGains}
 use Rattle.sd_analysis.specs.Sufficient.{Parts}

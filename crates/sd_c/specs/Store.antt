@@ -1,6 +1,6 @@
 -- What contracts see of a store: its opening, the published edits, and those that are pending.
 use Rattle.std.specs.Prelude.{[]}
-use Rattle.sd_tree.specs.History.{History}
+use Rattle.sd_edit.specs.History.{History}
 use Rattle.sd_versions.specs.Versions.{VersionsValue, accepted}
 
 -- all its edits

@@ -5,11 +5,11 @@ use Rattle.sd_path.specs.Names.{Names}
 use Rattle.sd_path.specs.PathText.{path_of}
 use Rattle.sd_acl.specs.Descriptor.{DescriptorValue}
 use Rattle.sd_wire.specs.Writing.{wire_of}
-use Rattle.sd_tree.specs.Answers.{answer, descriptor_at}
-use Rattle.sd_tree.specs.History.{History}
-use Rattle.sd_tree.specs.Journal.{replay}
-use Rattle.sd_tree.specs.declared.tree.CheckReply.{CheckReply}
-use Rattle.sd_tree.specs.declared.tree.CheckReply.TheVariants.{Verdict, NoNode}
+use Rattle.sd_edit.specs.Answers.{answer, descriptor_at}
+use Rattle.sd_edit.specs.History.{History}
+use Rattle.sd_edit.specs.Journal.{replay}
+use Rattle.sd_edit.specs.declared.reply.CheckReply.{CheckReply}
+use Rattle.sd_edit.specs.declared.reply.CheckReply.TheVariants.{Verdict, NoNode}
 use Rattle.sd_versions.specs.Versions.{accepted}
 use Rattle.sd_c.specs.declared.answer.CheckAnswer.{CheckAnswer}
 use Rattle.sd_c.specs.declared.answer.Written.{Written}

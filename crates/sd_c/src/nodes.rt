@@ -1,9 +1,9 @@
 //! The calls that return a view's nodes, by which a server lists and saves its store.
 
 ghost use Rattle.std.specs.Prelude.{◌≡◌, IfErr, IfOk, string_bytes};
-ghost use Rattle.sd_tree.specs.Answers.{given_at};
-ghost use Rattle.sd_tree.specs.History.{history_of};
-ghost use Rattle.sd_tree.specs.Journal.{replay};
+ghost use Rattle.sd_edit.specs.Answers.{given_at};
+ghost use Rattle.sd_edit.specs.History.{history_of};
+ghost use Rattle.sd_edit.specs.Journal.{replay};
 ghost use Rattle.sd_c.specs.Kept.{Stays};
 ghost use Rattle.sd_c.specs.Nodes.{IsNoOwnAt, IsNoPathAt, IsOwnAt, IsOwnIn, IsPathAt, OwnFormsComeBack, TellsNode};
 ghost use Rattle.sd_c.specs.Nodes.{kind_number, no_node_told};

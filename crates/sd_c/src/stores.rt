@@ -1,7 +1,7 @@
 //! The calls over a store, which has one writer.
 
 ghost use Rattle.std.specs.Prelude.{◌≡◌, ◌⊎◌, None, Ok, Some, IfErr, IfOk, IsSome, MatchOption, MatchResult, OnOk};
-ghost use Rattle.sd_tree.specs.Limits.{limits_of, standard_limits};
+ghost use Rattle.sd_edit.specs.Limits.{limits_of, standard_limits};
 ghost use Rattle.sd_c.specs.Kept.{IsSame, Stays, store_in, view_in};
 ghost use Rattle.sd_c.specs.Publishing.{Begins, Edits, IsAllowed, IsBegun, IsEdited, IsNotBegun, IsNotEdited};
 ghost use Rattle.sd_c.specs.Publishing.{IsReverted, IsViewOf, Judges, Publishes, Reverts, tree_reason};

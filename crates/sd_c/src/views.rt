@@ -1,9 +1,9 @@
 //! The calls over views: trees as they were published, which threads share.
 
 ghost use Rattle.std.specs.Prelude.{◌≡◌, IfErr, IfOk};
-ghost use Rattle.sd_tree.specs.Answers.{descriptor_at};
-ghost use Rattle.sd_tree.specs.History.{history_of};
-ghost use Rattle.sd_tree.specs.Journal.{replay};
+ghost use Rattle.sd_edit.specs.Answers.{descriptor_at};
+ghost use Rattle.sd_edit.specs.History.{history_of};
+ghost use Rattle.sd_edit.specs.Journal.{replay};
 ghost use Rattle.sd_c.specs.Kept.{Stays};
 ghost use Rattle.sd_c.specs.Views.{Asks, IsAnswered, IsFormAt, IsFormIn, IsNoFormAt, IsNotAsked, IsNotFound};
 ghost use Rattle.sd_c.specs.Views.{TellsLength, WritesNode, length_in, not_told, reply_given, unasked, view_answer};

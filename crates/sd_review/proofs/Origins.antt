@@ -4,7 +4,7 @@ use Rattle.std.specs.Prelude.{option_and_then, slice_get}
 use Rattle.std.proofs.Math.Seq.{take-length}
 use Rattle.std.proofs.lemmas.List.{get_or-drop, length-drop}
 use Rattle.sd_path.specs.Names.{Names}
-use Rattle.sd_tree.specs.declared.edit.Edit.{Edit}
+use Rattle.sd_edit.specs.declared.edit.Edit.{Edit}
 use Rattle.sd_review.specs.Origin.{origin, place_before}
 
 and_then_some : (x : Option Names) → option_and_then (origin []) x ≡ x

@@ -3,7 +3,7 @@ use Rattle.std.specs.Prelude.{◌≡◌, [], Option, Some, None}
 use Rattle.sd_sid.specs.Mapping.{MappingValue}
 use Rattle.sd_acl.specs.Descriptor.{DescriptorValue, descriptor_of}
 use Rattle.sd_path.specs.Names.{Names}
-use Rattle.sd_tree.specs.Answers.{descriptor_at}
+use Rattle.sd_edit.specs.Answers.{descriptor_at}
 use Rattle.sd_analysis.specs.Compare.{AreGains}
 use Rattle.sd_analysis.specs.Sufficient.{Parts}
 use Rattle.sd_answer.specs.Parts.{parts_in}

@@ -2,8 +2,8 @@
 use Rattle.std.specs.Prelude.{ℕ, nat_le, List, [], ◌∷◌, length, if◌then◌else◌, Option, Some, None, option_and_then}
 use Rattle.std.specs.Ordering.{eq_by_cmp}
 use Rattle.sd_path.specs.Names.{Names, is_within, moved_path, names_cmp}
-use Rattle.sd_tree.specs.declared.edit.Edit.{Edit}
-use Rattle.sd_tree.specs.declared.edit.Edit.TheVariants.{AddContainer, AddObject, Move}
+use Rattle.sd_edit.specs.declared.edit.Edit.{Edit}
+use Rattle.sd_edit.specs.declared.edit.Edit.TheVariants.{AddContainer, AddObject, Move}
 
 -- at most 128 names are a path
 abbrev pub path_or_none : Names → Option Names

@@ -2,11 +2,11 @@
 use Rattle.std.specs.Prelude.{ℕ, Bool, ◌||◌, List, ◌++◌, length, drop, if◌then◌else◌, Option, Some, None, is_some}
 use Rattle.sd_sid.specs.Mapping.{MappingValue}
 use Rattle.sd_path.specs.Names.{Names}
-use Rattle.sd_tree.specs.Answers.{kind_at}
-use Rattle.sd_tree.specs.Journal.{replay}
-use Rattle.sd_tree.specs.Plain.{PlainTree}
-use Rattle.sd_tree.specs.declared.edit.Edit.{Edit}
-use Rattle.sd_tree.specs.declared.opening.Opening.{Opening}
+use Rattle.sd_edit.specs.Answers.{kind_at}
+use Rattle.sd_edit.specs.Journal.{replay}
+use Rattle.sd_edit.specs.Plain.{PlainTree}
+use Rattle.sd_edit.specs.declared.edit.Edit.{Edit}
+use Rattle.sd_edit.specs.declared.opening.Opening.{Opening}
 use Rattle.sd_review.specs.Origin.{origin}
 use Rattle.sd_review.specs.declared.review.Former.{Former}
 use Rattle.sd_review.specs.declared.review.Former.TheVariants.{Same, Moved, New}

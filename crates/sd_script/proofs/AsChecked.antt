@@ -4,14 +4,14 @@ use Rattle.std.specs.Prelude.{codes, option_map, get_or}
 use Rattle.sd_sid.specs.Mapping.{MappingValue}
 use Rattle.sd_acl.specs.declared.ace.Ace.{Ace}
 use Rattle.sd_check.specs.Token.{TokenValue}
-use Rattle.sd_tree.specs.Answers.{reply_for, answer}
-use Rattle.sd_tree.specs.Descriptors.{descriptor_of_row}
-use Rattle.sd_tree.specs.Journal.{replay}
-use Rattle.sd_tree.specs.Names.{Names}
-use Rattle.sd_tree.specs.Plain.{dacl_at, row_at}
-use Rattle.sd_tree.specs.declared.node.Row.{Row}
-use Rattle.sd_versions.specs.Machine.{Machine}
-use Rattle.sd_versions.specs.declared.request.Request.TheVariants as requests
+use Rattle.sd_edit.specs.Answers.{reply_for, answer}
+use Rattle.sd_edit.specs.Descriptors.{descriptor_of_row}
+use Rattle.sd_edit.specs.Journal.{replay}
+use Rattle.sd_path.specs.Names.{Names}
+use Rattle.sd_edit.specs.Plain.{dacl_at, row_at}
+use Rattle.sd_edit.specs.declared.node.Row.{Row}
+use Rattle.sd_edit.specs.Machine.{Machine}
+use Rattle.sd_edit.specs.declared.request.Request.TheVariants as requests
 use Rattle.sd_answer.specs.Answer.{line, spelled}
 use Rattle.sd_script.specs.Laws.{BeginsAsCheck, DeletesAsChecked, IsGranted, by_node_line}
 use Rattle.sd_script.specs.Question.{outcome_of}
@@ -24,8 +24,8 @@ use Rattle.sd_script.proofs.OneOutput.{by_reader, one_step, outcome}
 use Rattle.std.specs.Fmt.{decimal}
 use Rattle.std.proofs.lemmas.List.{append_cancel_left}
 use Rattle.sd_check.specs.declared.verdict.Verdict.TheVariants.{Granted}
-use Rattle.sd_tree.specs.declared.tree.CheckReply.{CheckReply}
-use Rattle.sd_tree.specs.declared.tree.CheckReply.TheVariants.{Verdict}
+use Rattle.sd_edit.specs.declared.reply.CheckReply.{CheckReply}
+use Rattle.sd_edit.specs.declared.reply.CheckReply.TheVariants.{Verdict}
 use Rattle.sd_script.specs.Deletion.{delete_right, deletion_line, parent_grants}
 
 -- ---- the answer to `why` begins with that to `check`

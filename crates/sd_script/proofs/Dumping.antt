@@ -13,13 +13,13 @@ use Rattle.std.proofs.lemmas.List.Splits.{join_with_byte-slice_split}
 use Rattle.std.proofs.lemmas.Bool.{false≢true, lt-ltb}
 use Rattle.std.proofs.lemmas.Bool.Decides.{nat_tests}
 use Rattle.std.proofs.lemmas.Option.{get_or_from_slice_get, slice_get_cases, slice_get_within}
-use Rattle.sd_tree.specs.Names.{Names, names_cmp}
-use Rattle.sd_tree.specs.Plain.{PlainTree, row_at}
-use Rattle.sd_tree.specs.declared.node.Row.{Row}
-use Rattle.sd_tree.proofs.Moved.{entry_there}
-use Rattle.sd_tree.proofs.Rows.{one_path, path_itself}
+use Rattle.sd_path.specs.Names.{Names, names_cmp}
+use Rattle.sd_edit.specs.Plain.{PlainTree, row_at}
+use Rattle.sd_edit.specs.declared.node.Row.{Row}
+use Rattle.sd_edit.proofs.Moved.{entry_there}
+use Rattle.sd_edit.proofs.Rows.{one_path, path_itself}
 use Rattle.sd_script.specs.Dump.{making, makings, wanted, IsAskedBy, AreAskedBy}
-use Rattle.sd_versions.specs.declared.request.Request.TheVariants.{Publish}
+use Rattle.sd_edit.specs.declared.request.Request.TheVariants.{Publish}
 use Rattle.sd_script.specs.declared.asked.Asked.{Asked}
 use Rattle.sd_script.specs.declared.asked.Asked.TheVariants.{Asking}
 use Rattle.sd_script.specs.declared.manner.Notation.{Notation}

@@ -8,20 +8,20 @@ use Rattle.std.proofs.lemmas.Bool.{cases_Bool}
 use Rattle.std.proofs.lemmas.Bool.Decides.{nat_tests}
 use Rattle.std.proofs.lemmas.List.Elements.{All-head, All-tail}
 use Rattle.sd_acl.specs.declared.ace.Ace.{Ace}
-use Rattle.sd_tree.specs.Answers.{answer, descriptor_at}
-use Rattle.sd_tree.specs.Journal.{replay}
-use Rattle.sd_tree.specs.Names.{Names}
-use Rattle.sd_tree.specs.declared.edit.Edit.{Edit}
-use Rattle.sd_tree.specs.declared.opening.RootSpec.{RootSpec}
-use Rattle.sd_tree.specs.declared.refusal.EditRefusal.{EditRefusal}
-use Rattle.sd_versions.specs.Machine.{Machine, Steps, accepted, due, floor_of, with_edit, with_publish, with_floor, with_look}
-use Rattle.sd_versions.specs.Versions.{longer}
-use Rattle.sd_versions.specs.Starts.{IsReaderCount, IsStartError}
-use Rattle.sd_versions.specs.declared.request.Reply.{Reply}
-use Rattle.sd_versions.specs.declared.request.Reply.TheVariants as replies
-use Rattle.sd_versions.specs.declared.request.Request.{Request}
-use Rattle.sd_versions.specs.declared.request.Request.TheVariants as requests
-use Rattle.sd_versions.specs.declared.start.StartError.{StartError}
+use Rattle.sd_edit.specs.Answers.{answer, descriptor_at}
+use Rattle.sd_edit.specs.Journal.{replay}
+use Rattle.sd_path.specs.Names.{Names}
+use Rattle.sd_edit.specs.declared.edit.Edit.{Edit}
+use Rattle.sd_edit.specs.declared.opening.RootSpec.{RootSpec}
+use Rattle.sd_edit.specs.declared.refusal.EditRefusal.{EditRefusal}
+use Rattle.sd_edit.specs.Machine.{Machine, Steps, accepted, due, floor_of, with_edit, with_publish, with_floor, with_look}
+use Rattle.sd_edit.specs.Machine.{longer}
+use Rattle.sd_edit.specs.Starts.{IsReaderCount, IsStartError}
+use Rattle.sd_edit.specs.declared.request.Reply.{Reply}
+use Rattle.sd_edit.specs.declared.request.Reply.TheVariants as replies
+use Rattle.sd_edit.specs.declared.request.Request.{Request}
+use Rattle.sd_edit.specs.declared.request.Request.TheVariants as requests
+use Rattle.sd_edit.specs.declared.start.StartError.{StartError}
 use Rattle.sd_answer.specs.Answer.{line}
 use Rattle.sd_script.specs.Expect.{expect_line, expects, is_met, last_after}
 use Rattle.sd_script.specs.Fault.{line_of_fault}

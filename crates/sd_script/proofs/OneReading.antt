@@ -14,7 +14,7 @@ use Rattle.sd_answer.specs.Mask.{IsMaskIn, between_pluses}
 use Rattle.sd_answer.specs.Word.{AreGroups, IsToken}
 use Rattle.sd_answer.specs.declared.answer.Spelling.{Spelling}
 use Rattle.sd_answer.specs.declared.answer.Spelling.TheVariants as spellings
-use Rattle.sd_tree.specs.Names.{Names}
+use Rattle.sd_path.specs.Names.{Names}
 use Rattle.sd_script.specs.Argument.{IsNumber, descriptor, node_of, dacl_of, import_of}
 use Rattle.sd_script.specs.Command.{Argument, Number, Path, Sid, Mask, Token, Groups, Node, Dacl, Imported, reading, Arguments, Asks, ◌▸◌}
 use Rattle.sd_script.specs.Command.{asks, asks_where, command_of, is_untimely, line_asks, reads, reads_where}

@@ -15,14 +15,14 @@ use Rattle.sd_check.specs.Check.{is_granted, judged, most, verdict}
 use Rattle.sd_check.specs.Token.{TokenValue}
 use Rattle.sd_check.specs.declared.verdict.Verdict.{Verdict as CheckVerdict}
 use Rattle.sd_check.proofs.LawProofs.{one_test}
-use Rattle.sd_tree.specs.Answers.{kind_at, reply_in}
-use Rattle.sd_tree.specs.Descriptors.{descriptor_of_row}
-use Rattle.sd_tree.specs.Names.{Names, is_within, names_cmp}
-use Rattle.sd_tree.specs.Plain.{dacl_at, row_at}
-use Rattle.sd_tree.specs.declared.node.Row.{Row}
-use Rattle.sd_tree.specs.declared.tree.CheckReply.TheVariants.{Verdict}
-use Rattle.sd_tree.proofs.Rows.{one_path}
-use Rattle.sd_versions.specs.Machine.{accepted}
+use Rattle.sd_edit.specs.Answers.{kind_at, reply_in}
+use Rattle.sd_edit.specs.Descriptors.{descriptor_of_row}
+use Rattle.sd_path.specs.Names.{Names, is_within, names_cmp}
+use Rattle.sd_edit.specs.Plain.{dacl_at, row_at}
+use Rattle.sd_edit.specs.declared.node.Row.{Row}
+use Rattle.sd_edit.specs.declared.reply.CheckReply.TheVariants.{Verdict}
+use Rattle.sd_edit.proofs.Rows.{one_path}
+use Rattle.sd_edit.specs.Machine.{accepted}
 use Rattle.sd_analysis.specs.Base.{HasBase}
 use Rattle.sd_analysis.specs.Compare.{AreGains}
 use Rattle.sd_analysis.specs.Sufficient.{Parts}

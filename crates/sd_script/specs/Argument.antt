@@ -11,11 +11,11 @@ use Rattle.sd_text.specs.Grammar.{Spells}
 use Rattle.sd_text.specs.Sid.{sid_text_in}
 use Rattle.sd_text.specs.declared.fault.TextFault.{TextFault}
 use Rattle.sd_check.specs.Token.{TokenValue}
-use Rattle.sd_tree.specs.Descriptors.{own_dacl}
-use Rattle.sd_tree.specs.Names.{Names}
-use Rattle.sd_tree.specs.declared.node.NodeDacl.{NodeDacl}
-use Rattle.sd_tree.specs.declared.node.NodeDacl.TheVariants.{List as Entries}
-use Rattle.sd_tree.specs.declared.opening.RootSpec.{RootSpec}
+use Rattle.sd_edit.specs.Descriptors.{own_dacl}
+use Rattle.sd_path.specs.Names.{Names}
+use Rattle.sd_edit.specs.declared.node.NodeDacl.{NodeDacl}
+use Rattle.sd_edit.specs.declared.node.NodeDacl.TheVariants.{List as Entries}
+use Rattle.sd_edit.specs.declared.opening.RootSpec.{RootSpec}
 use Rattle.sd_script.specs.Fault.{Reading, SomeOr, Then}
 use Rattle.sd_script.specs.Paths.{IsPath}
 use Rattle.sd_check.specs.declared.token.GroupState.{GroupState}

@@ -6,16 +6,16 @@ use Rattle.std.specs.Str.{IsUtf8}
 use Rattle.sd_sid.specs.Sid.{SidValue}
 use Rattle.sd_check.specs.Token.{TokenValue}
 use Rattle.sd_check.specs.declared.token.GroupState.{GroupState}
-use Rattle.sd_tree.specs.Additions.{addition_of, row_of}
-use Rattle.sd_tree.specs.Names.{Names}
-use Rattle.sd_tree.specs.declared.edit.Edit.{Edit}
-use Rattle.sd_tree.specs.declared.edit.Edit.TheVariants as edits
-use Rattle.sd_tree.specs.declared.node.NodeDacl.{NodeDacl}
+use Rattle.sd_edit.specs.Additions.{addition_of, row_of}
+use Rattle.sd_path.specs.Names.{Names}
+use Rattle.sd_edit.specs.declared.edit.Edit.{Edit}
+use Rattle.sd_edit.specs.declared.edit.Edit.TheVariants as edits
+use Rattle.sd_edit.specs.declared.node.NodeDacl.{NodeDacl}
 use Rattle.sd_inheritance.specs.declared.kind.NodeKind.{NodeKind}
 use Rattle.sd_inheritance.specs.declared.kind.NodeKind.TheVariants.{Container, Object}
-use Rattle.sd_tree.specs.declared.opening.RootSpec.{RootSpec}
-use Rattle.sd_versions.specs.declared.request.Request.{Request}
-use Rattle.sd_versions.specs.declared.request.Request.TheVariants as requests
+use Rattle.sd_edit.specs.declared.opening.RootSpec.{RootSpec}
+use Rattle.sd_edit.specs.declared.request.Request.{Request}
+use Rattle.sd_edit.specs.declared.request.Request.TheVariants as requests
 use Rattle.sd_script.specs.Argument.{number, path, sid, mask, token, base, node, dacl, imported}
 use Rattle.sd_script.specs.Fault.{Reading, Just, Then, UnlessMemory}
 use Rattle.sd_script.specs.Lines.{words_of}

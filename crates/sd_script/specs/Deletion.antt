@@ -3,12 +3,12 @@
 use Rattle.std.specs.Prelude.{ℕ, Bool, false, ◌||◌, nat_lt, List, length, Option, Some, None, if◌then◌else◌, codes}
 use Rattle.std.specs.Option.{option_map_or}
 use Rattle.sd_check.specs.Token.{TokenValue}
-use Rattle.sd_tree.specs.Answers.{answer}
-use Rattle.sd_tree.specs.Names.{Names, is_root, up}
-use Rattle.sd_tree.specs.declared.edit.Edit.{Edit}
-use Rattle.sd_tree.specs.declared.opening.Opening.{Opening}
-use Rattle.sd_tree.specs.declared.tree.CheckReply.{CheckReply}
-use Rattle.sd_tree.specs.declared.tree.CheckReply.TheVariants.{Verdict, NoNode}
+use Rattle.sd_edit.specs.Answers.{answer}
+use Rattle.sd_path.specs.Names.{Names, is_root, up}
+use Rattle.sd_edit.specs.declared.edit.Edit.{Edit}
+use Rattle.sd_edit.specs.declared.opening.Opening.{Opening}
+use Rattle.sd_edit.specs.declared.reply.CheckReply.{CheckReply}
+use Rattle.sd_edit.specs.declared.reply.CheckReply.TheVariants.{Verdict, NoNode}
 use Rattle.sd_answer.specs.Answer.{line}
 use Rattle.sd_script.specs.Listing.{grants}
 

@@ -6,16 +6,16 @@ use Rattle.std.specs.List.{flat_map}
 use Rattle.std.specs.Fmt.{decimal}
 use Rattle.std.specs.FinMap.{entries}
 use Rattle.std.specs.Str.Lines.{lines}
-use Rattle.sd_tree.specs.Additions.{addition_of, root_of}
-use Rattle.sd_tree.specs.Names.{Names, is_root}
-use Rattle.sd_tree.specs.Plain.{PlainTree}
-use Rattle.sd_tree.specs.Descriptors.{own_descriptor_of_row}
-use Rattle.sd_tree.specs.Journal.{replay}
+use Rattle.sd_edit.specs.Additions.{addition_of, root_of}
+use Rattle.sd_path.specs.Names.{Names, is_root}
+use Rattle.sd_edit.specs.Plain.{PlainTree}
+use Rattle.sd_edit.specs.Descriptors.{own_descriptor_of_row}
+use Rattle.sd_edit.specs.Journal.{replay}
 use Rattle.sd_inheritance.specs.declared.kind.NodeKind.{NodeKind}
 use Rattle.sd_inheritance.specs.declared.kind.NodeKind.TheVariants.{Container, Object}
-use Rattle.sd_tree.specs.declared.node.Row.{Row}
-use Rattle.sd_versions.specs.Machine.{Machine}
-use Rattle.sd_versions.specs.declared.request.Request.TheVariants as requests
+use Rattle.sd_edit.specs.declared.node.Row.{Row}
+use Rattle.sd_edit.specs.Machine.{Machine}
+use Rattle.sd_edit.specs.declared.request.Request.TheVariants as requests
 use Rattle.sd_answer.specs.Answer.{line, fault_line}
 use Rattle.sd_script.specs.Command.{line_asks}
 use Rattle.sd_script.specs.Lines.{is_silent}

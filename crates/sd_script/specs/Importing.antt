@@ -6,12 +6,12 @@ use Rattle.std.specs.Option.{option_map_or}
 use Rattle.sd_acl.specs.Canonical.{is_explicit, is_inherited}
 use Rattle.sd_acl.specs.Descriptor.{DescriptorValue}
 use Rattle.sd_acl.specs.declared.ace.Ace.{Ace}
-use Rattle.sd_tree.specs.Answers.{descriptor_at}
-use Rattle.sd_tree.specs.Names.{Names}
-use Rattle.sd_tree.specs.Journal.{replay}
-use Rattle.sd_versions.specs.Machine.{Machine, accepted}
-use Rattle.sd_versions.specs.declared.request.Reply.{Reply}
-use Rattle.sd_versions.specs.declared.request.Reply.TheVariants.{Edited}
+use Rattle.sd_edit.specs.Answers.{descriptor_at}
+use Rattle.sd_path.specs.Names.{Names}
+use Rattle.sd_edit.specs.Journal.{replay}
+use Rattle.sd_edit.specs.Machine.{Machine, accepted}
+use Rattle.sd_edit.specs.declared.request.Reply.{Reply}
+use Rattle.sd_edit.specs.declared.request.Reply.TheVariants.{Edited}
 use Rattle.sd_answer.specs.Answer.{line}
 use Rattle.sd_answer.specs.declared.answer.Spelling.{Spelling}
 use Rattle.sd_script.specs.Argument.{entries_in}

@@ -4,12 +4,12 @@ use Rattle.std.specs.List.{All}
 use Rattle.std.specs.Str.Lines.{lines}
 use Rattle.sd_sid.specs.Mask.{holds}
 use Rattle.sd_check.specs.Token.{TokenValue}
-use Rattle.sd_tree.specs.Answers.{answer, reply_in}
-use Rattle.sd_tree.specs.Names.{Names, is_within}
-use Rattle.sd_tree.specs.Plain.{row_at}
-use Rattle.sd_tree.specs.declared.node.Row.{Row}
-use Rattle.sd_versions.specs.Machine.{Machine, accepted}
-use Rattle.sd_versions.specs.declared.request.Request.TheVariants.{Check}
+use Rattle.sd_edit.specs.Answers.{answer, reply_in}
+use Rattle.sd_path.specs.Names.{Names, is_within}
+use Rattle.sd_edit.specs.Plain.{row_at}
+use Rattle.sd_edit.specs.declared.node.Row.{Row}
+use Rattle.sd_edit.specs.Machine.{Machine, accepted}
+use Rattle.sd_edit.specs.declared.request.Request.TheVariants.{Check}
 use Rattle.sd_answer.specs.Answer.{line, spelled}
 use Rattle.sd_answer.specs.declared.answer.Spelling.{Spelling}
 use Rattle.sd_script.specs.Command.{line_asks}

@@ -6,18 +6,18 @@ use Rattle.std.specs.List.{flat_map, list_any}
 use Rattle.std.specs.FinMap.{entries}
 use Rattle.sd_sid.specs.Mapping.{MappingValue}
 use Rattle.sd_acl.specs.Descriptor.{DescriptorValue}
-use Rattle.sd_tree.specs.Names.{Names, is_within}
-use Rattle.sd_tree.specs.Plain.{PlainTree}
+use Rattle.sd_path.specs.Names.{Names, is_within}
+use Rattle.sd_edit.specs.Plain.{PlainTree}
 use Rattle.sd_check.specs.declared.verdict.Verdict.TheVariants.{Granted}
-use Rattle.sd_tree.specs.Answers.{descriptor_at, kind_at, reply_in}
-use Rattle.sd_tree.specs.Journal.{replay}
-use Rattle.sd_tree.specs.declared.edit.Edit.{Edit}
+use Rattle.sd_edit.specs.Answers.{descriptor_at, kind_at, reply_in}
+use Rattle.sd_edit.specs.Journal.{replay}
+use Rattle.sd_edit.specs.declared.edit.Edit.{Edit}
 use Rattle.sd_inheritance.specs.declared.kind.NodeKind.{NodeKind}
 use Rattle.sd_inheritance.specs.declared.kind.NodeKind.TheVariants.{Container, Object}
-use Rattle.sd_tree.specs.declared.node.Row.{Row}
-use Rattle.sd_tree.specs.declared.opening.Opening.{Opening}
-use Rattle.sd_tree.specs.declared.tree.CheckReply.{CheckReply}
-use Rattle.sd_tree.specs.declared.tree.CheckReply.TheVariants.{Verdict}
+use Rattle.sd_edit.specs.declared.node.Row.{Row}
+use Rattle.sd_edit.specs.declared.opening.Opening.{Opening}
+use Rattle.sd_edit.specs.declared.reply.CheckReply.{CheckReply}
+use Rattle.sd_edit.specs.declared.reply.CheckReply.TheVariants.{Verdict}
 use Rattle.sd_answer.specs.Answer.{line, fault_line}
 use Rattle.sd_script.specs.Paths.{is_split, path_word}
 use Rattle.sd_script.specs.Reply.{shown_sddl}

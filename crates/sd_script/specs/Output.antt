@@ -2,14 +2,14 @@
 use Rattle.std.specs.Prelude.{◌≡◌, ◌⊎◌, ℕ, Bool, true, false, List, [], ◌∷◌, ◌++◌, Option, Some, None, Ok, Err}
 use Rattle.std.specs.Prelude.{MatchBool, if◌then◌else◌, codes}
 use Rattle.std.specs.Str.Lines.{lines}
-use Rattle.sd_tree.specs.Journal.{opening_within, root_refusal}
-use Rattle.sd_tree.specs.declared.opening.Opening.{Opening}
-use Rattle.sd_tree.specs.declared.opening.RootSpec.{RootSpec}
-use Rattle.sd_versions.specs.Machine.{Machine, Steps, started}
-use Rattle.sd_versions.specs.Starts.{IsReaderCount, IsStartError}
-use Rattle.sd_versions.specs.declared.request.Reply.{Reply}
-use Rattle.sd_versions.specs.declared.request.Request.TheVariants.{Edit}
-use Rattle.sd_versions.specs.declared.start.StartError.{StartError}
+use Rattle.sd_edit.specs.Journal.{opening_within, root_refusal}
+use Rattle.sd_edit.specs.declared.opening.Opening.{Opening}
+use Rattle.sd_edit.specs.declared.opening.RootSpec.{RootSpec}
+use Rattle.sd_edit.specs.Machine.{Machine, Steps, started}
+use Rattle.sd_edit.specs.Starts.{IsReaderCount, IsStartError}
+use Rattle.sd_edit.specs.declared.request.Reply.{Reply}
+use Rattle.sd_edit.specs.declared.request.Request.TheVariants.{Edit}
+use Rattle.sd_edit.specs.declared.start.StartError.{StartError}
 use Rattle.sd_lines.specs.Answers.{AreAnswered}
 use Rattle.sd_script.specs.Command.{line_asks}
 use Rattle.sd_script.specs.Expect.{expect_line, expects, is_met, last_after}

@@ -4,8 +4,8 @@ use Rattle.std.specs.List.{list_any}
 use Rattle.std.specs.Str.{IsUtf8}
 use Rattle.std.specs.Str.Iter.{HasSubslice}
 use Rattle.percent_encoding.specs.Percent.{percent_decode, percent_encode}
-use Rattle.sd_tree.specs.Names.{Names}
-use Rattle.sd_tree.specs.PathText.{path_of, text_of}
+use Rattle.sd_path.specs.Names.{Names}
+use Rattle.sd_path.specs.PathText.{path_of, text_of}
 use Rattle.sd_script.specs.declared.paths.PathSpelling.{PathSpelling}
 use Rattle.sd_script.specs.declared.paths.PathSpelling.TheVariants.{Plain, Percent}
 use Rattle.sd_script.specs.declared.paths.TheConstants.{SPELLED}

@@ -1,9 +1,9 @@
 -- What a reader asks about the node of a path, and what it is told: by the published tree, at one moment.
 use Rattle.std.specs.Prelude.{◌≡◌, ℕ, nat_lt, List, [], length, if◌then◌else◌, codes}
-use Rattle.sd_tree.specs.Answers.{answer, descriptor_at}
-use Rattle.sd_tree.specs.Names.{Names}
-use Rattle.sd_tree.specs.Journal.{replay}
-use Rattle.sd_versions.specs.Machine.{Machine, with_look}
+use Rattle.sd_edit.specs.Answers.{answer, descriptor_at}
+use Rattle.sd_path.specs.Names.{Names}
+use Rattle.sd_edit.specs.Journal.{replay}
+use Rattle.sd_edit.specs.Machine.{Machine, with_look}
 use Rattle.sd_answer.specs.Answer.{line}
 use Rattle.sd_script.specs.Deletion.{delete_right, deletion_line, parent_grants}
 use Rattle.sd_script.specs.Listing.{nodes_text}

@@ -5,15 +5,15 @@ use Rattle.sd_acl.specs.Descriptor.{DescriptorValue, descriptor_of}
 use Rattle.sd_check.specs.Token.{TokenValue}
 use Rattle.sd_sid.specs.Mapping.{MappingValue}
 use Rattle.sd_text.specs.Canon.{canon_in}
-use Rattle.sd_tree.specs.Refusals.{number_of, name_of}
-use Rattle.sd_tree.specs.declared.refusal.EditRefusal.{EditRefusal}
-use Rattle.sd_tree.specs.declared.tree.CheckReply.{CheckReply}
-use Rattle.sd_tree.specs.declared.tree.CheckReply.TheVariants as checks
-use Rattle.sd_versions.specs.declared.request.Reply.{Reply}
-use Rattle.sd_versions.specs.declared.request.Reply.TheVariants.{Edited, Refused, Published, Told, Learned, Answered}
-use Rattle.sd_versions.specs.declared.request.Reply.TheVariants.{Shown, NoReader, NoNotice, Memory}
-use Rattle.sd_versions.specs.declared.start.StartError.{StartError}
-use Rattle.sd_versions.specs.declared.start.StartError.TheVariants as starts
+use Rattle.sd_edit.specs.Refusals.{number_of, name_of}
+use Rattle.sd_edit.specs.declared.refusal.EditRefusal.{EditRefusal}
+use Rattle.sd_edit.specs.declared.reply.CheckReply.{CheckReply}
+use Rattle.sd_edit.specs.declared.reply.CheckReply.TheVariants as checks
+use Rattle.sd_edit.specs.declared.request.Reply.{Reply}
+use Rattle.sd_edit.specs.declared.request.Reply.TheVariants.{Edited, Refused, Published, Told, Learned, Answered}
+use Rattle.sd_edit.specs.declared.request.Reply.TheVariants.{Shown, NoReader, NoNotice, Memory}
+use Rattle.sd_edit.specs.declared.start.StartError.{StartError}
+use Rattle.sd_edit.specs.declared.start.StartError.TheVariants as starts
 use Rattle.sd_answer.specs.Answer.{line, right_names_of, verdict_line}
 use Rattle.sd_answer.specs.Why.{why_text}
 use Rattle.sd_answer.specs.declared.answer.Spelling.{Spelling}

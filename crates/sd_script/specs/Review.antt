@@ -6,10 +6,10 @@ use Rattle.std.specs.FinMap.{entries}
 use Rattle.std.specs.List.{flat_map}
 use Rattle.sd_sid.specs.Mapping.{MappingValue}
 use Rattle.sd_acl.specs.Descriptor.{DescriptorValue}
-use Rattle.sd_tree.specs.Answers.{descriptor_at, kind_at}
-use Rattle.sd_tree.specs.Names.{Names, is_within}
-use Rattle.sd_tree.specs.declared.node.Row.{Row}
-use Rattle.sd_versions.specs.Machine.{Machine, accepted}
+use Rattle.sd_edit.specs.Answers.{descriptor_at, kind_at}
+use Rattle.sd_path.specs.Names.{Names, is_within}
+use Rattle.sd_edit.specs.declared.node.Row.{Row}
+use Rattle.sd_edit.specs.Machine.{Machine, accepted}
 use Rattle.sd_analysis.specs.Compare.{AreGains}
 use Rattle.sd_analysis.specs.declared.compare_report.Change.{Change}
 use Rattle.sd_answer.specs.Parts.{parts_in}

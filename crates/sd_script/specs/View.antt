@@ -1,8 +1,8 @@
 -- What a script sees of the store at once, and no reader asks for.
 use Rattle.std.specs.Prelude.{◌≡◌, List, [], ℕ}
-use Rattle.sd_tree.specs.Answers.{descriptor_at}
-use Rattle.sd_tree.specs.Journal.{replay}
-use Rattle.sd_versions.specs.Machine.{Machine}
+use Rattle.sd_edit.specs.Answers.{descriptor_at}
+use Rattle.sd_edit.specs.Journal.{replay}
+use Rattle.sd_edit.specs.Machine.{Machine}
 use Rattle.sd_script.specs.Dump.{IsDump}
 use Rattle.sd_script.specs.Listing.{nodes_text}
 use Rattle.sd_script.specs.Review.{IsReview}

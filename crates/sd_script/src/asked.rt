@@ -3,7 +3,7 @@ ghost use Rattle.std.specs.Prelude.{◌≡◌, ◌∷◌, [], Some, Ok};
 ghost use Rattle.sd_script.specs.Command.{Parses, adds, asks, asks_groups, asks_taking, deletes, kind_named, posed};
 ghost use Rattle.sd_script.specs.Command.{poses};
 ghost use Rattle.sd_script.specs.declared.asked.Asked.TheVariants.{Asking, Viewing};
-ghost use Rattle.sd_versions.specs.declared.request.Request.TheVariants as requests;
+ghost use Rattle.sd_edit.specs.declared.request.Request.TheVariants as requests;
 ghost use Rattle.sd_answer.specs.Word.{texts};
 
 use crate::argument::{Parser, number_in};

@@ -1,9 +1,9 @@
 //! A published tree as lines of a script.
 ghost use Rattle.std.specs.Prelude.{◌≡◌, IfOk, Some, option_map, string_bytes};
 ghost use Rattle.std.specs.Bool.{Decides};
-ghost use Rattle.sd_tree.specs.Journal.{replay};
+ghost use Rattle.sd_edit.specs.Journal.{replay};
 ghost use Rattle.sd_tree.specs.Listing.{listed};
-ghost use Rattle.sd_tree.specs.Plain.{row_at};
+ghost use Rattle.sd_edit.specs.Plain.{row_at};
 ghost use Rattle.sd_script.specs.Dump.{IsAskedBy, IsDumpOf, IsReadBack, adding_word, making_line, wanted};
 
 use crate::fault::LineStop;

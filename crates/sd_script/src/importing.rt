@@ -5,9 +5,9 @@ ghost use Rattle.sd_script.specs.Argument.{entries_in, imported, imported_dacl};
 ghost use Rattle.sd_script.specs.Command.{Parses, imports};
 ghost use Rattle.sd_script.specs.Fault.{UnlessMemory};
 ghost use Rattle.sd_script.specs.Importing.{IsImported, entries_by, imported_line};
-ghost use Rattle.sd_versions.specs.Machine.{Machine, accepted};
-ghost use Rattle.sd_tree.specs.Answers.{descriptor_at};
-ghost use Rattle.sd_tree.specs.Journal.{replay};
+ghost use Rattle.sd_edit.specs.Machine.{Machine, accepted};
+ghost use Rattle.sd_edit.specs.Answers.{descriptor_at};
+ghost use Rattle.sd_edit.specs.Journal.{replay};
 
 use crate::argument::Parser;
 use crate::asked::{Asked, Parsed};

@@ -2,11 +2,11 @@
 ghost use Rattle.std.specs.Prelude.{◌≡◌, ◌++◌, ℕ, IfOk, List, Ok, OnOk, Some, string_bytes};
 ghost use Rattle.std.specs.FinMap.{entries};
 ghost use Rattle.std.specs.List.{flat_map};
-ghost use Rattle.sd_tree.specs.Journal.{replay};
+ghost use Rattle.sd_edit.specs.Journal.{replay};
 ghost use Rattle.sd_tree.specs.Listing.{listed};
-ghost use Rattle.sd_tree.specs.Names.{Names};
-ghost use Rattle.sd_tree.specs.Plain.{row_at};
-ghost use Rattle.sd_tree.specs.declared.node.Row.{Row};
+ghost use Rattle.sd_path.specs.Names.{Names};
+ghost use Rattle.sd_edit.specs.Plain.{row_at};
+ghost use Rattle.sd_edit.specs.declared.node.Row.{Row};
 ghost use Rattle.sd_script.specs.Listing.{grants, is_split_below, kind_word, lacks_words, line_below};
 ghost use Rattle.sd_script.specs.Listing.{nodes_text};
 

@@ -1,8 +1,8 @@
 //! What a reader asks about the node of a path, beside a check and its descriptor.
 ghost use Rattle.std.specs.Prelude.{◌≡◌, ◌⊎◌, ℕ, List, IfOk, OnErr, option_map, string_bytes};
 ghost use Rattle.sd_acl.specs.Descriptor.{descriptor_of};
-ghost use Rattle.sd_tree.specs.Answers.{descriptor_at};
-ghost use Rattle.sd_tree.specs.Journal.{replay};
+ghost use Rattle.sd_edit.specs.Answers.{descriptor_at};
+ghost use Rattle.sd_edit.specs.Journal.{replay};
 ghost use Rattle.sd_script.specs.Question.{IsSeen, question_text};
 ghost use Rattle.sd_script.specs.declared.session.Session.TheVariants.{Opened};
 

@@ -1,7 +1,7 @@
 //! Whether what a line asks for is what makes a node, or a publish.
 ghost use Rattle.std.specs.Prelude.{◌≡◌, option_map};
 ghost use Rattle.std.specs.Bool.{Decides};
-ghost use Rattle.sd_tree.specs.Additions.{addition_of, root_of};
+ghost use Rattle.sd_edit.specs.Additions.{addition_of, root_of};
 ghost use Rattle.sd_tree.specs.Listing.{listed};
 ghost use Rattle.sd_script.specs.Dump.{making, wanted};
 

@@ -1,7 +1,7 @@
 //! Who is granted which rights by a node of the published tree.
 ghost use Rattle.std.specs.Prelude.{◌≡◌, IfOk, string_bytes};
-ghost use Rattle.sd_tree.specs.Answers.{descriptor_at};
-ghost use Rattle.sd_tree.specs.Journal.{replay};
+ghost use Rattle.sd_edit.specs.Answers.{descriptor_at};
+ghost use Rattle.sd_edit.specs.Journal.{replay};
 ghost use Rattle.sd_script.specs.Who.{IsWhoText, or_empty};
 
 use crate::view::Groups;

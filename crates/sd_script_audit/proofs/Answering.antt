@@ -6,10 +6,10 @@ use Rattle.std.proofs.lemmas.Grind.{flat_map-append}
 use Rattle.std.proofs.lemmas.List.{take_more}
 use Rattle.std.specs.Prelude.{◌%◌}
 use Rattle.std.specs.List.{flat_map}
-use Rattle.sd_tree.specs.declared.edit.Edit.{Edit}
-use Rattle.sd_tree.specs.declared.opening.Opening.{Opening}
-use Rattle.sd_versions.specs.declared.request.Reply.TheVariants.{Answered}
-use Rattle.sd_versions.specs.declared.answer.Answer.{Answer}
+use Rattle.sd_edit.specs.declared.edit.Edit.{Edit}
+use Rattle.sd_edit.specs.declared.opening.Opening.{Opening}
+use Rattle.sd_edit.specs.declared.request.Reply.TheVariants.{Answered}
+use Rattle.sd_edit.specs.declared.reply.Answer.{Answer}
 use Rattle.sd_store.specs.Audits.{AreAnswers, HaveGrown, reply_by}
 use Rattle.sd_store.specs.Sights.{Sight}
 use Rattle.sd_store.specs.declared.query.Query.{Query}

@@ -4,17 +4,17 @@ use Rattle.std.specs.Prelude.{codes}
 use Rattle.std.proofs.lemmas.Bool.{cases_Bool}
 use Rattle.std.specs.Str.Lines.{lines}
 use Rattle.sd_acl.specs.declared.ace.Ace.{Ace}
-use Rattle.sd_tree.specs.Names.{Names}
-use Rattle.sd_tree.specs.declared.edit.Edit.{Edit}
-use Rattle.sd_tree.specs.declared.opening.RootSpec.{RootSpec}
-use Rattle.sd_tree.specs.declared.refusal.EditRefusal.{EditRefusal}
-use Rattle.sd_versions.specs.Machine.{Machine, Steps, started}
-use Rattle.sd_versions.specs.Starts.{IsReaderCount, IsStartError}
-use Rattle.sd_versions.specs.declared.request.Reply.{Reply}
-use Rattle.sd_versions.specs.declared.request.Reply.TheVariants as replies
-use Rattle.sd_versions.specs.declared.request.Request.TheVariants as requests
-use Rattle.sd_versions.specs.declared.start.StartError.{StartError}
-use Rattle.sd_versions.specs.declared.start.StartError.TheVariants as starts
+use Rattle.sd_path.specs.Names.{Names}
+use Rattle.sd_edit.specs.declared.edit.Edit.{Edit}
+use Rattle.sd_edit.specs.declared.opening.RootSpec.{RootSpec}
+use Rattle.sd_edit.specs.declared.refusal.EditRefusal.{EditRefusal}
+use Rattle.sd_edit.specs.Machine.{Machine, Steps, started}
+use Rattle.sd_edit.specs.Starts.{IsReaderCount, IsStartError}
+use Rattle.sd_edit.specs.declared.request.Reply.{Reply}
+use Rattle.sd_edit.specs.declared.request.Reply.TheVariants as replies
+use Rattle.sd_edit.specs.declared.request.Request.TheVariants as requests
+use Rattle.sd_edit.specs.declared.start.StartError.{StartError}
+use Rattle.sd_edit.specs.declared.start.StartError.TheVariants as starts
 use Rattle.sd_store.specs.declared.query.Query.{Query}
 use Rattle.sd_answer.specs.declared.answer.Spelling.{Spelling}
 use Rattle.sd_script.specs.Expect.{expects}

@@ -3,10 +3,10 @@
 use Rattle.std.specs.Prelude.{◌≡◌, ◌⊎◌, ℕ, Bool, false, List, [], ◌∷◌, ◌++◌, length, Ok, Err, MatchBool, codes}
 use Rattle.std.specs.List.{flat_map}
 use Rattle.std.specs.Str.Lines.{lines}
-use Rattle.sd_tree.specs.declared.edit.Edit.{Edit as Edits}
-use Rattle.sd_tree.specs.declared.opening.Opening.{Opening}
-use Rattle.sd_versions.specs.Machine.{accepted}
-use Rattle.sd_versions.specs.declared.request.Request.TheVariants.{Check, Edit, Publish}
+use Rattle.sd_edit.specs.declared.edit.Edit.{Edit as Edits}
+use Rattle.sd_edit.specs.declared.opening.Opening.{Opening}
+use Rattle.sd_edit.specs.Machine.{accepted}
+use Rattle.sd_edit.specs.declared.request.Request.TheVariants.{Check, Edit, Publish}
 use Rattle.sd_store.specs.Audits.{reply_by}
 use Rattle.sd_store.specs.declared.query.Query.{Query}
 use Rattle.sd_answer.specs.Answer.{fault_line}

@@ -1,6 +1,6 @@
 -- What follows from the output of an audit.
 use Rattle.std.specs.Prelude.{◌≡◌, ◌⊎◌, ℕ, List, ◌++◌, codes}
-use Rattle.sd_versions.specs.Starts.{IsReaderCount}
+use Rattle.sd_edit.specs.Starts.{IsReaderCount}
 use Rattle.sd_script.specs.Reply.{counted_line}
 use Rattle.sd_script.specs.declared.manner.Manner.{Manner}
 use Rattle.sd_script_audit.specs.Audit.{PrintsAudit}

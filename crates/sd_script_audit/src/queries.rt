@@ -1,8 +1,8 @@
 //! The lines of an audit after the one that opened its store: their answers, and the queries among them.
 
 ghost use Rattle.std.specs.Prelude.{◌≡◌, ℕ, false, IfOk, IfSome, string_bytes};
-ghost use Rattle.sd_versions.specs.Machine.{Steps};
-ghost use Rattle.sd_versions.specs.declared.request.Request.TheVariants as asked;
+ghost use Rattle.sd_edit.specs.Machine.{Steps};
+ghost use Rattle.sd_edit.specs.declared.request.Request.TheVariants as asked;
 ghost use Rattle.sd_script.specs.Output.{opens};
 ghost use Rattle.sd_script_audit.specs.Audit.{IsNextInAudit};
 ghost use Rattle.sd_script_audit.specs.Parts.{IsDoneOrTold, audited, machine_of, progress};

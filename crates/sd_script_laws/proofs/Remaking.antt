@@ -3,19 +3,19 @@ use Rattle.std.proofs.Common.{◌≡◌, ℕ, Bool, true, false, List, [], ◌�
 use Rattle.std.specs.Prelude.{MatchBool, codes}
 use Rattle.std.specs.Str.Lines.{lines}
 use Rattle.std.proofs.lemmas.List.{length-replicate}
-use Rattle.sd_tree.specs.Additions.{addition_of, root_of}
-use Rattle.sd_tree.specs.Names.{Names}
-use Rattle.sd_tree.specs.Plain.{row_at}
-use Rattle.sd_tree.specs.Journal.{replay, refusal, root_refusal, IsLawful}
-use Rattle.sd_tree.specs.declared.edit.Edit.{Edit}
-use Rattle.sd_tree.specs.declared.node.Row.{Row}
-use Rattle.sd_tree.specs.declared.opening.Opening.{Opening}
-use Rattle.sd_tree.proofs.Closed.{closed_replay}
+use Rattle.sd_edit.specs.Additions.{addition_of, root_of}
+use Rattle.sd_path.specs.Names.{Names}
+use Rattle.sd_edit.specs.Plain.{row_at}
+use Rattle.sd_edit.specs.Journal.{replay, refusal, root_refusal, IsLawful}
+use Rattle.sd_edit.specs.declared.edit.Edit.{Edit}
+use Rattle.sd_edit.specs.declared.node.Row.{Row}
+use Rattle.sd_edit.specs.declared.opening.Opening.{Opening}
+use Rattle.sd_edit.proofs.Closed.{closed_replay}
 use Rattle.sd_tree_laws.proofs.Remade.{addition as added, a_container, first_entry, remade as made_again}
-use Rattle.sd_versions.specs.Machine.{Machine}
-use Rattle.sd_versions.specs.Starts.{IsReaderCount}
-use Rattle.sd_versions.specs.declared.request.Request.TheVariants as requests
-use Rattle.sd_versions.specs.declared.request.Reply.TheVariants as replies
+use Rattle.sd_edit.specs.Machine.{Machine}
+use Rattle.sd_edit.specs.Starts.{IsReaderCount}
+use Rattle.sd_edit.specs.declared.request.Request.TheVariants as requests
+use Rattle.sd_edit.specs.declared.request.Reply.TheVariants as replies
 use Rattle.sd_answer.specs.Answer.{line}
 use Rattle.sd_script.specs.Dump.{makings, dump_text, IsAskedBy, AreAskedBy, IsReadBack}
 use Rattle.sd_script.specs.Output.{is_open, manner_of, opening_in, IsAnswered, IsDone, IsTold, closing_of}

@@ -1,9 +1,9 @@
 -- What a dump is for: as a script it makes the published tree again.
 use Rattle.std.specs.Prelude.{◌≡◌, ◌≢◌, ℕ, false, List, [], ◌∷◌, length, None, codes}
 use Rattle.std.specs.Str.Lines.{lines}
-use Rattle.sd_tree.specs.Journal.{replay, root_refusal, IsLawful}
-use Rattle.sd_versions.specs.Machine.{Machine}
-use Rattle.sd_versions.specs.Starts.{IsReaderCount}
+use Rattle.sd_edit.specs.Journal.{replay, root_refusal, IsLawful}
+use Rattle.sd_edit.specs.Machine.{Machine}
+use Rattle.sd_edit.specs.Starts.{IsReaderCount}
 use Rattle.sd_answer.specs.Answer.{fault_line}
 use Rattle.sd_script.specs.Expect.{expects}
 use Rattle.sd_script.specs.Output.{IsAnswered, IsDone}

@@ -4,10 +4,10 @@ use Rattle.std.proofs.Math.Nat.{lt_of_mul-lt-mul_left, mod-lt, mod-eq-sub-mod, d
 use Rattle.std.proofs.lemmas.List.{get_or_append_left, get_or_push, length_push, get_or-set_other}
 use Rattle.std.proofs.lemmas.Grind.{get_or-set_at}
 use mathlib.Core.List.{IsPrefix}
-use Rattle.sd_tree.specs.Journal.{IsLawful}
-use Rattle.sd_tree.specs.declared.edit.Edit.{Edit}
-use Rattle.sd_tree.specs.declared.opening.Opening.{Opening}
-use Rattle.sd_versions.specs.declared.answer.Answer.{Answer}
+use Rattle.sd_edit.specs.Journal.{IsLawful}
+use Rattle.sd_edit.specs.declared.edit.Edit.{Edit}
+use Rattle.sd_edit.specs.declared.opening.Opening.{Opening}
+use Rattle.sd_edit.specs.declared.reply.Answer.{Answer}
 use Rattle.sd_store.specs.Audits.{IsAnswer, AreAnswers, HasGrown, HaveGrown}
 use Rattle.sd_store.specs.Sights.{Sight}
 use Rattle.sd_store.specs.Workers.{IsDrawn, IsDrawnAt, IsFurther, IsWorked, IsDone, AreDone, IsInformed, AreInformed, IsDealt}

@@ -2,8 +2,8 @@
 use Rattle.std.proofs.Common.{◌≡◌, ℕ, List, [], ◌∷◌, ◌++◌, length, fold, Result, Ok, Err, MatchResult, sym, ap, ◌∙◌, subst}
 use mathlib.Core.List.{IsPrefix}
 use Rattle.left_right.specs.Register.{TurnsAt}
-use Rattle.sd_tree.specs.Journal.{TreeValue, IsLawful}
-use Rattle.sd_tree.specs.declared.edit.Edit.{Edit}
+use Rattle.sd_edit.specs.Journal.{TreeValue, IsLawful}
+use Rattle.sd_edit.specs.declared.edit.Edit.{Edit}
 use Rattle.sd_history.specs.Chains.{Sighting, items_from}
 use Rattle.sd_store.specs.declared.operation.Facts.{Facts}
 use Rattle.sd_store.specs.declared.operation.Operation.{Operation}

@@ -1,13 +1,13 @@
 -- An audit: queries dealt among the checkers of a store, and what its answers are.
 use Rattle.std.specs.Prelude.{◌≡◌, ℕ, ◌-◌, ◌%◌, ◌<◌, ◌≤◌, List, length, take, slice_index_or}
 use mathlib.Core.List.{IsPrefix}
-use Rattle.sd_tree.specs.Answers.{answer}
-use Rattle.sd_tree.specs.Journal.{IsLawful}
-use Rattle.sd_tree.specs.declared.edit.Edit.{Edit}
-use Rattle.sd_tree.specs.declared.opening.Opening.{Opening}
-use Rattle.sd_tree.specs.declared.tree.CheckReply.{CheckReply}
-use Rattle.sd_versions.specs.Versions.{longer}
-use Rattle.sd_versions.specs.declared.answer.Answer.{Answer}
+use Rattle.sd_edit.specs.Answers.{answer}
+use Rattle.sd_edit.specs.Journal.{IsLawful}
+use Rattle.sd_edit.specs.declared.edit.Edit.{Edit}
+use Rattle.sd_edit.specs.declared.opening.Opening.{Opening}
+use Rattle.sd_edit.specs.declared.reply.CheckReply.{CheckReply}
+use Rattle.sd_edit.specs.Machine.{longer}
+use Rattle.sd_edit.specs.declared.reply.Answer.{Answer}
 use Rattle.sd_store.specs.Marks.{last_of}
 use Rattle.sd_store.specs.Sights.{Sight}
 use Rattle.sd_store.specs.declared.query.Query.{Query}

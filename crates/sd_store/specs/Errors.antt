@@ -1,13 +1,13 @@
 -- Why a call on a store fails.
 use Rattle.std.specs.Prelude.{◌≡◌, ℕ, Option, None, Some}
-use Rattle.sd_tree.specs.declared.refusal.EditRefusal.{EditRefusal}
-use Rattle.sd_tree.specs.declared.refusal.TreeError.{TreeError}
-use Rattle.sd_tree.specs.declared.refusal.TreeError.TheVariants as tree
-use Rattle.sd_tree.specs.Refusals.{is_early}
+use Rattle.sd_edit.specs.declared.refusal.EditRefusal.{EditRefusal}
+use Rattle.sd_edit.specs.declared.refusal.TreeError.{TreeError}
+use Rattle.sd_edit.specs.declared.refusal.TreeError.TheVariants as tree
+use Rattle.sd_edit.specs.Refusals.{is_early}
 use Rattle.std.specs.Prelude.{false}
-use Rattle.sd_versions.specs.Starts.{IsReaderCount, IsStartError}
-use Rattle.sd_versions.specs.declared.start.StartError.{StartError}
-use Rattle.sd_versions.specs.declared.start.StartError.TheVariants.{Readers, Root, Memory, Place}
+use Rattle.sd_edit.specs.Starts.{IsReaderCount, IsStartError}
+use Rattle.sd_edit.specs.declared.start.StartError.{StartError}
+use Rattle.sd_edit.specs.declared.start.StartError.TheVariants.{Readers, Root, Memory, Place}
 use Rattle.sd_store.specs.declared.error.AuditError.{AuditError}
 use Rattle.sd_store.specs.declared.error.AuditError.TheVariants as audit
 use Rattle.sd_store.specs.declared.error.EditError.{EditError}

@@ -1,8 +1,8 @@
 -- The marks of a published journal: 0, and then its length after each publish, in order. What the operations of a
 -- publish make of what is published.
 use Rattle.std.specs.Prelude.{◌≡◌, ℕ, ◌-◌, Bool, true, false, List, [], ◌∷◌, ◌++◌, length, fold, slice_set}
-use Rattle.sd_tree.specs.Journal.{TreeValue}
-use Rattle.sd_tree.specs.declared.edit.Edit.{Edit}
+use Rattle.sd_edit.specs.Journal.{TreeValue}
+use Rattle.sd_edit.specs.declared.edit.Edit.{Edit}
 use Rattle.sd_history.specs.Chains.{Sighting}
 use Rattle.sd_store.specs.declared.operation.Facts.{Facts}
 use Rattle.sd_store.specs.declared.operation.Operation.{Operation}

@@ -5,9 +5,9 @@ use mathlib.Core.List.{IsPrefix}
 use mathlib.Core.Option.{some}
 use lib.ListN.{get_elem?}
 use Rattle.sd_history.specs.Chains.{Book}
-use Rattle.sd_tree.specs.Journal.{IsLawful}
-use Rattle.sd_tree.specs.declared.opening.Opening.{Opening}
-use Rattle.sd_tree.specs.declared.edit.Edit.{Edit}
+use Rattle.sd_edit.specs.Journal.{IsLawful}
+use Rattle.sd_edit.specs.declared.opening.Opening.{Opening}
+use Rattle.sd_edit.specs.declared.edit.Edit.{Edit}
 use Rattle.sd_history.specs.Chains.{Sighting, items_from}
 use Rattle.sd_store.specs.Marks.{last_of, IsOnePublish}
 use Rattle.sd_store.specs.declared.operation.Operation.{Operation}

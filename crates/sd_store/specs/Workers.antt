@@ -3,11 +3,11 @@
 use Rattle.std.specs.Prelude.{◌≡◌, ℕ, ◌+◌, ◌*◌, ◌/◌, ◌%◌, ◌<◌, ◌≤◌, List, [], ◌∷◌, ◌++◌, length, slice_index_or, Option}
 use Rattle.std.specs.Prelude.{Some, None}
 use mathlib.Core.List.{IsPrefix}
-use Rattle.sd_tree.specs.Journal.{IsLawful}
-use Rattle.sd_tree.specs.declared.edit.Edit.{Edit}
-use Rattle.sd_tree.specs.declared.opening.Opening.{Opening}
-use Rattle.sd_versions.specs.Versions.{longer}
-use Rattle.sd_versions.specs.declared.answer.Answer.{Answer}
+use Rattle.sd_edit.specs.Journal.{IsLawful}
+use Rattle.sd_edit.specs.declared.edit.Edit.{Edit}
+use Rattle.sd_edit.specs.declared.opening.Opening.{Opening}
+use Rattle.sd_edit.specs.Machine.{longer}
+use Rattle.sd_edit.specs.declared.reply.Answer.{Answer}
 use Rattle.sd_store.specs.Audits.{IsAnswer, reply_by}
 use Rattle.sd_store.specs.Marks.{last_of}
 use Rattle.sd_store.specs.Sights.{Sight}

@@ -3,9 +3,9 @@
 ghost use Rattle.std.specs.Prelude.{◌≡◌, length, OnOk, OnErr, IfOk, IfErr, IsSome, option_map};
 ghost use mathlib.Core.List.{IsPrefix};
 ghost use Rattle.sd_acl.specs.Descriptor.{descriptor_of};
-ghost use Rattle.sd_tree.specs.Answers.{answer, descriptor_at};
-ghost use Rattle.sd_tree.specs.Journal.{replay, IsLawful};
-ghost use Rattle.sd_versions.specs.Versions.{longer};
+ghost use Rattle.sd_edit.specs.Answers.{answer, descriptor_at};
+ghost use Rattle.sd_edit.specs.Journal.{replay, IsLawful};
+ghost use Rattle.sd_edit.specs.Machine.{longer};
 ghost use Rattle.sd_store.specs.Marks.{last_of};
 ghost use Rattle.sd_store.specs.Sights.{IsGone};
 ghost use Rattle.sd_store.specs.declared.error.ShowError.TheVariants as show;

@@ -3,8 +3,8 @@
 ghost use Rattle.std.specs.Prelude.{◌≡◌, ◌<◌, length, OnOk, OnErr};
 ghost use mathlib.Core.List.{IsPrefix};
 ghost use Rattle.sd_history.specs.Chains.{items_from};
-ghost use Rattle.sd_tree.specs.Journal.{IsLawful};
-ghost use Rattle.sd_versions.specs.Versions.{longer};
+ghost use Rattle.sd_edit.specs.Journal.{IsLawful};
+ghost use Rattle.sd_edit.specs.Machine.{longer};
 
 use crate::error::Gone;
 use crate::naming::Naming;
@@ -22,8 +22,8 @@ pub(crate) struct Floor<J: Naming> {
 
 impl<J: Naming> Model for Floor<J> {
     ghost use Rattle.std.specs.Prelude.{◌≡◌, List, length};
-    ghost use Rattle.sd_tree.specs.Journal.{IsLawful};
-    ghost use Rattle.sd_tree.specs.declared.edit.Edit.{Edit};
+    ghost use Rattle.sd_edit.specs.Journal.{IsLawful};
+    ghost use Rattle.sd_edit.specs.declared.edit.Edit.{Edit};
     ghost use Rattle.sd_history.specs.Chains.{items_from};
 
     ghost Value = { List Edit };

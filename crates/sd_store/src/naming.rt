@@ -7,7 +7,7 @@ use std::marker::Brand;
 /// change it, and a checker of one store has another type than one of a second store. Each program picks it where it
 /// starts a store; it has no value and no method.
 pub trait Naming: Chain {
-    ghost use Rattle.sd_tree.specs.declared.opening.Opening.{Opening};
+    ghost use Rattle.sd_edit.specs.declared.opening.Opening.{Opening};
 
     ghost opening: { Opening };
 }
@@ -15,8 +15,8 @@ pub trait Naming: Chain {
 /// Any value: a caller picks the one that it has.
 impl Naming for Brand {
     ghost use Rattle.std.specs.Prelude.{[]};
-    ghost use Rattle.sd_tree.specs.Limits.{standard_limits};
-    ghost use Rattle.sd_tree.specs.declared.node.NodeDacl.TheVariants.{Null};
+    ghost use Rattle.sd_edit.specs.Limits.{standard_limits};
+    ghost use Rattle.sd_edit.specs.declared.node.NodeDacl.TheVariants.{Null};
 
     ghost opening = { record {
       mapping = record { read = 0; write = 0; execute = 0; all = 0 };

@@ -1,7 +1,7 @@
 //! What readers learn of a publish.
 
 ghost use Rattle.std.specs.Prelude.{◌≡◌, length};
-ghost use Rattle.sd_tree.specs.Journal.{IsLawful};
+ghost use Rattle.sd_edit.specs.Journal.{IsLawful};
 
 use crate::floor::Floor;
 use crate::naming::Naming;

@@ -2,10 +2,10 @@
 
 ghost use Rattle.std.specs.Prelude.{◌≡◌, ◌⊎◌, ◌∷◌, ◌<◌, ◌≤◌, [], None, drop, IfOk, IfErr, All, vec_len};
 ghost use Rattle.left_right.specs.Sides.{view};
-ghost use Rattle.sd_tree.specs.Journal.{opening_of, opening_within, root_refusal};
+ghost use Rattle.sd_edit.specs.Journal.{opening_of, opening_within, root_refusal};
 ghost use Rattle.sd_history.specs.Chains.{items_from};
-ghost use Rattle.sd_versions.specs.Starts.{IsReaderCount};
-ghost use Rattle.sd_versions.specs.declared.start.StartError.TheVariants.{Memory, Place};
+ghost use Rattle.sd_edit.specs.Starts.{IsReaderCount};
+ghost use Rattle.sd_edit.specs.declared.start.StartError.TheVariants.{Memory, Place};
 ghost use Rattle.sd_store.specs.Errors.{IsStoreError};
 ghost use Rattle.sd_store.specs.Rules.{naming, newcomer, IsFrontOf, IsOpened};
 

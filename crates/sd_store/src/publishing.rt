@@ -3,7 +3,7 @@
 ghost use Rattle.std.specs.Prelude.{◌≡◌, [], ◌∷◌, ◌++◌, length, drop, OnOk, MatchResult};
 ghost use mathlib.Core.List.{IsPrefix};
 ghost use Rattle.left_right.specs.Sides.{view};
-ghost use Rattle.sd_tree.specs.Journal.{IsLawful};
+ghost use Rattle.sd_edit.specs.Journal.{IsLawful};
 ghost use Rattle.sd_store.specs.Marks.{IsOnePublish, ShowTree};
 ghost use Rattle.sd_store.specs.Rules.{naming, IsReady, IsFrontOf};
 

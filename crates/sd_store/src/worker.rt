@@ -2,7 +2,7 @@
 
 ghost use Rattle.std.specs.Prelude.{◌≡◌, ◌+◌, ◌*◌, ◌^◌, ◌<◌, ◌≤◌, [], length, None, Some, OnOk, OnErr, IfOk, IfErr};
 ghost use mathlib.Core.List.{IsPrefix};
-ghost use Rattle.sd_tree.specs.Journal.{IsLawful};
+ghost use Rattle.sd_edit.specs.Journal.{IsLawful};
 ghost use Rattle.sd_store.specs.Workers.{IsAnswered, IsDrawn, IsFurther, IsDone};
 ghost use Rattle.sd_store.specs.declared.error.AuditError.TheVariants as audit;
 

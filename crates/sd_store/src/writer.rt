@@ -1,7 +1,7 @@
 //! The one writer of a store.
 
 ghost use Rattle.std.specs.Prelude.{◌≡◌, ◌∷◌, ◌++◌, [], None, length, IfOk, IfErr, OnOk, MatchResult};
-ghost use Rattle.sd_tree.specs.Journal.{refusal};
+ghost use Rattle.sd_edit.specs.Journal.{refusal};
 ghost use Rattle.sd_store.specs.Errors.{IsEditError};
 
 use crate::error::{EditError, PublishError};

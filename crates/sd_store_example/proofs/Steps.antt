@@ -3,10 +3,10 @@ use Rattle.std.proofs.Common.{◌≡◌, ℕ, ◌+◌, ◌<◌, List, [], ◌∷
 use Rattle.std.proofs.Common.{sym, subst, ap, ◌∙◌}
 use mathlib.Core.List.{IsPrefix}
 use Rattle.std.proofs.lemmas.List.{take_more, take-append-drop}
-use Rattle.sd_tree.specs.Journal.{IsLawful, refusal, root_refusal}
-use Rattle.sd_tree.specs.declared.edit.Edit.{Edit}
-use Rattle.sd_tree.specs.declared.opening.Opening.{Opening}
-use Rattle.sd_tree.proofs.Journals.{lawful_push}
+use Rattle.sd_edit.specs.Journal.{IsLawful, refusal, root_refusal}
+use Rattle.sd_edit.specs.declared.edit.Edit.{Edit}
+use Rattle.sd_edit.specs.declared.opening.Opening.{Opening}
+use Rattle.sd_edit.proofs.Journals.{lawful_push}
 use Rattle.sd_store.specs.Errors.{IsEditError}
 use Rattle.sd_store.specs.declared.error.EditError.{EditError}
 use Rattle.sd_store_example.specs.Behind.{IsAskedError, IsAskError}

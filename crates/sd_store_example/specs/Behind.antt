@@ -1,10 +1,10 @@
 -- What an answer after edits is, and why there is none.
 use Rattle.std.specs.Prelude.{◌≡◌, List, [], ◌∷◌, ◌++◌, length, None}
 use mathlib.Core.List.{IsPrefix}
-use Rattle.sd_tree.specs.Journal.{IsLawful, refusal, root_refusal}
-use Rattle.sd_tree.specs.declared.edit.Edit.{Edit}
-use Rattle.sd_tree.specs.declared.opening.Opening.{Opening}
-use Rattle.sd_versions.specs.declared.answer.Answer.{Answer}
+use Rattle.sd_edit.specs.Journal.{IsLawful, refusal, root_refusal}
+use Rattle.sd_edit.specs.declared.edit.Edit.{Edit}
+use Rattle.sd_edit.specs.declared.opening.Opening.{Opening}
+use Rattle.sd_edit.specs.declared.reply.Answer.{Answer}
 use Rattle.sd_store.specs.Audits.{reply_by}
 use Rattle.sd_store.specs.Errors.{IsEditError, IsStoreError}
 use Rattle.sd_store.specs.declared.error.EditError.{EditError}

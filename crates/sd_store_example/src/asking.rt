@@ -1,7 +1,7 @@
 //! From edits to an answer after them.
 
 ghost use Rattle.std.specs.Prelude.{◌≡◌, [], None, IfErr, IfOk, OnOk};
-ghost use Rattle.sd_tree.specs.Journal.{opening_of, root_refusal};
+ghost use Rattle.sd_edit.specs.Journal.{opening_of, root_refusal};
 ghost use Rattle.sd_store_example.specs.Behind.{IsAskError, IsAskedError, IsBehind};
 
 use crate::error::AskError;

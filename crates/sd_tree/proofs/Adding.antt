@@ -12,24 +12,25 @@ use Rattle.std.proofs.lemmas.Bool.{cases_Bool}
 use Rattle.std.proofs.lemmas.List.{length-map, get_or-map}
 use Rattle.sd_sid.specs.Mapping.{MappingValue}
 use Rattle.sd_path.specs.Names.{Names, names_cmp, is_within}
-use Rattle.sd_tree.specs.Plain.{PlainTree, row_at, dacl_at}
-use Rattle.sd_tree.specs.Closed.{IsClosed, IsAddable}
-use Rattle.sd_tree.specs.Refusals.{dacl_size, has_child}
+use Rattle.sd_edit.specs.Plain.{PlainTree, row_at, dacl_at}
+use Rattle.sd_edit.specs.Closed.{IsClosed, IsAddable}
+use Rattle.sd_edit.specs.Refusals.{dacl_size, has_child}
 use Rattle.sd_tree.specs.Stored.{path_of_node, entry_of, tree_of, IsWhole, AreStanding}
 use Rattle.sd_blocks.specs.Runs.{exchanged}
 use Rattle.sd_tree.specs.Plans.{IsExchange}
-use Rattle.sd_tree.specs.Edits.{changed, changed_where}
-use Rattle.sd_tree.specs.declared.node.Row.{Row}
-use Rattle.sd_tree.proofs.Lists.{by_last, all_one}
+use Rattle.sd_edit.specs.Edits.{changed, changed_where}
+use Rattle.sd_edit.specs.declared.node.Row.{Row}
+use Rattle.sd_edit.proofs.Lists.{by_last, all_one}
 use Rattle.sd_path.proofs.Paths.{names_cmp_total, names_cmp_antisymmetric, up-push, push_not_root, up_within}
-use Rattle.sd_tree.proofs.Closed.{no_child}
-use Rattle.sd_tree.proofs.Dacls.{dacl_at_outside}
-use Rattle.sd_tree.proofs.Rows.{same_or_other, row_at-insert_other, row_at-remove_other}
+use Rattle.sd_edit.proofs.Closed.{no_child}
+use Rattle.sd_edit.proofs.Dacls.{dacl_at_outside}
+use Rattle.sd_edit.proofs.Rows.{same_or_other, row_at-insert_other, row_at-remove_other}
 use Rattle.sd_tree.proofs.Kept.{row_here, entries_kept}
 use Rattle.sd_tree.proofs.CarriedOut.{key_at, keys_count, inserted_there, removed_there}
-use Rattle.sd_tree.proofs.Below.{some_row, within_root, nothing_below}
-use Rattle.sd_tree.proofs.Rebuilding.{parent_there, place_same}
-use Rattle.sd_tree.proofs.Sorted.{put_insert, where_remove, greater_from_less, less_from_greater}
+use Rattle.sd_edit.proofs.Below.{some_row, within_root, nothing_below}
+use Rattle.sd_edit.proofs.Below.{parent_there}
+use Rattle.sd_tree.proofs.Rebuilding.{place_same}
+use Rattle.sd_edit.proofs.Sorted.{put_insert, where_remove, greater_from_less, less_from_greater}
 use Rattle.sd_tree.specs.declared.node.Node.{Node}
 
 pub insertion : (g : MappingValue) (bs : List Node) (standing : AreStanding g bs) (q : Names) (row : Row) → IsAddable (tree_of bs) q

@@ -9,15 +9,15 @@ use Rattle.std.specs.FinMap as finite
 use Rattle.std.specs.FinMap.{is_sorted, entries_sorted, same_entries_map}
 use Rattle.sd_sid.specs.Mapping.{MappingValue}
 use Rattle.sd_path.specs.Names.{Names, names_cmp}
-use Rattle.sd_tree.specs.Plain.{PlainTree, dacl_at}
+use Rattle.sd_edit.specs.Plain.{PlainTree, dacl_at}
 use Rattle.sd_blocks.specs.Runs.{without_run, exchanged}
 use Rattle.sd_tree.specs.Plans.{IsExchange, IsPlan, carried}
 use Rattle.sd_tree.specs.Stored.{path_of_node, entry_of, IsInOrder, tree_of, IsWhole, AreNodes}
-use Rattle.sd_tree.specs.declared.node.Row.{Row}
+use Rattle.sd_edit.specs.declared.node.Row.{Row}
 use Rattle.sd_tree.specs.declared.plan.Plan.{Plan}
 use Rattle.sd_tree.specs.declared.plan.Plan.TheVariants.{Insert, Set, Remove, Exchange}
 use Rattle.sd_tree.proofs.Kept.{entries_kept}
-use Rattle.sd_tree.proofs.Lists.{taken}
+use Rattle.sd_edit.proofs.Lists.{taken}
 use Rattle.sd_tree.specs.declared.node.Node.{Node}
 
 -- nodes with a tree's entries are in order, and are that tree

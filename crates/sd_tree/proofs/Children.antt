@@ -7,10 +7,10 @@ use Rattle.std.specs.declared.cmp.Ordering.TheVariants.{Less}
 use Rattle.std.proofs.lemmas.Bool.{cases_Bool, cases_lt, false≢true}
 use Rattle.sd_sid.specs.Mapping.{MappingValue}
 use Rattle.sd_path.specs.Names.{Names, names_cmp, up, is_root, is_within}
-use Rattle.sd_tree.specs.Refusals.{has_child}
+use Rattle.sd_edit.specs.Refusals.{has_child}
 use Rattle.sd_tree.specs.Stored.{path_of_node, tree_of, AreStanding}
 use Rattle.sd_path.proofs.Paths.{within_up, up_before, within_between}
-use Rattle.sd_tree.proofs.Rows.{one_path}
+use Rattle.sd_edit.proofs.Rows.{one_path}
 use Rattle.sd_tree.proofs.Places.{paths_rise}
 use Rattle.sd_tree.proofs.Kept.{row_here}
 use Rattle.sd_tree.proofs.CarriedOut.{key_at, keys_count}

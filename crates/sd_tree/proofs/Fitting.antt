@@ -1,5 +1,5 @@
 -- What is planned fits: no node's DACL takes too many bytes.
-use Rattle.std.proofs.Common.{◌≡◌, ℕ, zero, suc, ◌<◌, ◌≤◌, Bool, false, cond, ◌||◌, List, [], ◌∷◌, ◌++◌, length, get_or, Option, Some, None, refl, sym, ap, ◌∙◌, arith, nat_lt, nat_le, ltb, leb}
+use Rattle.std.proofs.Common.{◌≡◌, ℕ, zero, suc, ◌<◌, ◌≤◌, Bool, false, cond, ◌||◌, List, [], ◌∷◌, length, get_or, Option, None, refl, sym, ap, ◌∙◌, arith, nat_lt, ltb, leb}
 use Rattle.std.specs.List.{list_any}
 use Rattle.std.specs.Option.{option_or}
 use Rattle.std.specs.FinMap as finite
@@ -7,19 +7,22 @@ use Rattle.std.specs.FinMap.{len-entries}
 use Rattle.std.proofs.lemmas.Bool.Decides.{nat_tests}
 use Rattle.std.proofs.lemmas.List.{length-map}
 use Rattle.sd_sid.specs.Mapping.{MappingValue}
-use Rattle.sd_tree.specs.Limits.{LimitsValue}
-use Rattle.sd_tree.specs.Plain.{PlainTree, dacl_at}
-use Rattle.sd_tree.specs.Edits.{edited}
-use Rattle.sd_tree.specs.Refusals.{first_fit, early_refusal, refusal_in, room_tests, dacl_size, has_large_dacl}
+use Rattle.sd_edit.specs.Limits.{LimitsValue}
+use Rattle.sd_edit.specs.Plain.{PlainTree, dacl_at}
+use Rattle.sd_edit.specs.Refusals.{early_refusal, refusal_in, dacl_size, has_large_dacl}
 use Rattle.sd_tree.specs.Stored.{entry_of, tree_of, AreNodes}
-use Rattle.sd_tree.specs.Plans.{IsPlan, carried}
-use Rattle.sd_tree.specs.declared.edit.Edit.{Edit}
+use Rattle.sd_tree.specs.Plans.{IsPlan, carried, IsLateError}
+use Rattle.sd_edit.specs.declared.edit.Edit.{Edit}
 use Rattle.sd_tree.specs.declared.plan.Plan.{Plan}
-use Rattle.sd_tree.specs.declared.refusal.EditRefusal.{EditRefusal}
-use Rattle.sd_tree.specs.declared.refusal.EditRefusal.TheVariants.{AclTooLarge, JournalFull}
+use Rattle.sd_edit.specs.declared.refusal.EditRefusal.{EditRefusal}
 use Rattle.sd_tree.proofs.Kept.{entries_kept, a_node}
 use Rattle.sd_tree.proofs.CarriedOut.{key_at, keys_count, plan_carried}
 use Rattle.sd_tree.specs.declared.node.Node.{Node}
+use Rattle.sd_edit.specs.Answers.{IsError}
+use Rattle.sd_edit.specs.Refusals.{late_refusal, late_tests, is_early}
+use Rattle.sd_edit.specs.declared.refusal.TreeError.{TreeError}
+use Rattle.sd_edit.specs.declared.refusal.TreeError.TheVariants.{Refused, Memory}
+use Rattle.sd_edit.proofs.Refused.{late_refused, are_late}
 
 pub none_found : {X : Type 0} (p : X → Bool) (xs : List X) → ((k : ℕ) (d : X) → k < length xs → p (get_or xs k d) ≡ false) → list_any p xs ≡ false
 none_found p [] h = refl
@@ -42,15 +45,6 @@ no_large_planned g bs kept after plan h =
     let done = plan_carried g bs kept after plan h in
     ap (has_large_dacl g) (sym done.0) ∙ no_large g (carried plan bs) done.1
 
--- ---- the refusal, put together
-
-pub refusal_by_parts : (limits : LimitsValue) (g : MappingValue) (t : PlainTree) (n : ℕ) (e : Edit) (r : Option EditRefusal) → early_refusal t e ≡ None → has_large_dacl g (edited g t e) ≡ false
-    → r ≡ first_fit (room_tests limits t e ++ (nat_le limits.edits n, JournalFull) ∷ []) → refusal_in limits g t n e ≡ r
-refusal_by_parts limits g t n e r early large rest-is =
-    let rest = first_fit (room_tests limits t e ++ (nat_le limits.edits n, JournalFull) ∷ []) in
-    ap (λ o. option_or o (cond (has_large_dacl g (edited g t e)) (Some AclTooLarge) rest)) early
-    ∙ ap (λ b. cond b (Some AclTooLarge) rest) large ∙ sym rest-is
-
 -- how many nodes there are
 pub nodes_count : (bs : List Node) (g : MappingValue) → AreNodes g bs → finite.len (tree_of bs) ≡ length bs
 nodes_count bs g kept = len-entries (tree_of bs) ∙ ap length (entries_kept bs kept.order) ∙ length-map bs entry_of
@@ -60,3 +54,11 @@ room_full most a n x y deep full = grind (arith, nat_tests)
 
 pub room_left : (most a n : ℕ) (x y : Option EditRefusal) → a ≤ 64 → n < most → None ≡ cond (ltb 64 a) x (cond (leb most n) y None)
 room_left most a n x y deep few = grind (arith, nat_tests)
+
+-- the error of a plan, where no test without memory refuses
+pub late_error : (l : LimitsValue) (g : MappingValue) (t : PlainTree) (n : ℕ) (e : Edit) (x : TreeError)
+    → early_refusal t e ≡ None → IsLateError g t e x → IsError x (refusal_in l g t n e)
+late_error l g t n e (Refused r) early h = ap (λ o. option_or o (late_refusal l g t n e)) early ∙ h l n
+late_error l g t n e Memory early h =
+    ap (λ o. is_early (option_or o (late_refusal l g t n e))) early
+    ∙ late_refused (late_tests l g t n e) (are_late l g t n e)

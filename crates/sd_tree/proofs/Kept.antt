@@ -8,12 +8,12 @@ use Rattle.std.specs.Ordering.{is_eq}
 use Rattle.std.specs.FinMap.{entries, find, get-entries, entries-from_sorted}
 use Rattle.std.specs.declared.cmp.Ordering.TheVariants.{Less, Greater}
 use Rattle.sd_path.specs.Names.{Names, names_cmp}
-use Rattle.sd_tree.specs.Plain.{row_at, dacl_at}
+use Rattle.sd_edit.specs.Plain.{row_at, dacl_at}
 use Rattle.sd_tree.specs.Stored.{path_of_node, entry_of, IsInOrder, tree_of, IsWhole, IsNodeAt}
-use Rattle.sd_tree.specs.declared.node.Row.{Row}
+use Rattle.sd_edit.specs.declared.node.Row.{Row}
 use Rattle.sd_tree.specs.declared.node.Node.{Node}
 use Rattle.sd_path.proofs.Paths.{names_cmp_total as names_total}
-use Rattle.sd_tree.proofs.Sorted.{find_at, find_none, greater_from_less, less_from_greater}
+use Rattle.sd_edit.proofs.Sorted.{find_at, find_none, greater_from_less, less_from_greater}
 
 -- the tree has just the nodes' entries
 pub entries_kept : (bs : List Node) → IsInOrder bs → entries (tree_of bs) ≡ map entry_of bs

@@ -3,9 +3,9 @@ use Rattle.std.proofs.Common.{◌≡◌, ℕ, ◌<◌, ◌≤◌, List, length, 
 use Rattle.std.specs.FinMap.{entries}
 use Rattle.std.proofs.lemmas.Option.{slice_get-map, slice_get-get_or, slice_get_past}
 use Rattle.sd_path.specs.Names.{Names}
-use Rattle.sd_tree.specs.Plain.{PlainTree}
+use Rattle.sd_edit.specs.Plain.{PlainTree}
 use Rattle.sd_tree.specs.Stored.{entry_of, IsInOrder, tree_of}
-use Rattle.sd_tree.specs.declared.node.Row.{Row}
+use Rattle.sd_edit.specs.declared.node.Row.{Row}
 use Rattle.sd_tree.proofs.Kept.{entries_kept}
 use Rattle.sd_tree.specs.declared.node.Node.{Node}
 

@@ -11,27 +11,27 @@ use Rattle.std.specs.FinMap.{contains_key-keys}
 use Rattle.std.specs.Ordering.{eq_by_cmp}
 use Rattle.sd_sid.specs.Mapping.{MappingValue}
 use Rattle.sd_path.specs.Names.{Names, names_cmp, is_within, moved_path}
-use Rattle.sd_tree.specs.Closed.{IsMovable}
-use Rattle.sd_tree.specs.Edits.{moved}
-use Rattle.sd_tree.specs.Plain.{PlainTree, row_at, dacl_at}
+use Rattle.sd_edit.specs.Closed.{IsMovable}
+use Rattle.sd_edit.specs.Edits.{moved}
+use Rattle.sd_edit.specs.Plain.{PlainTree, row_at, dacl_at}
 use Rattle.sd_tree.specs.Plans.{IsExchange, IsRunBelow, AreUnder, IsTaken, IsLargeError, IsLateError, IsDepthError, relocated}
-use Rattle.sd_tree.specs.Refusals.{has_large_dacl, moves_too_deep, goes_too_deep}
+use Rattle.sd_edit.specs.Refusals.{has_large_dacl, moves_too_deep, goes_too_deep}
 use Rattle.sd_tree.specs.Sizes.{IsSizeError}
 use Rattle.sd_tree.specs.Stored.{path_of_node, tree_of, AreStanding}
 use Rattle.sd_tree.specs.declared.node.Node.{Node}
-use Rattle.sd_tree.specs.declared.node.Row.{Row}
-use Rattle.sd_tree.specs.declared.edit.Edit.TheVariants.{Move}
-use Rattle.sd_tree.specs.declared.refusal.TreeError.{TreeError}
-use Rattle.sd_tree.specs.declared.refusal.TreeError.TheVariants.{Refused, Memory}
+use Rattle.sd_edit.specs.declared.node.Row.{Row}
+use Rattle.sd_edit.specs.declared.edit.Edit.TheVariants.{Move}
+use Rattle.sd_edit.specs.declared.refusal.TreeError.{TreeError}
+use Rattle.sd_edit.specs.declared.refusal.TreeError.TheVariants.{Refused, Memory}
 use Rattle.sd_path.proofs.Paths.{within_rest, moved_path-append}
 use Rattle.sd_tree.proofs.CarriedOut.{key_at, keys_count, exchange_carried}
 use Rattle.sd_tree.proofs.Fitting.{no_large, none_found}
 use Rattle.sd_tree.proofs.Kept.{row_here}
-use Rattle.sd_tree.proofs.Moved.{row_at-moved_there, dacl_at-moved_top}
+use Rattle.sd_edit.proofs.Moved.{row_at-moved_there, dacl_at-moved_top}
 use Rattle.sd_tree.proofs.Planned.{out_source, back_low, back_high, forth_low, forth_high, not_within, moving}
 use Rattle.sd_tree.proofs.Rebuilding.{large_error, found_by}
-use Rattle.sd_tree.proofs.Rows.{one_path}
-use Rattle.sd_tree.proofs.NewRow.{size_error}
+use Rattle.sd_edit.proofs.Rows.{one_path}
+use Rattle.sd_tree.proofs.NewNode.{size_error}
 
 pub moved_length : (source target path : Names) → is_within source path ≡ true
     → (length (moved_path source target path) + length source ≡ length target + length path) × (length source ≤ length path)

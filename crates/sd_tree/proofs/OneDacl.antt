@@ -2,19 +2,20 @@
 use Rattle.std.proofs.Common.{◌≡◌, Bool, true, false, ◌||◌, cond, List, [], ◌∷◌, ◌++◌, Option, Some, None, refl, sym, ◌∙◌, ap, ap₂}
 use Rattle.std.specs.List.{list_any, flat_map}
 use Rattle.std.proofs.lemmas.Bool.{false≢true}
+use Rattle.std.proofs.lemmas.Grind.{flat_map-append}
 use Rattle.sd_sid.specs.Mapping.{MappingValue}
 use Rattle.sd_sid.specs.Sid.{SidValue, same_sid}
 use Rattle.sd_acl.specs.declared.ace.Ace.{Ace}
 use Rattle.sd_inheritance.specs.Inheritance.{object_inherit, container_inherit, no_propagate, creator_owner, creator_group, created_by, effective_copy, waiting_copy, whole_copy, is_split, pass_on}
-use Rattle.sd_tree.specs.Inheritance.{handed_on, dacl_under, dacl_of_row}
-use Rattle.sd_tree.specs.Refusals.{own_entries}
+use Rattle.sd_edit.specs.Inheritance.{handed_on, dacl_under, dacl_of_row}
+use Rattle.sd_edit.specs.Refusals.{own_entries}
 use Rattle.sd_tree.specs.Sharing.{names_creator, trustees_matter, AreAlike, InheritOne}
 use Rattle.sd_tree.specs.Node.{behind_own, dacl_with, whole_with, inherits}
 use Rattle.sd_inheritance.specs.declared.kind.NodeKind.{NodeKind}
 use Rattle.sd_inheritance.specs.declared.kind.NodeKind.TheVariants.{Container, Object}
-use Rattle.sd_tree.specs.declared.node.NodeDacl.{NodeDacl}
-use Rattle.sd_tree.specs.declared.node.NodeDacl.TheVariants.{Null, List as Entries}
-use Rattle.sd_tree.specs.declared.node.Row.{Row}
+use Rattle.sd_edit.specs.declared.node.NodeDacl.{NodeDacl}
+use Rattle.sd_edit.specs.declared.node.NodeDacl.TheVariants.{Null, List as Entries}
+use Rattle.sd_edit.specs.declared.node.Row.{Row}
 
 -- a node that inherits has its own entries, and behind them what is handed on to it
 pub inheriting_dacl : (g : MappingValue) (row : Row) (above : Option (List Ace)) → inherits row.dacl ≡ true
@@ -26,6 +27,20 @@ inheriting_dacl g row above h = parts g row row.dacl above h
     parts g row Null above h = absurd (false≢true h)
     parts g row (Entries true own) above h = absurd (false≢true h)
     parts g row (Entries false own) above h = refl
+
+-- what is handed on of two lists, one behind the other, is handed on of the DACL that has both
+pub handed_in_parts : (g : MappingValue) (kind : NodeKind) (owner group : SidValue) (dacl : NodeDacl) (row : Row)
+    → record { kind = kind; owner = owner; group = group; dacl = dacl } ≡ row
+    → (own inherited start first both : List Ace) (whole : Option (List Ace)) → start ≡ []
+    → first ≡ start ++ flat_map (pass_on g kind owner group) own
+    → both ≡ first ++ flat_map (pass_on g kind owner group) inherited
+    → whole ≡ Some (own ++ inherited) → both ≡ handed_on g row whole
+handed_in_parts g kind owner group dacl row is own inherited start first both whole empty one two parts =
+    let h : Ace → List Ace = pass_on g kind owner group in
+    two ∙ ap (λ xs. xs ++ flat_map h inherited) (one ∙ ap (λ xs. xs ++ flat_map h own) empty)
+    ∙ sym (flat_map-append h own inherited)
+    ∙ ap (λ (r : Row). handed_on g r (Some (own ++ inherited))) is
+    ∙ sym (ap (handed_on g row) parts)
 
 -- what inherits nothing has its own entries alone, as at the root
 pub own_alone : (g : MappingValue) (row : Row) → whole_with row [] ≡ dacl_of_row g row None

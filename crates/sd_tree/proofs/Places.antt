@@ -9,7 +9,7 @@ use Rattle.std.specs.declared.cmp.Ordering.TheVariants.{Less}
 use Rattle.sd_path.specs.Names.{Names, names_cmp}
 use Rattle.sd_tree.specs.Stored.{path_of_node, entry_of, IsInOrder}
 use Rattle.sd_path.proofs.Paths.{names_cmp_total as names_total}
-use Rattle.sd_tree.proofs.Sorted.{rises, greater_from_less}
+use Rattle.sd_edit.proofs.Sorted.{rises, greater_from_less}
 use Rattle.sd_tree.specs.declared.node.Node.{Node}
 
 -- the paths rise from place to place

@@ -11,23 +11,23 @@ use Rattle.std.specs.FinMap.Entries.{same_entries}
 use Rattle.std.specs.declared.cmp.Ordering.TheVariants.{Less, Greater}
 use Rattle.sd_sid.specs.Mapping.{MappingValue}
 use Rattle.sd_path.specs.Names.{Names, names_cmp, is_within, moved_path}
-use Rattle.sd_tree.specs.Closed.{IsMovable}
-use Rattle.sd_tree.specs.Edits.{moved_entry, moved}
-use Rattle.sd_tree.specs.Plain.{PlainTree, dacl_at}
+use Rattle.sd_edit.specs.Closed.{IsMovable}
+use Rattle.sd_edit.specs.Edits.{moved_entry, moved}
+use Rattle.sd_edit.specs.Plain.{PlainTree, dacl_at}
 use Rattle.sd_blocks.specs.Runs.{without_run, exchanged}
 use Rattle.sd_tree.specs.Plans.{IsExchange, IsRunBelow, AreUnder, IsTaken, relocated}
 use Rattle.sd_tree.specs.Stored.{path_of_node, entry_of, tree_of, AreStanding}
 use Rattle.sd_path.proofs.Paths.{names_cmp_total, names_cmp_antisymmetric, names_cmp_prefix, within_rest, within-append, within_before, within_between, moved_path-append, moved_path-outside}
-use Rattle.sd_tree.proofs.Below.{nothing_below}
+use Rattle.sd_edit.proofs.Below.{nothing_below}
 use Rattle.sd_tree.proofs.CarriedOut.{key_at, keys_count}
 use Rattle.sd_tree.proofs.Going.{Entry, Rise, Inside, Outside, Low, High, sorted_from, rise_with_run, find_swap}
 use Rattle.sd_tree.proofs.Kept.{entries_kept, row_here, a_node}
-use Rattle.sd_tree.proofs.Moved.{row_at-moved, dacl_at-moved_other}
+use Rattle.sd_edit.proofs.Moved.{row_at-moved, dacl_at-moved_other}
 use Rattle.sd_tree.proofs.Places.{paths_rise}
 use Rattle.sd_tree.proofs.Rebuilding.{not_before_itself, not_both}
-use Rattle.sd_tree.proofs.Rows.{same_or_other}
-use Rattle.sd_tree.proofs.Sorted.{less_from_greater}
-use Rattle.sd_tree.proofs.Lists.{taken}
+use Rattle.sd_edit.proofs.Rows.{same_or_other}
+use Rattle.sd_edit.proofs.Sorted.{less_from_greater}
+use Rattle.sd_edit.proofs.Lists.{taken}
 use Rattle.sd_tree.proofs.Under.{whole_taken}
 use Rattle.sd_tree.specs.declared.node.Node.{Node}
 

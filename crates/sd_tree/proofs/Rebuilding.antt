@@ -1,5 +1,5 @@
 -- Whole DACLs that are built anew, from a node on down the run of those below it.
-use Rattle.std.proofs.Common.{◌≡◌, ◌≢◌, ◌⊎◌, ℕ, ◌<◌, ◌≤◌, Bool, true, false, ◌||◌, List, [], ◌∷◌, length, get_or, Option, Some, None, IsSome, is_some, option_map, inl, inr, refl, sym, ap, subst, ◌∙◌, arith, nat_lt}
+use Rattle.std.proofs.Common.{◌≡◌, ◌≢◌, ◌⊎◌, ℕ, ◌<◌, ◌≤◌, Bool, true, false, ◌||◌, List, [], ◌∷◌, length, get_or, Some, is_some, inl, inr, sym, ap, subst, ◌∙◌, arith, nat_lt}
 use Rattle.std.specs.List.{HoldsAt, AllWithin, list_any}
 use Rattle.std.specs.FinMap.{insert, keys, contains_key-keys}
 use Rattle.std.specs.Ordering.{eq_by_cmp}
@@ -9,20 +9,18 @@ use Rattle.std.proofs.lemmas.Bool.{cases_Bool, cases_lt}
 use Rattle.std.proofs.lemmas.Bool.Decides.{nat_tests}
 use Rattle.sd_sid.specs.Mapping.{MappingValue}
 use Rattle.sd_path.specs.Names.{Names, names_cmp, up, is_root, is_within}
-use Rattle.sd_tree.specs.Plain.{PlainTree, row_at, dacl_at}
-use Rattle.sd_tree.specs.Closed.{IsClosed}
-use Rattle.sd_tree.specs.Refusals.{dacl_size, has_large_dacl}
+use Rattle.sd_edit.specs.Plain.{PlainTree, row_at, dacl_at}
+use Rattle.sd_edit.specs.Refusals.{dacl_size, has_large_dacl}
 use Rattle.sd_tree.specs.Sizes.{IsSizeError}
 use Rattle.sd_tree.specs.Stored.{path_of_node, IsInOrder, tree_of, AreStanding}
 use Rattle.sd_tree.specs.Plans.{IsLargeError}
-use Rattle.sd_tree.specs.declared.node.Row.{Row}
-use Rattle.sd_inheritance.specs.declared.kind.NodeKind.{NodeKind}
-use Rattle.sd_tree.specs.declared.refusal.TreeError.{TreeError}
-use Rattle.sd_tree.specs.declared.refusal.TreeError.TheVariants.{Refused, Memory}
+use Rattle.sd_edit.specs.declared.node.Row.{Row}
+use Rattle.sd_edit.specs.declared.refusal.TreeError.{TreeError}
+use Rattle.sd_edit.specs.declared.refusal.TreeError.TheVariants.{Refused, Memory}
 use Rattle.sd_path.proofs.Paths.{names_cmp_total, within_before, up_before, up_within, root_is_empty}
-use Rattle.sd_tree.proofs.Dacls.{dacl_at_outside}
-use Rattle.sd_tree.proofs.Rows.{same_or_other, one_path, row_at-insert_other}
-use Rattle.sd_tree.proofs.Sorted.{greater_from_less}
+use Rattle.sd_edit.proofs.Dacls.{dacl_at_outside}
+use Rattle.sd_edit.proofs.Rows.{same_or_other, one_path, row_at-insert_other}
+use Rattle.sd_edit.proofs.Sorted.{greater_from_less}
 use Rattle.sd_tree.proofs.Places.{paths_rise}
 use Rattle.sd_tree.proofs.Kept.{row_here}
 use Rattle.sd_tree.specs.declared.node.Node.{Node}
@@ -141,14 +139,6 @@ large_found g t q row there large =
 pub large_error : (g : MappingValue) (t : PlainTree) (q : Names) (row : Row) (e : TreeError) → row_at t q ≡ Some row → IsSizeError e (dacl_at g t q) → IsLargeError g t e
 large_error g t q row (Refused r) there h = (h.0, large_found g t q row there h.1)
 large_error g t q row Memory there h = tt
-
--- the parent of a node is there
-pub parent_there : (t : PlainTree) → IsClosed t → (q : Names) (row : Row) → row_at t q ≡ Some row → IsSome (row_at t (up q))
-parent_there t closed q row there = some_of_kind (row_at t (up q)) _ (closed.parents q row there)
-  where
-    some_of_kind : (o : Option Row) (k : NodeKind) → option_map (λ (r : Row). r.kind) o ≡ Some k → IsSome o
-    some_of_kind None k e = absurd cc
-    some_of_kind (Some row) k e = refl
 
 -- what stands at a place has a row
 pub row_there : (bs : List Node) → IsInOrder bs → (q : Names) (at : ℕ) → at < length bs → HoldsAt (λ c. path_of_node c ≡ q) bs at → (row : Row) × (row_at (tree_of bs) q ≡ Some row)

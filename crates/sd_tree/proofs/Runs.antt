@@ -12,7 +12,7 @@ use Rattle.sd_tree.specs.Stored.{path_of_node, end_cmp, IsInOrder}
 use Rattle.sd_path.proofs.Paths.{names_cmp_total, within_itself, within_between}
 use Rattle.sd_tree.proofs.Kept.{a_node}
 use Rattle.sd_tree.proofs.Places.{paths_rise}
-use Rattle.sd_tree.proofs.Sorted.{greater_from_less}
+use Rattle.sd_edit.proofs.Sorted.{greater_from_less}
 use Rattle.sd_tree.specs.declared.node.Node.{Node}
 
 -- behind a node that isn't in the run none is

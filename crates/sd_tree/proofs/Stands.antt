@@ -4,33 +4,33 @@ use Rattle.std.specs.FinMap as finite
 use Rattle.std.specs.FinMap.{entries-insert, len-entries, len-empty, put}
 use Rattle.sd_sid.specs.Mapping.{MappingValue}
 use Rattle.sd_path.specs.Names.{names_cmp}
-use Rattle.sd_tree.specs.Inheritance.{dacl_of_row}
-use Rattle.sd_tree.specs.Limits.{LimitsValue}
-use Rattle.sd_tree.specs.Plain.{PlainTree, row_at, dacl_here, dacl_at}
-use Rattle.sd_tree.specs.Edits.{edited}
+use Rattle.sd_edit.specs.Inheritance.{dacl_of_row}
+use Rattle.sd_edit.specs.Limits.{LimitsValue}
+use Rattle.sd_edit.specs.Plain.{PlainTree, row_at, dacl_here, dacl_at}
+use Rattle.sd_edit.specs.Edits.{edited}
 use Rattle.std.specs.List.{list_any}
 use Rattle.sd_acl.specs.Canonical.{is_inherited, deny_behind_allow}
-use Rattle.sd_tree.specs.Refusals.{first_fit, list_tests, own_entries, refusal_in, dacl_size, has_large_dacl, is_early}
+use Rattle.sd_edit.specs.Refusals.{first_fit, list_tests, own_entries, refusal_in, dacl_size, has_large_dacl, is_early}
 use Rattle.sd_tree.specs.Sizes.{IsSizeError}
-use Rattle.sd_tree.specs.Closed.{IsClosed}
-use Rattle.sd_tree.specs.Journal.{opened, root_row, replay, refusal, root_refusal}
-use Rattle.sd_tree.specs.Answers.{IsError}
+use Rattle.sd_edit.specs.Closed.{IsClosed}
+use Rattle.sd_edit.specs.Journal.{opened, root_row, replay, refusal, root_refusal}
+use Rattle.sd_edit.specs.Answers.{IsError}
 use Rattle.sd_tree.specs.Stored.{entry_of, tree_of, IsWhole, AreNodes, AreStanding, IsStored}
 use Rattle.sd_tree.specs.Plans.{IsPlan, IsPlanned, CanCarryOut, carried}
-use Rattle.sd_tree.specs.declared.node.Row.{Row}
-use Rattle.sd_tree.specs.declared.edit.Edit.{Edit}
-use Rattle.sd_tree.specs.declared.opening.Opening.{Opening}
+use Rattle.sd_edit.specs.declared.node.Row.{Row}
+use Rattle.sd_edit.specs.declared.edit.Edit.{Edit}
+use Rattle.sd_edit.specs.declared.opening.Opening.{Opening}
 use Rattle.sd_tree.specs.declared.plan.Plan.{Plan}
 use Rattle.sd_tree.specs.declared.plan.Plan.TheVariants.{Insert, Set, Remove, Exchange}
-use Rattle.sd_tree.specs.declared.refusal.EditRefusal.{EditRefusal}
-use Rattle.sd_tree.specs.declared.refusal.EditRefusal.TheVariants.{InheritedEntry, NotCanonical, AclTooLarge}
-use Rattle.sd_tree.specs.declared.refusal.TreeError.{TreeError}
-use Rattle.sd_tree.specs.declared.refusal.TreeError.TheVariants.{Refused, Memory}
+use Rattle.sd_edit.specs.declared.refusal.EditRefusal.{EditRefusal}
+use Rattle.sd_edit.specs.declared.refusal.EditRefusal.TheVariants.{InheritedEntry, NotCanonical, AclTooLarge}
+use Rattle.sd_edit.specs.declared.refusal.TreeError.{TreeError}
+use Rattle.sd_edit.specs.declared.refusal.TreeError.TheVariants.{Refused, Memory}
 use Rattle.sd_path.proofs.Paths.{names_cmp_total}
-use Rattle.sd_tree.proofs.Dacls.{dacl_at_root}
-use Rattle.sd_tree.proofs.Rows.{row_at-insert_same}
-use Rattle.sd_tree.proofs.Journals.{replay-none, replay-push, lawful_none, lawful_push}
-use Rattle.sd_tree.proofs.Closed.{closed_replay}
+use Rattle.sd_edit.proofs.Dacls.{dacl_at_root}
+use Rattle.sd_edit.proofs.Rows.{row_at-insert_same}
+use Rattle.sd_edit.proofs.Journals.{replay-none, replay-push, lawful_none, lawful_push}
+use Rattle.sd_edit.proofs.Closed.{closed_replay}
 use Rattle.sd_tree.proofs.CarriedOut.{tree_from_entries, order_from_entries, keys_count, plan_carried}
 use Rattle.sd_tree.proofs.Rebuilding.{large_found}
 use Rattle.sd_tree.proofs.Fitting.{no_large}

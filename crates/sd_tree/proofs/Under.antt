@@ -7,24 +7,24 @@ use Rattle.std.proofs.lemmas.List.{get_or_append_left}
 use Rattle.sd_sid.specs.Mapping.{MappingValue}
 use Rattle.sd_acl.specs.declared.ace.Ace.{Ace}
 use Rattle.sd_path.specs.Names.{Names, up, is_root, is_within}
-use Rattle.sd_tree.specs.Inheritance.{handed_on, dacl_of_row}
-use Rattle.sd_tree.specs.Plain.{PlainTree, row_at, dacl_here, dacl_below, dacl_at}
+use Rattle.sd_edit.specs.Inheritance.{handed_on, dacl_of_row}
+use Rattle.sd_edit.specs.Plain.{PlainTree, row_at, dacl_here, dacl_below, dacl_at}
 use Rattle.sd_tree.specs.Plans.{AreUnder, IsTaken, IsLargeError}
-use Rattle.sd_tree.specs.Refusals.{dacl_size}
+use Rattle.sd_edit.specs.Refusals.{dacl_size}
 use Rattle.sd_tree.specs.Sharing.{AreMadeFor}
 use Rattle.sd_tree.specs.Sizes.{IsSizeError}
 use Rattle.sd_tree.specs.Stored.{path_of_node, IsInOrder, tree_of, AreStanding}
 use Rattle.sd_tree.specs.Node.{behind_own}
 use Rattle.sd_tree.specs.declared.node.Node.{Node}
-use Rattle.sd_tree.specs.declared.node.Row.{Row}
-use Rattle.sd_tree.specs.declared.refusal.TreeError.{TreeError}
+use Rattle.sd_edit.specs.declared.node.Row.{Row}
+use Rattle.sd_edit.specs.declared.refusal.TreeError.{TreeError}
 use Rattle.sd_path.proofs.Paths.{root_is_empty, within-append, within_rest, up-append}
 use Rattle.sd_tree.proofs.Beside.{behind_sibling}
-use Rattle.sd_tree.proofs.Dacls.{dacl_at_up, dacl_at-append, below_up}
+use Rattle.sd_edit.proofs.Dacls.{dacl_at_up, dacl_at-append, below_up}
 use Rattle.sd_tree.proofs.Kept.{row_here}
-use Rattle.sd_tree.proofs.Moved.{below_shift}
+use Rattle.sd_edit.proofs.Moved.{below_shift}
 use Rattle.sd_tree.proofs.Rebuilding.{run_other, run_below_root, parent_place, large_error}
-use Rattle.sd_tree.proofs.NewRow.{size_error}
+use Rattle.sd_tree.proofs.NewNode.{size_error}
 
 -- what stands at a place behind one more element
 more_cases : {X : Type 0} (xs : List X) (x d : X) (k : ℕ) → k < length (xs ++ x ∷ [])

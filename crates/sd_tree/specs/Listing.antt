@@ -3,7 +3,7 @@ use Rattle.sd_acl.specs.Descriptor.{DescriptorValue, descriptor_of}
 use Rattle.sd_acl.specs.declared.descriptor.Descriptor.{Descriptor}
 use Rattle.sd_path.specs.Names.{Names}
 use Rattle.sd_inheritance.specs.declared.kind.NodeKind.{NodeKind}
-use Rattle.sd_tree.specs.declared.node.Row.{Row}
+use Rattle.sd_edit.specs.declared.node.Row.{Row}
 use Rattle.sd_tree.specs.declared.listing.NodeRef.{NodeRef}
 
 -- the path of a lent node, and what stands there

@@ -2,10 +2,10 @@
 use Rattle.std.specs.Prelude.{Bool, false, not, List, ◌++◌, Option, Some, None}
 use Rattle.sd_acl.specs.declared.ace.Ace.{Ace}
 use Rattle.sd_path.specs.Names.{Names}
-use Rattle.sd_tree.specs.Refusals.{own_entries}
-use Rattle.sd_tree.specs.declared.node.NodeDacl.{NodeDacl}
-use Rattle.sd_tree.specs.declared.node.NodeDacl.TheVariants.{Null, List as Entries}
-use Rattle.sd_tree.specs.declared.node.Row.{Row}
+use Rattle.sd_edit.specs.Refusals.{own_entries}
+use Rattle.sd_edit.specs.declared.node.NodeDacl.{NodeDacl}
+use Rattle.sd_edit.specs.declared.node.NodeDacl.TheVariants.{Null, List as Entries}
+use Rattle.sd_edit.specs.declared.node.Row.{Row}
 
 -- a row's own entries, and these behind them
 abbrev pub behind_own : Row → List Ace → List Ace

@@ -1,27 +1,27 @@
 -- What an accepted edit does to the nodes. No public contract says so.
-use Rattle.std.specs.Prelude.{◌≡◌, ◌≢◌, ◌⊎◌, Bool, true, false, ℕ, ◌+◌, ◌<◌, ◌≤◌, List, [], ◌∷◌, ◌++◌, length}
+use Rattle.std.specs.Prelude.{◌≡◌, ◌⊎◌, Bool, true, false, ℕ, ◌+◌, ◌<◌, ◌≤◌, List, [], ◌∷◌, ◌++◌, length}
 use Rattle.std.specs.Prelude.{map, All, slice_index_or, slice_set, None, Some}
 use Rattle.std.specs.List.{AllWithin, insert, remove}
 use Rattle.std.specs.FinMap as finite
 use Rattle.sd_blocks.specs.Runs.{exchanged}
 use Rattle.sd_sid.specs.Mapping.{MappingValue}
 use Rattle.sd_path.specs.Names.{Names, is_within, moved_path}
-use Rattle.sd_tree.specs.Limits.{LimitsValue}
-use Rattle.sd_tree.specs.Plain.{PlainTree, row_at, dacl_below, dacl_at}
-use Rattle.sd_tree.specs.Refusals.{dacl_size, has_large_dacl, late_refusal}
+use Rattle.sd_edit.specs.Limits.{LimitsValue}
+use Rattle.sd_edit.specs.Plain.{PlainTree, row_at, dacl_below, dacl_at}
+use Rattle.sd_edit.specs.Refusals.{dacl_size, has_large_dacl, late_refusal}
 use Rattle.sd_tree.specs.Stored.{path_of_node, entry_of, tree_of, IsWhole}
 use Rattle.sd_tree.specs.declared.node.Node.{Node}
-use Rattle.sd_tree.specs.declared.node.Row.{Row}
+use Rattle.sd_edit.specs.declared.node.Row.{Row}
 use Rattle.sd_tree.specs.declared.node.RowChange.{RowChange}
 use Rattle.sd_tree.specs.declared.node.RowChange.TheVariants.{Owner, Group, Dacl}
-use Rattle.sd_tree.specs.Edits.{edited}
-use Rattle.sd_tree.specs.Journal.{replay, refusal}
-use Rattle.sd_tree.specs.declared.opening.Opening.{Opening}
-use Rattle.sd_tree.specs.declared.edit.Edit.{Edit}
+use Rattle.sd_edit.specs.Edits.{edited}
+use Rattle.sd_edit.specs.Journal.{replay, refusal}
+use Rattle.sd_edit.specs.declared.opening.Opening.{Opening}
+use Rattle.sd_edit.specs.declared.edit.Edit.{Edit}
 use Rattle.sd_tree.specs.declared.plan.Plan.{Plan}
-use Rattle.sd_tree.specs.declared.refusal.TreeError.{TreeError}
-use Rattle.sd_tree.specs.declared.refusal.TreeError.TheVariants.{Refused, Memory}
-use Rattle.sd_tree.specs.declared.refusal.EditRefusal.TheVariants.{AclTooLarge, TooDeep}
+use Rattle.sd_edit.specs.declared.refusal.TreeError.{TreeError}
+use Rattle.sd_edit.specs.declared.refusal.TreeError.TheVariants.{Refused, Memory}
+use Rattle.sd_edit.specs.declared.refusal.EditRefusal.TheVariants.{AclTooLarge, TooDeep}
 use Rattle.sd_tree.specs.declared.plan.Plan.TheVariants.{Insert, Set, Remove, Exchange}
 
 -- ---- a node that stays where it is
@@ -37,10 +37,6 @@ abbrev pub is_of_trustee : RowChange → Bool
 is_of_trustee (Owner owner) = true
 is_of_trustee (Group group) = true
 is_of_trustee (Dacl dacl) = false
-
--- from the one tree to the other no DACL changes but the path's
-abbrev pub ChangesOneNode : MappingValue → PlainTree → PlainTree → Names → Type 0
-ChangesOneNode g before after path = (other : Names) → other ≢ path → dacl_at g after other ≡ dacl_at g before other
 
 -- ---- the plan for an edit that makes `after` of `before`, by the places of the paths
 

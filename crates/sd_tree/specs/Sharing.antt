@@ -7,10 +7,10 @@ use Rattle.sd_sid.specs.Sid.{same_sid}
 use Rattle.sd_acl.specs.declared.ace.Ace.{Ace}
 use Rattle.sd_path.specs.Names.{Names, up, is_root}
 use Rattle.sd_inheritance.specs.Inheritance.{creator_owner, creator_group}
-use Rattle.sd_tree.specs.Inheritance.{handed_on}
+use Rattle.sd_edit.specs.Inheritance.{handed_on}
 use Rattle.sd_tree.specs.Stored.{path_of_node}
 use Rattle.sd_tree.specs.Node.{behind_own, inherits}
-use Rattle.sd_tree.specs.declared.node.Row.{Row}
+use Rattle.sd_edit.specs.declared.node.Row.{Row}
 use Rattle.sd_tree.specs.declared.node.Node.{Node}
 
 -- the entry is for CREATOR OWNER or CREATOR GROUP

@@ -5,14 +5,14 @@ use Rattle.std.specs.declared.cmp.Ordering.{Ordering}
 use Rattle.std.specs.declared.cmp.Ordering.TheVariants.{Less}
 use Rattle.sd_sid.specs.Mapping.{MappingValue}
 use Rattle.sd_path.specs.Names.{Names, names_cmp, is_within}
-use Rattle.sd_tree.specs.Plain.{PlainTree, row_at, dacl_at}
-use Rattle.sd_tree.specs.Refusals.{dacl_size}
-use Rattle.sd_tree.specs.Closed.{IsClosed}
-use Rattle.sd_tree.specs.Journal.{replay, root_refusal, IsLawful}
-use Rattle.sd_tree.specs.declared.opening.Opening.{Opening}
-use Rattle.sd_tree.specs.declared.edit.Edit.{Edit}
+use Rattle.sd_edit.specs.Plain.{PlainTree, row_at, dacl_at}
+use Rattle.sd_edit.specs.Refusals.{dacl_size}
+use Rattle.sd_edit.specs.Closed.{IsClosed}
+use Rattle.sd_edit.specs.Journal.{replay, root_refusal, IsLawful}
+use Rattle.sd_edit.specs.declared.opening.Opening.{Opening}
+use Rattle.sd_edit.specs.declared.edit.Edit.{Edit}
 use Rattle.sd_tree.specs.declared.journal.Edits.{Edits}
-use Rattle.sd_tree.specs.declared.node.Row.{Row}
+use Rattle.sd_edit.specs.declared.node.Row.{Row}
 use Rattle.sd_tree.specs.declared.node.Node.{Node}
 
 abbrev pub path_of_node : Node → Names

@@ -1,5 +1,5 @@
 -- The nodes of a tree, as an edit is judged and planned by them. No public contract says so.
-use Rattle.sd_tree.specs.Plain.{PlainTree}
+use Rattle.sd_edit.specs.Plain.{PlainTree}
 use Rattle.sd_tree.specs.Stored.{AreStanding, tree_of}
 use Rattle.sd_tree.specs.declared.tree_view.TreeView.{TreeView}
 

@@ -1,11 +1,11 @@
 //! Edits that would add nodes.
 
 ghost use Rattle.std.specs.Prelude.{◌≡◌, true, IfOk};
-ghost use Rattle.sd_tree.specs.Additions.{added, is_addition};
+ghost use Rattle.sd_edit.specs.Additions.{added, is_addition};
 
-use crate::edit::Edit;
-use crate::node::{Row, RowRef};
+use crate::node::RowRef;
 use crate::shared::Shared;
+use sd_edit::{Edit, Row};
 use sd_inheritance::NodeKind;
 use sd_path::Path;
 use std::alloc::{AllocError, Global};
@@ -20,7 +20,7 @@ pub(crate) struct Addition {
 
 impl Model for Addition {
     ghost use Rattle.std.specs.Prelude.{◌≡◌, true};
-    ghost use Rattle.sd_tree.specs.Additions.{AdditionValue, added, is_addition};
+    ghost use Rattle.sd_edit.specs.Additions.{AdditionValue, added, is_addition};
 
     ghost Value = { AdditionValue };
 

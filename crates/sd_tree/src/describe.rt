@@ -3,11 +3,12 @@
 ghost use Rattle.std.specs.Prelude.{◌≡◌, ◌≤◌, IfOk};
 ghost use Rattle.sd_acl.specs.Ace.{acl_size_of};
 ghost use Rattle.sd_acl.specs.Descriptor.{descriptor_of};
-ghost use Rattle.sd_tree.specs.Descriptors.{is_protected, descriptor_of_row, own_descriptor_of_row, own_list};
-ghost use Rattle.sd_tree.specs.Refusals.{own_entries};
+ghost use Rattle.sd_edit.specs.Descriptors.{is_protected, descriptor_of_row, own_descriptor_of_row, own_list};
+ghost use Rattle.sd_edit.specs.Refusals.{own_entries};
 
-use crate::node::{Node, NodeDacl, RowRef};
+use crate::node::{Node, RowRef};
 use sd_acl::{Ace, AceList, Dacl, Descriptor};
+use sd_edit::NodeDacl;
 use std::alloc::{AllocError, Global};
 
 /// The descriptor of a node. Control bit DI says that a list was inherited automatically ([MS-DTYP] 2.4.6).

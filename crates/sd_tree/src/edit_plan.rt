@@ -4,23 +4,22 @@ ghost use Rattle.std.specs.Prelude.{◌≡◌, ◌<◌, ◌≤◌, length, false
 ghost use Rattle.std.specs.List.{HoldsAt};
 ghost use Rattle.std.specs.FinMap.{insert, remove};
 ghost use Rattle.sd_path.specs.Names.{is_root};
-ghost use Rattle.sd_tree.specs.Plain.{row_at, dacl_at};
-ghost use Rattle.sd_tree.specs.Closed.{IsAddable};
-ghost use Rattle.sd_tree.specs.Edits.{changed, edited, keeping};
-ghost use Rattle.sd_tree.specs.Refusals.{dacl_size, early_refusal, has_child, moves_too_deep};
+ghost use Rattle.sd_edit.specs.Plain.{row_at, dacl_at};
+ghost use Rattle.sd_edit.specs.Closed.{IsAddable};
+ghost use Rattle.sd_edit.specs.Edits.{changed, edited, keeping, ChangesOneNode};
+ghost use Rattle.sd_edit.specs.Refusals.{dacl_size, early_refusal, has_child, moves_too_deep};
 ghost use Rattle.sd_tree.specs.Stored.{path_of_node, IsNodeAt};
 ghost use Rattle.sd_tree.specs.View.{IsView, tree_in};
-ghost use Rattle.sd_tree.specs.Plans.{IsPlan, IsLargeError, IsLateError, ChangesOneNode, changed_row};
+ghost use Rattle.sd_tree.specs.Plans.{IsPlan, IsLargeError, IsLateError, changed_row};
 
 use crate::addition::Addition;
-use crate::edit::Edit;
 use crate::keep::kept_dacl;
-use crate::node::{Node, Row, RowChange};
+use crate::node::{Node, RowChange};
 use crate::nodes::locate;
 use crate::plan::Plan;
-use crate::refusal::TreeError;
 use crate::shared::Shared;
 use crate::tree_view::TreeView;
+use sd_edit::{Edit, Row, TreeError};
 use sd_path::Path;
 
 impl TreeView<'_> {

@@ -1,13 +1,13 @@
 //! What a node inherits ([MS-DTYP] 2.5.3.4).
 
 ghost use Rattle.std.specs.Prelude.{◌≡◌, [], IfOk};
-ghost use Rattle.sd_tree.specs.Inheritance.{handed_on, dacl_of_row};
+ghost use Rattle.sd_edit.specs.Inheritance.{handed_on, dacl_of_row};
 ghost use Rattle.sd_tree.specs.Node.{whole_with};
 
-use crate::entries::Entries;
 use crate::node::{Node, RowRef};
 use crate::shared::Shared;
 use crate::sharing::inherits;
+use sd_edit::Entries;
 use sd_inheritance::{Heir, hand_on};
 use sd_sid::GenericMapping;
 use std::alloc::{AllocError, Global};

@@ -4,9 +4,9 @@ ghost use Rattle.std.specs.Prelude.{◌≡◌, ◌<◌, ◌≤◌, [], length, I
 ghost use Rattle.std.specs.Option.{option_copied};
 ghost use Rattle.sd_tree.specs.Stored.{edits_in};
 
-use crate::edit::Edit;
 use crate::shared::Shared;
 use sd_blocks::Blocks;
+use sd_edit::Edit;
 use std::alloc::{AllocError, Global};
 use std::marker::Model;
 
@@ -74,7 +74,7 @@ pub struct Journal<'a> {
 impl<'a> Model for Journal<'a> {
     ghost use Rattle.std.specs.Prelude.{List};
     ghost use Rattle.sd_tree.specs.Stored.{edits_in};
-    ghost use Rattle.sd_tree.specs.declared.edit.Edit.{Edit};
+    ghost use Rattle.sd_edit.specs.declared.edit.Edit.{Edit};
 
     ghost Value = { List Edit };
 

@@ -3,28 +3,26 @@
 ghost use Rattle.std.specs.Prelude.{◌≡◌, ◌<◌, length, false, None, ◌++◌, ◌∷◌, [], nat_lt, nat_le, IfOk, IfErr};
 ghost use Rattle.std.specs.List.{HoldsAt};
 ghost use Rattle.std.specs.FinMap.{len};
-ghost use Rattle.sd_tree.specs.Answers.{kind_at, IsError};
-ghost use Rattle.sd_tree.specs.Edits.{edited};
+ghost use Rattle.sd_edit.specs.Answers.{kind_at, IsError};
+ghost use Rattle.sd_edit.specs.Edits.{edited};
 ghost use Rattle.sd_path.specs.Names.{is_root};
 ghost use Rattle.sd_tree.specs.Plans.{IsPlan};
-ghost use Rattle.sd_tree.specs.Refusals.{early_refusal, first_fit, place_tests, addition_tests, move_tests};
-ghost use Rattle.sd_tree.specs.Refusals.{moves_too_deep, node_tests, room_tests, has_child, refusal_in};
+ghost use Rattle.sd_edit.specs.Refusals.{early_refusal, first_fit, place_tests, addition_tests, move_tests};
+ghost use Rattle.sd_edit.specs.Refusals.{moves_too_deep, node_tests, room_tests, has_child, refusal_in};
 ghost use Rattle.sd_tree.specs.Stored.{path_of_node};
 ghost use Rattle.sd_tree.specs.View.{IsView, tree_in};
-ghost use Rattle.sd_tree.specs.declared.refusal.EditRefusal.TheVariants.{NotEmpty, IsRoot, TooDeep, NodesFull};
-ghost use Rattle.sd_tree.specs.declared.refusal.EditRefusal.TheVariants.{JournalFull};
+ghost use Rattle.sd_edit.specs.declared.refusal.EditRefusal.TheVariants.{NotEmpty, IsRoot, TooDeep, NodesFull};
+ghost use Rattle.sd_edit.specs.declared.refusal.EditRefusal.TheVariants.{JournalFull};
 
-use crate::edit::Edit;
-use crate::limits::Limits;
 use crate::list_tests::list_refusal;
-use crate::node::NodeDacl;
 use crate::nodes::{locate, node_at};
 use crate::plan::Plan;
-use crate::refusal::{EditRefusal, TreeError};
 use crate::shared::Shared;
 use crate::tree_view::TreeView;
+use sd_edit::{Edit, EditRefusal, Limits, NodeDacl, TreeError};
 use sd_inheritance::NodeKind;
 use sd_path::{Path, PathRef};
+use std::alloc::{AllocError, Global};
 
 /// The most names of a node's path, a choice of this profile: it bounds how many levels down an edit reaches.
 pub(crate) const MAX_DEPTH: u64 = 64;
@@ -212,11 +210,18 @@ impl TreeView<'_> {
         if let Some(refusal) = self.early_refusal(edit) {
             return Err(TreeError::Refused(refusal));
         }
-        let edit = edit.shared(self.alloc)?;
+        let edit = shared_edit(self.alloc, edit)?;
         let plan = self.plan(&edit)?;
         match self.limit_refusal(edit.get(), edits, limits) {
             Some(refusal) => Err(TreeError::Refused(refusal)),
             None => Ok((edit, plan)),
         }
     }
+}
+
+/// An equal edit, for its first holder.
+fn shared_edit(alloc: Global, edit: &Edit) -> Result<Shared<Edit>, AllocError>
+    ensures { IfOk result (λ shared. shared ≡ edit.now) }
+{
+    Shared::new(alloc, edit.copy(alloc)?)
 }

@@ -1,12 +1,12 @@
 //! What a node keeps when it is protected.
 
 ghost use Rattle.std.specs.Prelude.{◌≡◌, IfOk, MatchOption, option_map};
-ghost use Rattle.sd_tree.specs.Edits.{kept_dacl, keeping};
-ghost use Rattle.sd_tree.specs.declared.node.Row.{Row};
+ghost use Rattle.sd_edit.specs.Edits.{kept_dacl, keeping};
+ghost use Rattle.sd_edit.specs.declared.node.Row.{Row};
 
-use crate::entries::Entries;
-use crate::node::{Node, NodeDacl};
+use crate::node::Node;
 use sd_acl::{canonicalize, explicit_of};
+use sd_edit::{Entries, NodeDacl};
 use std::alloc::{AllocError, Global};
 
 /// The DACL that a node gets as its own when it is protected and keeps what it had inherited:

@@ -15,22 +15,17 @@
 
 mod addition;
 mod describe;
-mod edit;
 mod edit_plan;
-mod entries;
 mod inherit;
 mod journal;
 mod judging;
 mod keep;
-mod limits;
 mod list_tests;
 mod listing;
 mod moving;
 mod node;
 mod nodes;
-mod opening;
 mod plan;
-mod refusal;
 mod shared;
 mod sharing;
 mod siblings;
@@ -38,15 +33,13 @@ mod subtree;
 mod tree;
 mod tree_view;
 
-pub use edit::Edit;
-pub use entries::{Entries, same_entries};
 pub use journal::Journal;
-pub use limits::{Limits, LimitsError};
 pub use listing::NodeRef;
-pub use node::NodeDacl;
-pub use opening::{Opening, RootSpec};
-pub use refusal::{EditRefusal, TreeError};
+pub use sd_edit::{
+    CheckReply, Edit, EditRefusal, Entries, Limits, LimitsError, NodeDacl, Opening, RootSpec,
+    TreeError, same_entries,
+};
 pub use sd_inheritance::NodeKind;
 pub use sd_path::{Name, Path, PathError};
 pub use shared::Shared;
-pub use tree::{CheckReply, Tree};
+pub use tree::Tree;

@@ -3,11 +3,10 @@
 ghost use Rattle.std.specs.Prelude.{◌≡◌};
 ghost use Rattle.std.specs.List.{list_any};
 ghost use Rattle.sd_acl.specs.Canonical.{is_inherited};
-ghost use Rattle.sd_tree.specs.Refusals.{first_fit, list_tests};
+ghost use Rattle.sd_edit.specs.Refusals.{first_fit, list_tests};
 
-use crate::node::NodeDacl;
-use crate::refusal::EditRefusal;
 use sd_acl::{Ace, denies_stand_first};
+use sd_edit::{EditRefusal, NodeDacl};
 
 /// Why the DACL can't be given to a node, if it can't: an entry of its list is marked as inherited, or else a deny
 /// stands behind an allow ([MS-DTYP] 2.4.4.1, INHERITED_ACE, and 2.4.5). Takes no memory.

@@ -2,16 +2,16 @@
 
 ghost use Rattle.std.specs.Prelude.{◌≡◌, IfErr, IfOk, IsSome, option_map, slice_get};
 ghost use Rattle.std.specs.FinMap.{entries, len};
-ghost use Rattle.sd_tree.specs.Answers.{given_at};
-ghost use Rattle.sd_tree.specs.Journal.{replay};
+ghost use Rattle.sd_edit.specs.Answers.{given_at};
+ghost use Rattle.sd_edit.specs.Journal.{replay};
 ghost use Rattle.sd_tree.specs.Listing.{given_of, listed};
-ghost use Rattle.sd_tree.specs.Plain.{row_at};
+ghost use Rattle.sd_edit.specs.Plain.{row_at};
 
 use crate::describe::own_descriptor_of_row;
-use crate::node::NodeDacl;
 use crate::nodes::{node_at, node_in};
 use crate::tree::Tree;
 use sd_acl::Descriptor;
+use sd_edit::NodeDacl;
 use sd_inheritance::NodeKind;
 use sd_path::Path;
 use sd_sid::{GenericMapping, Sid};

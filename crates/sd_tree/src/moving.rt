@@ -2,20 +2,20 @@
 
 ghost use Rattle.std.specs.Prelude.{◌≡◌, ◌≤◌, false, true, length, map, All, OnOk, IfOk, IfErr};
 ghost use Rattle.sd_path.specs.Names.{is_within, moved_path};
-ghost use Rattle.sd_tree.specs.Closed.{IsMovable};
-ghost use Rattle.sd_tree.specs.Edits.{moved};
+ghost use Rattle.sd_edit.specs.Closed.{IsMovable};
+ghost use Rattle.sd_edit.specs.Edits.{moved};
 ghost use Rattle.sd_tree.specs.Plans.{IsPlan, IsLateError, IsDepthError, relocated};
-ghost use Rattle.sd_tree.specs.Refusals.{moves_too_deep};
+ghost use Rattle.sd_edit.specs.Refusals.{moves_too_deep};
 ghost use Rattle.sd_tree.specs.View.{IsView, tree_in};
-ghost use Rattle.sd_tree.specs.declared.edit.Edit.TheVariants.{Move};
+ghost use Rattle.sd_edit.specs.declared.edit.Edit.TheVariants.{Move};
 ghost use Rattle.sd_tree.specs.declared.node.Node.{Node};
 
 use crate::judging::MAX_DEPTH;
 use crate::node::Node;
 use crate::nodes::locate;
 use crate::plan::Plan;
-use crate::refusal::{EditRefusal, TreeError};
 use crate::tree_view::TreeView;
+use sd_edit::{EditRefusal, TreeError};
 use sd_path::{Path, PathRef};
 use std::alloc::Global;
 

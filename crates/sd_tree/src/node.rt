@@ -1,75 +1,23 @@
 //! What stands at a path.
 
 ghost use Rattle.std.specs.Prelude.{◌≡◌, ◌++◌, ◌≤◌, None, Some, MatchOption, IfOk, IfErr};
-ghost use Rattle.sd_tree.specs.Descriptors.{own_dacl};
 ghost use Rattle.sd_tree.specs.Plans.{changed_row, is_of_trustee};
-ghost use Rattle.sd_tree.specs.Refusals.{dacl_size};
+ghost use Rattle.sd_edit.specs.Refusals.{dacl_size};
 ghost use Rattle.sd_tree.specs.Sizes.{IsSizeError};
 ghost use Rattle.sd_tree.specs.Node.{whole_with};
 
 use crate::addition::Addition;
-use crate::entries::Entries;
-use crate::refusal::{EditRefusal, TreeError};
 use crate::shared::Shared;
-use sd_acl::{ACL_HEADER_BYTES, Ace, Dacl, Descriptor, MAX_ACL_BYTES};
+use sd_acl::{ACL_HEADER_BYTES, Ace, MAX_ACL_BYTES};
 use sd_blocks::TryCopy;
+use sd_edit::{EditRefusal, Entries, NodeDacl, Row, TreeError};
 use sd_inheritance::NodeKind;
 use sd_path::{Path, PathRef};
 use sd_sid::Sid;
 use std::alloc::{AllocError, Global};
 use std::marker::Model;
 
-/// The DACL that is given to a node, without what it inherits ([MS-DTYP] 2.4.6).
-#[derive(Debug, Drop)]
-pub enum NodeDacl {
-    /// A null one: everything is granted, and nothing is inherited or handed on.
-    Null,
-    /// Its own entries; where it is protected (control bit PD), nothing is inherited.
-    List { protected: bool, entries: Entries },
-}
-
-impl NodeDacl {
-    /// The one that a descriptor gives a node ([MS-DTYP] 2.4.6): an absent DACL is an empty list that isn't protected.
-    pub fn of_descriptor(alloc: Global, descriptor: &Descriptor) -> Result<NodeDacl, AllocError>
-        ensures { IfOk result (λ given. given ≡ own_dacl descriptor.now.protected descriptor.now.dacl) }
-    {
-        match &descriptor.dacl {
-            Dacl::Absent => Ok(NodeDacl::List {
-                protected: false,
-                entries: Entries::new(Vec::new(alloc)),
-            }),
-            Dacl::Null => Ok(NodeDacl::Null),
-            Dacl::List(list) => Ok(NodeDacl::List {
-                protected: descriptor.protected,
-                entries: Entries::new(Vec::from_slice(alloc, list.entries())?),
-            }),
-        }
-    }
-
-    /// An equal one.
-    pub fn copy(&self, alloc: Global) -> Result<NodeDacl, AllocError>
-        ensures { IfOk result (λ dacl. dacl ≡ self.now) }
-    {
-        match self {
-            NodeDacl::Null => Ok(NodeDacl::Null),
-            NodeDacl::List { protected, entries } => Ok(NodeDacl::List {
-                protected: *protected,
-                entries: entries.copy(alloc)?,
-            }),
-        }
-    }
-}
-
-/// A node without its path and without what it inherits. It is public for the definitions of other crates alone.
-#[derive(Debug, Drop)]
-pub struct Row {
-    pub kind: NodeKind,
-    pub owner: Sid,
-    pub group: Sid,
-    pub dacl: NodeDacl,
-}
-
-/// The same, borrowed. Contracts see the row.
+/// A row, borrowed. Contracts see the row.
 #[derive(Drop)]
 pub(crate) struct RowRef<'a> {
     pub kind: NodeKind,
@@ -79,7 +27,7 @@ pub(crate) struct RowRef<'a> {
 }
 
 impl<'a> Model for RowRef<'a> {
-    ghost use Rattle.sd_tree.specs.declared.node.Row.{Row};
+    ghost use Rattle.sd_edit.specs.declared.node.Row.{Row};
 
     ghost Value = { Row };
 
@@ -156,7 +104,7 @@ pub(crate) struct Node {
 
 impl Model for Node {
     ghost use Rattle.std.specs.Prelude.{◌≤◌};
-    ghost use Rattle.sd_tree.specs.Refusals.{dacl_size};
+    ghost use Rattle.sd_edit.specs.Refusals.{dacl_size};
     ghost use Rattle.sd_tree.specs.Node.{NodeValue, whole_with};
 
     ghost Value = { NodeValue };

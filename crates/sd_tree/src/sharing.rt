@@ -5,9 +5,9 @@ ghost use Rattle.std.specs.List.{list_any};
 ghost use Rattle.sd_tree.specs.Sharing.{names_creator, trustees_matter, AreAlike};
 ghost use Rattle.sd_tree.specs.Node.{inherits};
 
-use crate::entries::same_entries;
-use crate::node::{Node, NodeDacl, RowRef};
+use crate::node::{Node, RowRef};
 use sd_acl::Ace;
+use sd_edit::{NodeDacl, same_entries};
 use sd_inheritance::{is_creator_group, is_creator_owner};
 
 /// Whether a node with this DACL inherits: it is neither null nor protected.

@@ -3,10 +3,10 @@
 ghost use Rattle.std.specs.Prelude.{◌≡◌, ◌-◌, ◌≤◌, ◌<◌, length, slice_index_or, true, false, OnOk, IfOk, IfErr};
 ghost use Rattle.std.specs.List.{HoldsAt, AllWithin};
 ghost use Rattle.sd_path.specs.Names.{Names, is_within};
-ghost use Rattle.sd_tree.specs.Inheritance.{dacl_of_row};
-ghost use Rattle.sd_tree.specs.Plain.{PlainTree};
+ghost use Rattle.sd_edit.specs.Inheritance.{dacl_of_row};
+ghost use Rattle.sd_edit.specs.Plain.{PlainTree};
 ghost use Rattle.sd_tree.specs.Plans.{AreUnder, IsLargeError, IsRunBelow, IsTaken};
-ghost use Rattle.sd_tree.specs.Refusals.{dacl_size};
+ghost use Rattle.sd_edit.specs.Refusals.{dacl_size};
 ghost use Rattle.sd_tree.specs.Sharing.{AreMadeFor};
 ghost use Rattle.sd_tree.specs.Sizes.{IsSizeError};
 ghost use Rattle.sd_tree.specs.Stored.{path_of_node};
@@ -16,10 +16,10 @@ ghost use Rattle.sd_tree.specs.declared.node.Node.{Node};
 use crate::inherit::inherited_below;
 use crate::node::Node;
 use crate::nodes::Walk;
-use crate::refusal::TreeError;
 use crate::sharing::have_one_dacl;
 use crate::tree_view::TreeView;
 use sd_blocks::{Sought, TryCopy};
+use sd_edit::TreeError;
 use sd_path::PathRef;
 use std::cmp::Ordering;
 

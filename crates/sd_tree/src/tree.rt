@@ -3,46 +3,34 @@
 ghost use Rattle.std.specs.Prelude.{◌≡◌, ◌≤◌, [], ◌∷◌, ◌++◌, length, None, false, OnOk, OnErr, IfOk, IfErr, IsSome};
 ghost use Rattle.std.specs.Prelude.{MatchResult, option_map};
 ghost use Rattle.sd_acl.specs.Descriptor.{descriptor_of};
-ghost use Rattle.sd_tree.specs.Answers.{answer, kind_at, descriptor_at, IsError};
-ghost use Rattle.sd_tree.specs.Journal.{opening_of, opening_within, root_row, replay, refusal, root_refusal, IsLawful};
-ghost use Rattle.sd_tree.specs.Plain.{row_at};
+ghost use Rattle.sd_edit.specs.Answers.{answer, kind_at, descriptor_at, IsError};
+ghost use Rattle.sd_edit.specs.Journal.{opening_of, opening_within, root_row, replay, refusal, root_refusal, IsLawful};
+ghost use Rattle.sd_edit.specs.Plain.{row_at};
 ghost use Rattle.sd_tree.specs.Plans.{IsPlanned};
-ghost use Rattle.sd_tree.specs.Refusals.{is_early, dacl_size};
-ghost use Rattle.sd_tree.specs.Inheritance.{dacl_of_row};
+ghost use Rattle.sd_edit.specs.Refusals.{is_early, dacl_size};
+ghost use Rattle.sd_edit.specs.Inheritance.{dacl_of_row};
 ghost use Rattle.sd_tree.specs.Sizes.{IsSizeError};
 ghost use Rattle.sd_tree.specs.View.{IsView, tree_in};
 
 use crate::addition::Addition;
 use crate::describe::descriptor_of_node;
-use crate::edit::Edit;
 use crate::inherit::nothing;
 use crate::journal::{Edits, Journal};
-use crate::limits::Limits;
 use crate::list_tests::list_refusal;
-use crate::node::{Node, Row};
+use crate::node::Node;
 use crate::nodes::node_at;
-use crate::opening::{Opening, RootSpec};
 use crate::plan::{Plan, carry_out};
-use crate::refusal::{EditRefusal, TreeError};
 use crate::shared::Shared;
 use crate::tree_view::TreeView;
 use sd_acl::Descriptor;
 use sd_blocks::Blocks;
 use sd_check::{DaclRef, Token, Verdict, check_joined, check_parts};
+use sd_edit::{CheckReply, Edit, EditRefusal, Limits, Opening, RootSpec, Row, TreeError};
 use sd_inheritance::NodeKind;
 use sd_path::Path;
 use sd_sid::{GenericMapping, Mask};
 use std::alloc::{AllocError, Global};
 use std::marker::Model;
-
-/// What a check of a path answers.
-#[derive(Clone, Copy, Debug, PartialEq, Eq)]
-pub enum CheckReply {
-    /// The verdict for the node there ([MS-DTYP] 2.5.3.2).
-    Verdict(Verdict),
-    /// No node stands there.
-    NoNode,
-}
 
 /// A tree of securable nodes: its opening, the journal of the edits that it accepted, and what they make of it.
 /// Contracts see the opening and the journal.
@@ -55,7 +43,7 @@ pub struct Tree {
 }
 
 impl Model for Tree {
-    ghost use Rattle.sd_tree.specs.Journal.{TreeValue};
+    ghost use Rattle.sd_edit.specs.Journal.{TreeValue};
     ghost use Rattle.sd_tree.specs.Stored.{IsStored, edits_in};
 
     ghost Value = { TreeValue };

@@ -4,18 +4,18 @@ ghost use Rattle.std.specs.Prelude.{◌≡◌, ◌≤◌, ◌<◌, length, slice
 ghost use Rattle.std.specs.List.{HoldsAt};
 ghost use Rattle.std.specs.FinMap.{insert};
 ghost use Rattle.sd_path.specs.Names.{is_root, up};
-ghost use Rattle.sd_tree.specs.Plain.{row_at, dacl_at};
+ghost use Rattle.sd_edit.specs.Plain.{row_at, dacl_at};
 ghost use Rattle.sd_tree.specs.Stored.{path_of_node};
 ghost use Rattle.sd_tree.specs.View.{IsView, tree_in};
 ghost use Rattle.sd_tree.specs.Node.{whole_with};
 ghost use Rattle.sd_tree.specs.declared.node.Node.{Node};
 
-use crate::entries::Entries;
 use crate::inherit::{inherited_below, nothing};
 use crate::node::{Node, RowRef};
 use crate::nodes::{locate, node_in};
 use crate::shared::Shared;
 use sd_blocks::Blocks;
+use sd_edit::Entries;
 use sd_path::PathRef;
 use sd_sid::GenericMapping;
 use std::alloc::{AllocError, Global};

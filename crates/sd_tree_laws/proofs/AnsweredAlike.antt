@@ -2,15 +2,15 @@
 use Rattle.std.proofs.Common.{◌≡◌, ◌≢◌, ℕ, Bool, true, false, cond, List, [], ◌∷◌, ◌++◌, length, Option, Some, None, refl, ap, ◌∙◌, nat_le}
 use Rattle.std.specs.Option.{option_or}
 use Rattle.sd_sid.specs.Mapping.{MappingValue}
-use Rattle.sd_tree.specs.Limits.{LimitsValue}
-use Rattle.sd_tree.specs.Plain.{PlainTree}
-use Rattle.sd_tree.specs.Answers.{kind_at, descriptor_at, reply_in}
-use Rattle.sd_tree.specs.Edits.{edited}
-use Rattle.sd_tree.specs.Journal.{replay, refusal}
-use Rattle.sd_tree.specs.Refusals.{first_fit, early_refusal, room_tests, has_large_dacl, refusal_in}
-use Rattle.sd_tree.specs.declared.edit.Edit.{Edit}
-use Rattle.sd_tree.specs.declared.refusal.EditRefusal.{EditRefusal}
-use Rattle.sd_tree.specs.declared.refusal.EditRefusal.TheVariants.{AclTooLarge, JournalFull}
+use Rattle.sd_edit.specs.Limits.{LimitsValue}
+use Rattle.sd_edit.specs.Plain.{PlainTree}
+use Rattle.sd_edit.specs.Answers.{kind_at, descriptor_at, reply_in}
+use Rattle.sd_edit.specs.Edits.{edited}
+use Rattle.sd_edit.specs.Journal.{replay, refusal}
+use Rattle.sd_edit.specs.Refusals.{first_fit, early_refusal, room_tests, has_large_dacl, refusal_in}
+use Rattle.sd_edit.specs.declared.edit.Edit.{Edit}
+use Rattle.sd_edit.specs.declared.refusal.EditRefusal.{EditRefusal}
+use Rattle.sd_edit.specs.declared.refusal.EditRefusal.TheVariants.{AclTooLarge, JournalFull}
 use Rattle.sd_tree_laws.specs.Laws.{SameTreeAnswersAlike}
 
 -- a last test, which fits or not, where what it tells isn't told

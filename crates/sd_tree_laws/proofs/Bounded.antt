@@ -10,20 +10,20 @@ use Rattle.std.proofs.lemmas.List.{length-map}
 use Rattle.sd_sid.specs.Mapping.{MappingValue}
 use Rattle.sd_path.specs.Names.{Names, names_cmp, is_within, moved_path}
 use Rattle.sd_path.proofs.Paths.{names_cmp_total, moved_path-outside}
-use Rattle.sd_tree.specs.Limits.{LimitsValue}
-use Rattle.sd_tree.specs.Plain.{PlainTree, row_at, dacl_at}
-use Rattle.sd_tree.specs.Edits.{keeping, changed_where, changed, edited, moved_entry, moved}
-use Rattle.sd_tree.specs.Journal.{opened, edited_by, root_row, replay, root_refusal, IsLawful}
-use Rattle.sd_tree.specs.Refusals.{list_tests, has_large_dacl, late_refusal, late_tests, goes_too_deep}
-use Rattle.sd_tree.specs.declared.node.Row.{Row}
-use Rattle.sd_tree.specs.declared.opening.Opening.{Opening}
-use Rattle.sd_tree.specs.declared.refusal.EditRefusal.TheVariants.{AclTooLarge}
-use Rattle.sd_tree.specs.declared.edit.Edit.{Edit}
-use Rattle.sd_tree.specs.declared.edit.Edit.TheVariants.{AddContainer, AddObject, SetOwner, SetGroup, SetDacl, Remove, Move, ProtectKeeping}
-use Rattle.sd_tree.proofs.Rows.{same_or_other, one_path, row_at-empty, row_at-insert_other, row_at-remove_same, row_at-remove_other, row_at-changed_same, row_at-changed_other}
-use Rattle.sd_tree.proofs.Moved.{entry_there, row_at-moved}
-use Rattle.sd_tree.proofs.Refused.{none_fits, not_refused}
-use Rattle.sd_tree.proofs.Journals.{holds_of_lawful}
+use Rattle.sd_edit.specs.Limits.{LimitsValue}
+use Rattle.sd_edit.specs.Plain.{PlainTree, row_at, dacl_at}
+use Rattle.sd_edit.specs.Edits.{keeping, changed_where, changed, edited, moved_entry, moved}
+use Rattle.sd_edit.specs.Journal.{opened, edited_by, root_row, replay, root_refusal, IsLawful}
+use Rattle.sd_edit.specs.Refusals.{list_tests, has_large_dacl, late_refusal, late_tests, goes_too_deep}
+use Rattle.sd_edit.specs.declared.node.Row.{Row}
+use Rattle.sd_edit.specs.declared.opening.Opening.{Opening}
+use Rattle.sd_edit.specs.declared.refusal.EditRefusal.TheVariants.{AclTooLarge}
+use Rattle.sd_edit.specs.declared.edit.Edit.{Edit}
+use Rattle.sd_edit.specs.declared.edit.Edit.TheVariants.{AddContainer, AddObject, SetOwner, SetGroup, SetDacl, Remove, Move, ProtectKeeping}
+use Rattle.sd_edit.proofs.Rows.{same_or_other, one_path, row_at-empty, row_at-insert_other, row_at-remove_same, row_at-remove_other, row_at-changed_same, row_at-changed_other}
+use Rattle.sd_edit.proofs.Moved.{entry_there, row_at-moved}
+use Rattle.sd_edit.proofs.Refused.{none_fits, not_refused}
+use Rattle.sd_edit.proofs.Journals.{holds_of_lawful}
 use Rattle.sd_tree_laws.proofs.Fronts.{Entry, few_entries}
 
 -- ---- the names of a path

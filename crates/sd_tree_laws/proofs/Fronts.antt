@@ -10,8 +10,8 @@ use Rattle.std.specs.declared.cmp.Ordering.TheVariants.{Less, Equal, Greater}
 use Rattle.std.proofs.lemmas.Bool.{false≢true}
 use Rattle.sd_path.specs.Names.{Names, names_cmp}
 use Rattle.sd_path.proofs.Paths.{names_cmp_total}
-use Rattle.sd_tree.specs.declared.node.Row.{Row}
-use Rattle.sd_tree.proofs.Rows.{one_path, path_itself}
+use Rattle.sd_edit.specs.declared.node.Row.{Row}
+use Rattle.sd_edit.proofs.Rows.{one_path, path_itself}
 
 abbrev pub Entry : Type 0
 Entry = Names × Row

@@ -7,13 +7,13 @@ use Rattle.sd_acl.specs.Canonical.{canonical_order, explicit_entries}
 use Rattle.sd_acl.specs.declared.ace.Ace.{Ace}
 use Rattle.sd_check.specs.Token.{TokenValue}
 use Rattle.sd_path.specs.Names.{Names, is_within}
-use Rattle.sd_tree.specs.Plain.{PlainTree, row_at, dacl_at, dacl_here, dacl_below}
-use Rattle.sd_tree.specs.Edits.{keeping, changed_where, changed}
+use Rattle.sd_edit.specs.Plain.{PlainTree, row_at, dacl_at, dacl_here, dacl_below}
+use Rattle.sd_edit.specs.Edits.{keeping, changed_where, changed}
 use Rattle.sd_tree_laws.specs.Laws.{KeepingLetsNobodyIn, granted_by_row, is_granted_at}
-use Rattle.sd_tree.specs.declared.node.Row.{Row}
+use Rattle.sd_edit.specs.declared.node.Row.{Row}
 use Rattle.sd_path.proofs.Paths.{names_cmp_total, names_cmp_antisymmetric, within_rest}
-use Rattle.sd_tree.proofs.Rows.{same_or_other, row_at-changed_same, row_at-changed_other}
-use Rattle.sd_tree.proofs.Dacls.{dacl_at_here, dacl_over, dacl_at-append, below_alike, dacl_at_outside}
+use Rattle.sd_edit.proofs.Rows.{same_or_other, row_at-changed_same, row_at-changed_other}
+use Rattle.sd_edit.proofs.Dacls.{dacl_at_here, dacl_over, dacl_at-append, below_alike, dacl_at_outside}
 use Rattle.sd_tree_laws.proofs.Reach.{outside_is_other}
 use Rattle.sd_tree_laws.proofs.Reordered.{AreReordered, node_hands_on, here, down, reordered_grants, node_grants}
 

@@ -9,14 +9,14 @@ use Rattle.sd_check.specs.declared.verdict.Verdict.TheVariants.{Granted, Denied,
 use Rattle.sd_check.specs.Token.{TokenValue}
 use Rattle.sd_check.proofs.MoreGranted.{nothing_missing}
 use Rattle.sd_path.specs.Names.{Names}
-use Rattle.sd_tree.specs.Plain.{PlainTree, row_at, dacl_at}
-use Rattle.sd_tree.specs.Edits.{keeping, edited}
-use Rattle.sd_tree.specs.Answers.{reply_for}
+use Rattle.sd_edit.specs.Plain.{PlainTree, row_at, dacl_at}
+use Rattle.sd_edit.specs.Edits.{keeping, edited}
+use Rattle.sd_edit.specs.Answers.{reply_for}
 use Rattle.sd_tree_laws.specs.Laws.{KeepingGrantsNoNewRequest, granted_by_row}
-use Rattle.sd_tree.specs.declared.node.Row.{Row}
-use Rattle.sd_tree.specs.declared.tree.CheckReply.TheVariants as reply
-use Rattle.sd_tree.specs.declared.edit.Edit.TheVariants.{ProtectKeeping}
-use Rattle.sd_tree.proofs.Closed.{kind_at-changed, kept_when_keeping, known_kind}
+use Rattle.sd_edit.specs.declared.node.Row.{Row}
+use Rattle.sd_edit.specs.declared.reply.CheckReply.TheVariants as reply
+use Rattle.sd_edit.specs.declared.edit.Edit.TheVariants.{ProtectKeeping}
+use Rattle.sd_edit.proofs.Closed.{kind_at-changed, kept_when_keeping, known_kind}
 use Rattle.sd_tree_laws.proofs.Keeping.{keeping_lets_nobody_in}
 
 -- the cases of a verdict on a request without MAXIMUM_ALLOWED

@@ -5,17 +5,17 @@ use Rattle.sd_sid.specs.Mapping.{MappingValue}
 use Rattle.sd_acl.specs.declared.ace.Ace.{Ace}
 use Rattle.sd_path.specs.Names.{Names, up, is_within, moved_path}
 use Rattle.sd_path.proofs.Paths.{moved_path-append, within_rest, within_up}
-use Rattle.sd_tree.specs.Closed.{IsClosed, IsMovable}
-use Rattle.sd_tree.specs.Edits.{moved}
-use Rattle.sd_tree.specs.Inheritance.{dacl_under}
-use Rattle.sd_tree.specs.Journal.{replay}
-use Rattle.sd_tree.specs.Plain.{PlainTree, row_at, dacl_at, dacl_here}
-use Rattle.sd_tree.specs.declared.node.NodeDacl.{NodeDacl}
-use Rattle.sd_tree.specs.declared.node.Row.{Row}
-use Rattle.sd_tree.proofs.Closed.{closed_replay}
-use Rattle.sd_tree.proofs.Dacls.{dacl_at_here, dacl_over, dacl_at-append, dacl_at_up}
-use Rattle.sd_tree.proofs.Moved.{below_shift, dacl_at-moved_other, row_at-moved_there, way_outside}
-use Rattle.sd_tree.proofs.NewRow.{up_outside}
+use Rattle.sd_edit.specs.Closed.{IsClosed, IsMovable}
+use Rattle.sd_edit.specs.Edits.{moved}
+use Rattle.sd_edit.specs.Inheritance.{dacl_under}
+use Rattle.sd_edit.specs.Journal.{replay}
+use Rattle.sd_edit.specs.Plain.{PlainTree, row_at, dacl_at, dacl_here}
+use Rattle.sd_edit.specs.declared.node.NodeDacl.{NodeDacl}
+use Rattle.sd_edit.specs.declared.node.Row.{Row}
+use Rattle.sd_edit.proofs.Closed.{closed_replay}
+use Rattle.sd_edit.proofs.Dacls.{dacl_at_here, dacl_over, dacl_at-append, dacl_at_up}
+use Rattle.sd_edit.proofs.Moved.{below_shift, dacl_at-moved_other, row_at-moved_there, way_outside}
+use Rattle.sd_edit.proofs.NewRow.{up_outside}
 use Rattle.sd_tree_laws.proofs.Moves.{accepted_can}
 use Rattle.sd_tree_laws.proofs.Reach.{nothing_from_above}
 use Rattle.sd_tree_laws.specs.Laws.{GivenKeepLists, NullKeepLists, ProtectedKeepLists, RenamedKeepLists}

@@ -2,20 +2,20 @@
 use Rattle.std.proofs.Common.{◌≡◌, ◌⊎◌, List, [], ◌∷◌, ◌++◌, length, true, false, Option, Some, None, inl, inr, refl, sym, ap, ◌∙◌}
 use Rattle.std.proofs.lemmas.Bool.{cases_Bool, false≢true}
 use Rattle.sd_path.specs.Names.{Names, is_within}
-use Rattle.sd_tree.specs.Closed.{IsClosed, IsMovable}
-use Rattle.sd_tree.specs.Edits.{moved}
-use Rattle.sd_tree.specs.Journal.{replay, refusal, IsLawful}
-use Rattle.sd_tree.specs.Plain.{PlainTree, row_at}
-use Rattle.sd_tree.specs.declared.edit.Edit.{Edit}
-use Rattle.sd_tree.specs.declared.edit.Edit.TheVariants.{Move}
-use Rattle.sd_tree.specs.declared.node.Row.{Row}
-use Rattle.sd_tree.specs.declared.opening.Opening.{Opening}
+use Rattle.sd_edit.specs.Closed.{IsClosed, IsMovable}
+use Rattle.sd_edit.specs.Edits.{moved}
+use Rattle.sd_edit.specs.Journal.{replay, refusal, IsLawful}
+use Rattle.sd_edit.specs.Plain.{PlainTree, row_at}
+use Rattle.sd_edit.specs.declared.edit.Edit.{Edit}
+use Rattle.sd_edit.specs.declared.edit.Edit.TheVariants.{Move}
+use Rattle.sd_edit.specs.declared.node.Row.{Row}
+use Rattle.sd_edit.specs.declared.opening.Opening.{Opening}
 use Rattle.sd_path.proofs.Paths.{within_itself, within-append, within_rest}
-use Rattle.sd_tree.proofs.Below.{nothing_below, some_row}
-use Rattle.sd_tree.proofs.Closed.{closed_replay, movable}
-use Rattle.sd_tree.proofs.Dacls.{dacl_at_alike}
-use Rattle.sd_tree.proofs.Moved.{closed_moved, dacl_at-moved_other, row_at-moved_gone, row_at-moved_other, row_at-moved_there}
-use Rattle.sd_tree.proofs.Refused.{not_refused}
+use Rattle.sd_edit.proofs.Below.{nothing_below, some_row}
+use Rattle.sd_edit.proofs.Closed.{closed_replay, movable}
+use Rattle.sd_edit.proofs.Dacls.{dacl_at_alike}
+use Rattle.sd_edit.proofs.Moved.{closed_moved, dacl_at-moved_other, row_at-moved_gone, row_at-moved_other, row_at-moved_there}
+use Rattle.sd_edit.proofs.Refused.{not_refused}
 use Rattle.sd_tree_laws.specs.Laws.{MoveBackUndoesIt, MoveCarriesTheSubtree}
 
 -- of two beginnings of one path one begins the other

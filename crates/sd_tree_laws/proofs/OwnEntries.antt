@@ -10,24 +10,24 @@ use Rattle.sd_sid.specs.Mapping.{MappingValue}
 use Rattle.sd_acl.specs.Canonical.{is_inherited, is_explicit, deny_behind_allow, is_canonical, explicit_entries}
 use Rattle.sd_acl.specs.declared.ace.Ace.{Ace}
 use Rattle.sd_path.specs.Names.{Names, names_cmp}
-use Rattle.sd_tree.specs.Inheritance.{handed_on, dacl_under}
-use Rattle.sd_tree.specs.Plain.{PlainTree, row_at, dacl_here, dacl_at}
-use Rattle.sd_tree.specs.Edits.{keeping, changed, edited, moved_entry, moved}
-use Rattle.sd_tree.specs.Journal.{opened, root_row, replay, root_refusal, IsLawful}
-use Rattle.sd_tree.specs.Refusals.{early_refusal, early_tests, own_entries, list_tests, has_large_dacl}
+use Rattle.sd_edit.specs.Inheritance.{handed_on, dacl_under}
+use Rattle.sd_edit.specs.Plain.{PlainTree, row_at, dacl_here, dacl_at}
+use Rattle.sd_edit.specs.Edits.{keeping, changed, edited, moved_entry, moved}
+use Rattle.sd_edit.specs.Journal.{opened, root_row, replay, root_refusal, IsLawful}
+use Rattle.sd_edit.specs.Refusals.{early_refusal, early_tests, own_entries, list_tests, has_large_dacl}
 use Rattle.sd_tree_laws.specs.Laws.{OwnHasNoId, WithoutIdIsOwn, EveryListIsCanonical}
-use Rattle.sd_tree.specs.declared.node.Row.{Row}
-use Rattle.sd_tree.specs.declared.node.NodeDacl.{NodeDacl}
-use Rattle.sd_tree.specs.declared.node.NodeDacl.TheVariants.{Null, List as Entries}
-use Rattle.sd_tree.specs.declared.opening.Opening.{Opening}
-use Rattle.sd_tree.specs.declared.refusal.EditRefusal.TheVariants.{AclTooLarge}
-use Rattle.sd_tree.specs.declared.edit.Edit.{Edit}
-use Rattle.sd_tree.specs.declared.edit.Edit.TheVariants.{AddContainer, AddObject, SetOwner, SetGroup, SetDacl, Remove, Move, ProtectKeeping}
-use Rattle.sd_tree.proofs.Rows.{same_or_other, row_at-empty, row_at-insert_same, row_at-insert_other, row_at-remove_same, row_at-remove_other, row_at-changed_same, row_at-changed_other}
-use Rattle.sd_tree.proofs.Moved.{entry_there, row_at-moved}
-use Rattle.sd_tree.proofs.Refused.{none_fits, not_refused}
-use Rattle.sd_tree.proofs.Journals.{holds_of_lawful}
-use Rattle.sd_tree.proofs.Dacls.{dacl_over, dacl_at_here}
+use Rattle.sd_edit.specs.declared.node.Row.{Row}
+use Rattle.sd_edit.specs.declared.node.NodeDacl.{NodeDacl}
+use Rattle.sd_edit.specs.declared.node.NodeDacl.TheVariants.{Null, List as Entries}
+use Rattle.sd_edit.specs.declared.opening.Opening.{Opening}
+use Rattle.sd_edit.specs.declared.refusal.EditRefusal.TheVariants.{AclTooLarge}
+use Rattle.sd_edit.specs.declared.edit.Edit.{Edit}
+use Rattle.sd_edit.specs.declared.edit.Edit.TheVariants.{AddContainer, AddObject, SetOwner, SetGroup, SetDacl, Remove, Move, ProtectKeeping}
+use Rattle.sd_edit.proofs.Rows.{same_or_other, row_at-empty, row_at-insert_same, row_at-insert_other, row_at-remove_same, row_at-remove_other, row_at-changed_same, row_at-changed_other}
+use Rattle.sd_edit.proofs.Moved.{entry_there, row_at-moved}
+use Rattle.sd_edit.proofs.Refused.{none_fits, not_refused}
+use Rattle.sd_edit.proofs.Journals.{holds_of_lawful}
+use Rattle.sd_edit.proofs.Dacls.{dacl_over, dacl_at_here}
 use Rattle.sd_tree_laws.proofs.Ordered.{canonical_parts, explicit_front, ordered_canonical, kept_explicit}
 use Rattle.sd_tree_laws.proofs.Copies.{inherited_has_id}
 

@@ -7,24 +7,24 @@ use Rattle.sd_acl.specs.declared.ace.Ace.{Ace}
 use Rattle.sd_check.specs.Token.{TokenValue}
 use Rattle.sd_path.specs.Names.{Names, is_within, moved_path}
 use Rattle.sd_path.proofs.Paths.{moved_path-append, moved_path-outside, within_itself, within_rest}
-use Rattle.sd_tree.specs.Answers.{reply_for, reply_in}
-use Rattle.sd_tree.specs.Closed.{IsClosed, IsMovable}
-use Rattle.sd_tree.specs.Edits.{changed, keeping, moved}
-use Rattle.sd_tree.specs.Inheritance.{dacl_under}
-use Rattle.sd_tree.specs.Journal.{replay, IsLawful}
-use Rattle.sd_tree.specs.Plain.{PlainTree, row_at, dacl_at, dacl_here}
-use Rattle.sd_tree.specs.declared.edit.Edit.{Edit}
-use Rattle.sd_tree.specs.declared.edit.Edit.TheVariants.{ProtectKeeping, Move}
-use Rattle.sd_tree.specs.declared.node.NodeDacl.{NodeDacl}
-use Rattle.sd_tree.specs.declared.node.NodeDacl.TheVariants.{Null, List as Entries}
-use Rattle.sd_tree.specs.declared.node.Row.{Row}
-use Rattle.sd_tree.specs.declared.opening.Opening.{Opening}
-use Rattle.sd_tree.proofs.Below.{nothing_below, some_row}
-use Rattle.sd_tree.proofs.Closed.{closed_replay}
-use Rattle.sd_tree.proofs.Dacls.{dacl_at_here, dacl_over}
-use Rattle.sd_tree.proofs.Journals.{lawful_before, lawful_last, replay-push}
-use Rattle.sd_tree.proofs.Moved.{dacl_at-moved_other, row_at-moved_other, row_at-moved_there}
-use Rattle.sd_tree.proofs.Rows.{row_at-changed_other, row_at-changed_same}
+use Rattle.sd_edit.specs.Answers.{reply_for, reply_in}
+use Rattle.sd_edit.specs.Closed.{IsClosed, IsMovable}
+use Rattle.sd_edit.specs.Edits.{changed, keeping, moved}
+use Rattle.sd_edit.specs.Inheritance.{dacl_under}
+use Rattle.sd_edit.specs.Journal.{replay, IsLawful}
+use Rattle.sd_edit.specs.Plain.{PlainTree, row_at, dacl_at, dacl_here}
+use Rattle.sd_edit.specs.declared.edit.Edit.{Edit}
+use Rattle.sd_edit.specs.declared.edit.Edit.TheVariants.{ProtectKeeping, Move}
+use Rattle.sd_edit.specs.declared.node.NodeDacl.{NodeDacl}
+use Rattle.sd_edit.specs.declared.node.NodeDacl.TheVariants.{Null, List as Entries}
+use Rattle.sd_edit.specs.declared.node.Row.{Row}
+use Rattle.sd_edit.specs.declared.opening.Opening.{Opening}
+use Rattle.sd_edit.proofs.Below.{nothing_below, some_row}
+use Rattle.sd_edit.proofs.Closed.{closed_replay}
+use Rattle.sd_edit.proofs.Dacls.{dacl_at_here, dacl_over}
+use Rattle.sd_edit.proofs.Journals.{lawful_before, lawful_last, replay-push}
+use Rattle.sd_edit.proofs.Moved.{dacl_at-moved_other, row_at-moved_other, row_at-moved_there}
+use Rattle.sd_edit.proofs.Rows.{row_at-changed_other, row_at-changed_same}
 use Rattle.sd_tree_laws.proofs.Keeping.{keeping_lets_nobody_in}
 use Rattle.sd_tree_laws.proofs.KeptGrants.{keeping_grants_no_new_request}
 use Rattle.sd_tree_laws.proofs.MovedLists.{StandsAlone, moves_unchanged}

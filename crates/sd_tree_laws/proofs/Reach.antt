@@ -4,20 +4,20 @@ use Rattle.std.proofs.lemmas.Bool.{false≢true, or_parts}
 use Rattle.sd_sid.specs.Mapping.{MappingValue}
 use Rattle.sd_acl.specs.declared.ace.Ace.{Ace}
 use Rattle.sd_path.specs.Names.{Names, is_within}
-use Rattle.sd_tree.specs.Inheritance.{dacl_under}
-use Rattle.sd_tree.specs.Descriptors.{is_protected, descriptor_of_row}
-use Rattle.sd_tree.specs.Plain.{PlainTree, row_at, dacl_at, dacl_here, dacl_below}
-use Rattle.sd_tree.specs.Edits.{edited, touches}
+use Rattle.sd_edit.specs.Inheritance.{dacl_under}
+use Rattle.sd_edit.specs.Descriptors.{is_protected, descriptor_of_row}
+use Rattle.sd_edit.specs.Plain.{PlainTree, row_at, dacl_at, dacl_here, dacl_below}
+use Rattle.sd_edit.specs.Edits.{edited, touches}
 use Rattle.sd_tree_laws.specs.Laws.{EditStaysBelow, ProtectedStandsAlone}
-use Rattle.sd_tree.specs.declared.edit.Edit.{Edit}
-use Rattle.sd_tree.specs.declared.edit.Edit.TheVariants.{AddContainer, AddObject, SetOwner, SetGroup, SetDacl, Remove, ProtectKeeping, Move}
-use Rattle.sd_tree.specs.declared.node.Row.{Row}
-use Rattle.sd_tree.specs.declared.node.NodeDacl.{NodeDacl}
-use Rattle.sd_tree.specs.declared.node.NodeDacl.TheVariants.{Null, List as Entries}
+use Rattle.sd_edit.specs.declared.edit.Edit.{Edit}
+use Rattle.sd_edit.specs.declared.edit.Edit.TheVariants.{AddContainer, AddObject, SetOwner, SetGroup, SetDacl, Remove, ProtectKeeping, Move}
+use Rattle.sd_edit.specs.declared.node.Row.{Row}
+use Rattle.sd_edit.specs.declared.node.NodeDacl.{NodeDacl}
+use Rattle.sd_edit.specs.declared.node.NodeDacl.TheVariants.{Null, List as Entries}
 use Rattle.sd_path.proofs.Paths.{within_itself, within-append, within_rest}
-use Rattle.sd_tree.proofs.Moved.{way_outside, row_at-moved_other}
-use Rattle.sd_tree.proofs.Rows.{row_at-insert_other, row_at-remove_other, row_at-changed_other}
-use Rattle.sd_tree.proofs.Dacls.{dacl_at_here, dacl_over, dacl_at-append, below_alike, dacl_at_alike}
+use Rattle.sd_edit.proofs.Moved.{way_outside, row_at-moved_other}
+use Rattle.sd_edit.proofs.Rows.{row_at-insert_other, row_at-remove_other, row_at-changed_other}
+use Rattle.sd_edit.proofs.Dacls.{dacl_at_here, dacl_over, dacl_at-append, below_alike, dacl_at_alike}
 
 pub outside_is_other : (at path : Names) → is_within at path ≡ false → path ≢ at
 outside_is_other at path outside same = false≢true (sym outside ∙ ap (is_within at) same ∙ within_itself at)

@@ -12,28 +12,28 @@ use Rattle.std.proofs.lemmas.List.{length-map, length-append, map-append}
 use Rattle.sd_sid.specs.Mapping.{MappingValue}
 use Rattle.sd_path.specs.Names.{Names, names_cmp, up, is_root, is_within}
 use Rattle.sd_path.proofs.Paths.{names_cmp_total, names_cmp_antisymmetric, within_before, within_itself, up_before}
-use Rattle.sd_tree.specs.Closed.{IsClosed}
-use Rattle.sd_tree.specs.Limits.{LimitsValue}
-use Rattle.sd_tree.specs.Plain.{PlainTree, row_at, dacl_at}
-use Rattle.sd_tree.specs.Edits.{edited}
-use Rattle.sd_tree.specs.Journal.{opening_within, opened, replay, refusal, root_refusal, IsLawful}
-use Rattle.sd_tree.specs.Refusals.{first_fit, early_tests, list_tests, addition_tests, is_object, is_object_kind, room_tests, refusal_in, has_large_dacl, dacl_size}
-use Rattle.sd_tree.specs.declared.node.Row.{Row}
+use Rattle.sd_edit.specs.Closed.{IsClosed}
+use Rattle.sd_edit.specs.Limits.{LimitsValue}
+use Rattle.sd_edit.specs.Plain.{PlainTree, row_at, dacl_at}
+use Rattle.sd_edit.specs.Edits.{edited}
+use Rattle.sd_edit.specs.Journal.{opening_within, opened, replay, refusal, root_refusal, IsLawful}
+use Rattle.sd_edit.specs.Refusals.{first_fit, early_tests, list_tests, addition_tests, is_object, is_object_kind, room_tests, refusal_in, has_large_dacl, dacl_size}
+use Rattle.sd_edit.specs.declared.node.Row.{Row}
 use Rattle.sd_inheritance.specs.declared.kind.NodeKind.{NodeKind}
 use Rattle.sd_inheritance.specs.declared.kind.NodeKind.TheVariants.{Container, Object}
-use Rattle.sd_tree.specs.declared.opening.Opening.{Opening}
-use Rattle.sd_tree.specs.declared.edit.Edit.{Edit}
-use Rattle.sd_tree.specs.declared.refusal.EditRefusal.{EditRefusal}
-use Rattle.sd_tree.specs.declared.refusal.EditRefusal.TheVariants.{AclTooLarge, JournalFull}
-use Rattle.sd_tree.proofs.Closed.{closed_replay}
-use Rattle.sd_tree.proofs.Dacls.{dacl_at_alike}
-use Rattle.sd_tree.proofs.Fitting.{refusal_by_parts}
-use Rattle.sd_tree.proofs.Journals.{replay-none, replay-push, lawful_none, lawful_push, lawful_short}
-use Rattle.sd_tree.proofs.Lists.{by_last}
-use Rattle.sd_tree.proofs.Moved.{entry_there}
-use Rattle.sd_tree.proofs.Rows.{same_or_other, one_path}
+use Rattle.sd_edit.specs.declared.opening.Opening.{Opening}
+use Rattle.sd_edit.specs.declared.edit.Edit.{Edit}
+use Rattle.sd_edit.specs.declared.refusal.EditRefusal.{EditRefusal}
+use Rattle.sd_edit.specs.declared.refusal.EditRefusal.TheVariants.{AclTooLarge, JournalFull}
+use Rattle.sd_edit.proofs.Closed.{closed_replay}
+use Rattle.sd_edit.proofs.Dacls.{dacl_at_alike}
+use Rattle.sd_edit.proofs.Refused.{refusal_by_parts}
+use Rattle.sd_edit.proofs.Journals.{replay-none, replay-push, lawful_none, lawful_push, lawful_short}
+use Rattle.sd_edit.proofs.Lists.{by_last}
+use Rattle.sd_edit.proofs.Moved.{entry_there}
+use Rattle.sd_edit.proofs.Rows.{same_or_other, one_path}
 use Rattle.sd_tree_laws.proofs.OwnEntries.{AllSound, sound_replay}
-use Rattle.sd_tree.specs.Additions.{addition_of, root_of}
+use Rattle.sd_edit.specs.Additions.{addition_of, root_of}
 use Rattle.sd_tree_laws.proofs.Fronts.{Entry, below_trans, below_next, find_below, find_front, found_below, next_free, before_next, few_entries}
 use Rattle.sd_tree_laws.proofs.Bounded.{AllShallow, IsFew, or_parts, shallow_replay, few_replay, small_replay, journal_adds}
 

@@ -15,12 +15,12 @@ use Rattle.sd_acl.specs.declared.ace.AceKind.{AceKind}
 use Rattle.sd_check.specs.Token.{TokenValue, is_restricted}
 use Rattle.sd_path.specs.Names.{Names}
 use Rattle.sd_inheritance.specs.Inheritance.{pass_on}
-use Rattle.sd_tree.specs.Inheritance.{handed_on, dacl_under}
-use Rattle.sd_tree.specs.Plain.{PlainTree, row_at, dacl_here, dacl_below}
-use Rattle.sd_tree.specs.declared.node.Row.{Row}
+use Rattle.sd_edit.specs.Inheritance.{handed_on, dacl_under}
+use Rattle.sd_edit.specs.Plain.{PlainTree, row_at, dacl_here, dacl_below}
+use Rattle.sd_edit.specs.declared.node.Row.{Row}
 use Rattle.sd_inheritance.specs.declared.kind.NodeKind.{NodeKind}
-use Rattle.sd_tree.specs.declared.node.NodeDacl.{NodeDacl}
-use Rattle.sd_tree.specs.declared.node.NodeDacl.TheVariants.{Null, List as Entries}
+use Rattle.sd_edit.specs.declared.node.NodeDacl.{NodeDacl}
+use Rattle.sd_edit.specs.declared.node.NodeDacl.TheVariants.{Null, List as Entries}
 use Rattle.sd_tree_laws.proofs.Copies.{no_copy_passes}
 use Rattle.sd_tree_laws.proofs.Ordered.{filter_whole, filter_none}
 use Rattle.sd_tree_laws.proofs.OrderGrants.{allowed_before, allowed_behind, any_canonical}

@@ -1,8 +1,8 @@
 -- The DACL of a node from that of its parent.
 use Rattle.std.proofs.Common.{◌∙◌, ap, None}
 use Rattle.sd_path.specs.Names.{up}
-use Rattle.sd_tree.specs.Plain.{dacl_at, dacl_here}
-use Rattle.sd_tree.proofs.Dacls.{dacl_at_root, dacl_at_up}
+use Rattle.sd_edit.specs.Plain.{dacl_at, dacl_here}
+use Rattle.sd_edit.proofs.Dacls.{dacl_at_root, dacl_at_up}
 use Rattle.sd_tree_laws.specs.Laws.{DaclIsOfParent, RootInheritsNothing}
 
 pub dacl_is_of_parent : DaclIsOfParent

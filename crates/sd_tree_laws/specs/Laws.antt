@@ -14,24 +14,24 @@ use Rattle.sd_check.specs.declared.verdict.Verdict.TheVariants.{Granted}
 use Rattle.sd_check.specs.Token.{TokenValue}
 use Rattle.sd_path.specs.Names.{Names, up, is_root, is_within, moved_path}
 use Rattle.sd_inheritance.specs.Inheritance.{object_inherit, container_inherit, no_propagate, pass_on}
-use Rattle.sd_tree.specs.Inheritance.{handed_on, dacl_of_row}
-use Rattle.sd_tree.specs.Descriptors.{is_protected}
-use Rattle.sd_tree.specs.Closed.{IsClosed}
-use Rattle.sd_tree.specs.Plain.{PlainTree, row_at, dacl_at}
-use Rattle.sd_tree.specs.Edits.{edited, touches}
-use Rattle.sd_tree.specs.Answers.{kind_at, descriptor_at, reply_in, answer}
-use Rattle.sd_tree.specs.Journal.{replay, refusal, root_refusal, IsLawful}
-use Rattle.sd_tree.specs.Refusals.{own_entries}
-use Rattle.sd_tree.specs.declared.node.Row.{Row}
-use Rattle.sd_tree.specs.declared.node.NodeDacl.{NodeDacl}
-use Rattle.sd_tree.specs.declared.node.NodeDacl.TheVariants.{Null}
+use Rattle.sd_edit.specs.Inheritance.{handed_on, dacl_of_row}
+use Rattle.sd_edit.specs.Descriptors.{is_protected}
+use Rattle.sd_edit.specs.Closed.{IsClosed}
+use Rattle.sd_edit.specs.Plain.{PlainTree, row_at, dacl_at}
+use Rattle.sd_edit.specs.Edits.{edited, touches}
+use Rattle.sd_edit.specs.Answers.{kind_at, descriptor_at, reply_in, answer}
+use Rattle.sd_edit.specs.Journal.{replay, refusal, root_refusal, IsLawful}
+use Rattle.sd_edit.specs.Refusals.{own_entries}
+use Rattle.sd_edit.specs.declared.node.Row.{Row}
+use Rattle.sd_edit.specs.declared.node.NodeDacl.{NodeDacl}
+use Rattle.sd_edit.specs.declared.node.NodeDacl.TheVariants.{Null}
 use Rattle.sd_inheritance.specs.declared.kind.NodeKind.{NodeKind}
 use Rattle.sd_inheritance.specs.declared.kind.NodeKind.TheVariants.{Object}
-use Rattle.sd_tree.specs.declared.opening.Opening.{Opening}
-use Rattle.sd_tree.specs.declared.tree.CheckReply.TheVariants.{Verdict}
-use Rattle.sd_tree.specs.declared.edit.Edit.{Edit}
-use Rattle.sd_tree.specs.declared.edit.Edit.TheVariants.{SetOwner, SetGroup, ProtectKeeping, Move}
-use Rattle.sd_tree.specs.declared.refusal.EditRefusal.TheVariants.{JournalFull}
+use Rattle.sd_edit.specs.declared.opening.Opening.{Opening}
+use Rattle.sd_edit.specs.declared.reply.CheckReply.TheVariants.{Verdict}
+use Rattle.sd_edit.specs.declared.edit.Edit.{Edit}
+use Rattle.sd_edit.specs.declared.edit.Edit.TheVariants.{SetOwner, SetGroup, ProtectKeeping, Move}
+use Rattle.sd_edit.specs.declared.refusal.EditRefusal.TheVariants.{JournalFull}
 
 -- ---- from the root down
 

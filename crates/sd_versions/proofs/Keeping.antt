@@ -5,13 +5,14 @@ use Rattle.std.proofs.lemmas.List.Elements.{All-head, All-tail}
 use Rattle.std.proofs.lemmas.Bool.Decides.{leb_tells}
 use Rattle.std.proofs.Math.Seq.{take-length}
 use Rattle.std.proofs.lemmas.Simd.{splat_is_map}
-use Rattle.sd_tree.specs.declared.edit.Edit.{Edit}
-use Rattle.sd_tree.specs.declared.opening.Opening.{Opening}
-use Rattle.sd_versions.specs.Versions.{VersionsValue, accepted, longer}
+use Rattle.sd_edit.specs.declared.edit.Edit.{Edit}
+use Rattle.sd_edit.specs.declared.opening.Opening.{Opening}
+use Rattle.sd_edit.specs.Machine.{longer}
+use Rattle.sd_versions.specs.Versions.{VersionsValue, accepted}
 use Rattle.sd_versions.specs.Desk.{beginnings, machine_of, AreWithin}
-use Rattle.sd_versions.specs.Machine.{Machine, IsReader, floor_of, with_floor, with_look, started, Steps}
-use Rattle.sd_versions.specs.declared.request.Request.TheVariants.{Publish}
-use Rattle.sd_versions.specs.declared.request.Reply.TheVariants.{Published}
+use Rattle.sd_edit.specs.Machine.{Machine, IsReader, floor_of, with_floor, with_look, started, Steps}
+use Rattle.sd_edit.specs.declared.request.Request.TheVariants.{Publish}
+use Rattle.sd_edit.specs.declared.request.Reply.TheVariants.{Published}
 
 -- ---- the floors
 

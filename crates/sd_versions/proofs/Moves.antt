@@ -4,18 +4,18 @@ use Rattle.std.proofs.lemmas.List.{append-nil, append_assoc, take-append-drop, t
 use Rattle.std.proofs.lemmas.Bool.Decides.{leb_tells}
 use Rattle.std.proofs.lemmas.Bool.{cases_order}
 use Rattle.std.proofs.Math.Seq.{take-append_seam}
-use Rattle.sd_tree.proofs.Journals.{lawful_none, lawful_push}
-use Rattle.sd_tree.specs.Journal.{IsLawful, refusal}
-use Rattle.sd_tree.specs.declared.edit.Edit.{Edit}
-use Rattle.sd_tree.specs.declared.opening.Opening.{Opening}
-use Rattle.sd_versions.specs.Machine.{Machine, started, accepted, due, IsReader, floor_of, with_edit, with_publish, with_floor, Steps, Runs}
-use Rattle.sd_versions.specs.Versions.{longer}
+use Rattle.sd_edit.proofs.Journals.{lawful_none, lawful_push}
+use Rattle.sd_edit.specs.Journal.{IsLawful, refusal}
+use Rattle.sd_edit.specs.declared.edit.Edit.{Edit}
+use Rattle.sd_edit.specs.declared.opening.Opening.{Opening}
+use Rattle.sd_edit.specs.Machine.{Machine, started, accepted, due, IsReader, floor_of, with_edit, with_publish, with_floor, Steps, Runs}
+use Rattle.sd_edit.specs.Machine.{longer}
 use Rattle.sd_versions.specs.Laws.{Extends, IsSound, RunsAreSound, OpeningStays, PublishedGrows, FloorsNeverFall, PublishIsWhole, AnswersAreOfThePublished, FailureChangesNothing}
-use Rattle.sd_versions.specs.declared.answer.Answer.{Answer}
-use Rattle.sd_versions.specs.declared.request.Request.{Request}
-use Rattle.sd_versions.specs.declared.request.Request.TheVariants as asked
-use Rattle.sd_versions.specs.declared.request.Reply.{Reply}
-use Rattle.sd_versions.specs.declared.request.Reply.TheVariants.{Edited, Refused, Published, Told, Learned, Answered, Shown, NoReader, NoNotice, Memory}
+use Rattle.sd_edit.specs.declared.reply.Answer.{Answer}
+use Rattle.sd_edit.specs.declared.request.Request.{Request}
+use Rattle.sd_edit.specs.declared.request.Request.TheVariants as asked
+use Rattle.sd_edit.specs.declared.request.Reply.{Reply}
+use Rattle.sd_edit.specs.declared.request.Reply.TheVariants.{Edited, Refused, Published, Told, Learned, Answered, Shown, NoReader, NoNotice, Memory}
 
 -- ---- beginnings
 

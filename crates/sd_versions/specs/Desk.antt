@@ -1,8 +1,8 @@
 -- How a desk keeps the machine: the two versions of its tree, and each floor's length. No public contract says so.
 use Rattle.std.specs.Prelude.{ℕ, ◌≤◌, List, length, take, map, All}
-use Rattle.sd_tree.specs.declared.edit.Edit.{Edit}
+use Rattle.sd_edit.specs.declared.edit.Edit.{Edit}
 use Rattle.sd_versions.specs.Versions.{VersionsValue}
-use Rattle.sd_versions.specs.Machine.{Machine}
+use Rattle.sd_edit.specs.Machine.{Machine}
 
 -- the beginnings of the journal with these lengths
 abbrev pub beginnings : List Edit → List ℕ → List (List Edit)

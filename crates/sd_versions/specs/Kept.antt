@@ -1,7 +1,7 @@
 -- How the two versions are kept. No public contract says so.
 use Rattle.std.specs.Prelude.{◌≡◌, List, [], ◌++◌, length, drop, Option, Some, None}
-use Rattle.sd_tree.specs.Journal.{TreeValue}
-use Rattle.sd_tree.specs.declared.edit.Edit.{Edit}
+use Rattle.sd_edit.specs.Journal.{TreeValue}
+use Rattle.sd_edit.specs.declared.edit.Edit.{Edit}
 use Rattle.sd_versions.specs.Versions.{VersionsValue}
 
 -- what the draft has beyond the published journal

@@ -1,18 +1,18 @@
 -- What follows from the rules of the machine, as laws over all machines, requests and replies.
 use Rattle.std.specs.Prelude.{◌≡◌, ℕ, ◌⊎◌, Bool, true, false, List, [], ◌++◌, length}
 use Rattle.sd_check.specs.Token.{TokenValue}
-use Rattle.sd_tree.specs.Names.{Names}
-use Rattle.sd_tree.specs.Answers.{answer}
-use Rattle.sd_tree.specs.Journal.{IsLawful}
-use Rattle.sd_tree.specs.declared.edit.Edit.{Edit}
-use Rattle.sd_tree.specs.declared.opening.Opening.{Opening}
-use Rattle.sd_versions.specs.Machine.{Machine, started, accepted, floor_of, Steps, Runs}
-use Rattle.sd_versions.specs.declared.answer.Answer.{Answer}
-use Rattle.sd_versions.specs.declared.request.Request.{Request}
-use Rattle.sd_versions.specs.declared.request.Request.TheVariants.{Publish, Check}
-use Rattle.sd_versions.specs.declared.request.Reply.{Reply}
-use Rattle.sd_versions.specs.declared.request.Reply.TheVariants.{Edited, Refused, Published, Told, Learned, Answered}
-use Rattle.sd_versions.specs.declared.request.Reply.TheVariants.{Shown, NoReader, NoNotice, Memory}
+use Rattle.sd_path.specs.Names.{Names}
+use Rattle.sd_edit.specs.Answers.{answer}
+use Rattle.sd_edit.specs.Journal.{IsLawful}
+use Rattle.sd_edit.specs.declared.edit.Edit.{Edit}
+use Rattle.sd_edit.specs.declared.opening.Opening.{Opening}
+use Rattle.sd_edit.specs.Machine.{Machine, started, accepted, floor_of, Steps, Runs}
+use Rattle.sd_edit.specs.declared.reply.Answer.{Answer}
+use Rattle.sd_edit.specs.declared.request.Request.{Request}
+use Rattle.sd_edit.specs.declared.request.Request.TheVariants.{Publish, Check}
+use Rattle.sd_edit.specs.declared.request.Reply.{Reply}
+use Rattle.sd_edit.specs.declared.request.Reply.TheVariants.{Edited, Refused, Published, Told, Learned, Answered}
+use Rattle.sd_edit.specs.declared.request.Reply.TheVariants.{Shown, NoReader, NoNotice, Memory}
 
 -- a journal extends each of its beginnings
 abbrev pub Extends : List Edit → List Edit → Type 0

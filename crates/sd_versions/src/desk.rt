@@ -1,13 +1,13 @@
 //! The machine of one thread.
 
 ghost use Rattle.std.specs.Prelude.{◌≡◌, ◌≢◌, ◌<◌, None, IfOk, IfErr, length};
-ghost use Rattle.sd_tree.specs.Journal.{opening_of, opening_within, root_refusal, IsLawful};
-ghost use Rattle.sd_versions.specs.Machine.{Steps, Runs, started, accepted, with_look};
-ghost use Rattle.sd_versions.specs.Starts.{IsReaderCount, IsStartError};
+ghost use Rattle.sd_edit.specs.Journal.{opening_of, opening_within, root_refusal, IsLawful};
+ghost use Rattle.sd_edit.specs.Machine.{Steps, Runs, started, accepted, with_look};
+ghost use Rattle.sd_edit.specs.Starts.{IsReaderCount, IsStartError};
 
-use crate::request::{Reply, Request};
-use crate::{Answer, MAX_READERS, StartError, Versions};
+use crate::Versions;
 use sd_check::Token;
+use sd_edit::{Answer, MAX_READERS, Reply, Request, StartError};
 use sd_sid::{GenericMapping, Mask};
 use sd_tree::{Edit, Journal, Limits, Path, RootSpec, Tree, TreeError};
 use std::alloc::{AllocError, Global};
@@ -25,7 +25,7 @@ pub struct Desk {
 }
 
 impl Model for Desk {
-    ghost use Rattle.sd_versions.specs.Machine.{Machine};
+    ghost use Rattle.sd_edit.specs.Machine.{Machine};
 
     ghost Value = { Machine };
 

@@ -19,19 +19,14 @@
 //! ```
 #![tactic(auto)]
 
-mod answer;
 mod desk;
 mod laws;
-mod request;
-mod start;
 mod versions;
 
-pub use answer::Answer;
 pub use desk::Desk;
 pub use laws::{
     answers_are_of_the_published, failure_changes_nothing, floors_never_fall, opening_stays,
     publish_is_whole, runs_are_sound,
 };
-pub use request::{Reply, Request};
-pub use start::{MAX_READERS, StartError};
+pub use sd_edit::{Answer, MAX_READERS, Reply, Request, StartError};
 pub use versions::Versions;

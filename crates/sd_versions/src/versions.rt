@@ -1,8 +1,8 @@
 //! The two versions of a store's tree.
 
 ghost use Rattle.std.specs.Prelude.{◌≡◌, [], ◌∷◌, ◌++◌, IfErr, IfOk, MatchResult, None, OnOk};
-ghost use Rattle.sd_tree.specs.Answers.{IsError};
-ghost use Rattle.sd_tree.specs.Journal.{opening_within, refusal, root_refusal};
+ghost use Rattle.sd_edit.specs.Answers.{IsError};
+ghost use Rattle.sd_edit.specs.Journal.{opening_within, refusal, root_refusal};
 ghost use Rattle.sd_versions.specs.Versions.{accepted};
 
 use sd_sid::GenericMapping;

@@ -1,7 +1,7 @@
 //! A store on which a test is played.
 
 ghost use Rattle.std.specs.Prelude.{◌≡◌};
-ghost use Rattle.sd_tree.specs.Journal.{opening_of};
+ghost use Rattle.sd_edit.specs.Journal.{opening_of};
 
 use super::audits::{Turns, audited_beside};
 use super::memory::{Refused, story_is_right};

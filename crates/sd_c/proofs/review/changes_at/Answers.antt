@@ -1,5 +1,5 @@
 use Rattle.std.proofs.Common.{Some, subst}
-use Rattle.sd_tree.specs.Answers.{descriptor_at}
+use Rattle.sd_edit.specs.Answers.{descriptor_at}
 use Rattle.sd_review.specs.Compared.{IsOfBoth}
 use Rattle.sd_review.specs.Review.{trees_of}
 use Rattle.sd_c.proofs.review.changes_at.Goals as goal

@@ -1,5 +1,5 @@
 use Rattle.std.proofs.Common.{rules, inr, sym, subst}
-use Rattle.sd_tree.specs.Journal.{refusal}
+use Rattle.sd_edit.specs.Journal.{refusal}
 use Rattle.sd_versions.specs.Versions.{accepted}
 use Rattle.sd_c.specs.Publishing.{IsNotEdited}
 use Rattle.sd_c.proofs.Reasons.{told_reason}

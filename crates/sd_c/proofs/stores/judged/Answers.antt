@@ -1,5 +1,5 @@
 use Rattle.std.proofs.Common.{rules, inr, refl}
-use Rattle.sd_tree.specs.declared.refusal.TreeError.TheVariants as errors
+use Rattle.sd_edit.specs.declared.refusal.TreeError.TheVariants as errors
 use Rattle.sd_c.proofs.stores.judged.Goals as goal
 
 pub returns-in-None-clause-ok : goal.returns-in-None-clause-ok

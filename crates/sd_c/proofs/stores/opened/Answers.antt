@@ -1,6 +1,6 @@
 use Rattle.std.proofs.Common.{rules, inl, inr, refl, sym, subst}
 use Rattle.std.proofs.lemmas.Result.{err_from_is_err_and}
-use Rattle.sd_tree.specs.Journal.{opening_within, root_refusal}
+use Rattle.sd_edit.specs.Journal.{opening_within, root_refusal}
 use Rattle.sd_c.specs.Edits.{HasNode}
 use Rattle.sd_c.specs.Publishing.{IsNotBegun}
 use Rattle.sd_c.proofs.Reasons.{told_reason}

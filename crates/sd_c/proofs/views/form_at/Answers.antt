@@ -1,5 +1,5 @@
 use Rattle.std.proofs.Common.{rules}
-use Rattle.sd_tree.specs.History.{history_of}
+use Rattle.sd_edit.specs.History.{history_of}
 use Rattle.sd_c.proofs.views.form_at.Goals as goal
 
 pub returns-clause-ok : goal.returns-clause-ok

@@ -4,7 +4,7 @@ use Rattle.std.proofs.lemmas.Bool.{le-ltb}
 use Rattle.std.proofs.lemmas.Bool.Decides.{nat_tests}
 use Rattle.sd_path.proofs.PathBytes.{length-up}
 use Rattle.sd_path.proofs.Paths.{within_itself}
-use Rattle.sd_tree.specs.Names.{Names, is_root, moved_path, up}
+use Rattle.sd_path.specs.Names.{Names, is_root, moved_path, up}
 use Rattle.sd_script.proofs.deletion.parent_of.Goals as goal
 
 -- the path with all of it replaced by the parent's

@@ -2,7 +2,7 @@
 use Rattle.std.proofs.Common.{◌≡◌, drop}
 use Rattle.std.specs.FinMap.{entries}
 use Rattle.std.specs.List.{list_any}
-use Rattle.sd_tree.specs.Journal.{replay}
+use Rattle.sd_edit.specs.Journal.{replay}
 use Rattle.sd_script.specs.Listing.{is_split_below}
 use Rattle.sd_script.proofs.listing.lacks_words.Given as goal
 

@@ -2,10 +2,10 @@
 use Rattle.std.proofs.Common.{◌≡◌, ◌++◌, ℕ, List, Ok, drop, string_bytes}
 use Rattle.std.specs.FinMap.{entries}
 use Rattle.std.specs.List.{flat_map}
-use Rattle.sd_tree.specs.Journal.{replay}
+use Rattle.sd_edit.specs.Journal.{replay}
 use Rattle.sd_tree.specs.Listing.{listed}
-use Rattle.sd_tree.specs.Names.{Names}
-use Rattle.sd_tree.specs.declared.node.Row.{Row}
+use Rattle.sd_path.specs.Names.{Names}
+use Rattle.sd_edit.specs.declared.node.Row.{Row}
 use Rattle.sd_script.proofs.listing.push_lines.Given as goal
 
 abbrev pub invariant-loop-index : goal.invariant-loop-index

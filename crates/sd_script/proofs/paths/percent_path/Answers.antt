@@ -6,8 +6,8 @@ use Rattle.std.specs.Str.Iter.{HasSubslice}
 use Rattle.std.proofs.lemmas.Bool.{false≢true}
 use Rattle.std.proofs.lemmas.Str.Pattern.{contains_text}
 use Rattle.percent_encoding.specs.Percent.{percent_decode}
-use Rattle.sd_tree.specs.Names.{Names}
-use Rattle.sd_tree.specs.PathText.{path_of}
+use Rattle.sd_path.specs.Names.{Names}
+use Rattle.sd_path.specs.PathText.{path_of}
 use Rattle.sd_script.specs.Argument.{path}
 use Rattle.sd_script.specs.Fault.{UnlessMemory}
 use Rattle.sd_script.specs.declared.fault.LineStop.{LineStop}

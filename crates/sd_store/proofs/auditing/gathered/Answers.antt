@@ -1,6 +1,6 @@
 use Rattle.std.proofs.Common.{◌≡◌, ◌+◌, ◌*◌, ◌/◌, ◌%◌, ◌<◌, ◌≤◌, length, slice_index_or, sym, ap, ◌∙◌, subst, arith, List}
 use Rattle.std.proofs.Math.Nat.{mod-lt}
-use Rattle.sd_versions.specs.declared.answer.Answer.{Answer}
+use Rattle.sd_edit.specs.declared.reply.Answer.{Answer}
 use Rattle.sd_store.specs.Sights.{Sight}
 use Rattle.sd_store.specs.Workers.{IsDealt}
 use Rattle.sd_store.proofs.Dealing.{any_default, dealt_push, drawn_within}

@@ -1,7 +1,7 @@
 use Rattle.std.proofs.Common.{rules, ◌≡◌, None, sym, subst}
 use Rattle.std.proofs.lemmas.Result.{IfErr-weaker}
-use Rattle.sd_tree.specs.Journal.{opening_of, root_refusal}
-use Rattle.sd_tree.specs.declared.opening.Opening.{Opening}
+use Rattle.sd_edit.specs.Journal.{opening_of, root_refusal}
+use Rattle.sd_edit.specs.declared.opening.Opening.{Opening}
 use Rattle.sd_store_example.specs.Behind.{IsAskError, IsAskedError}
 use Rattle.sd_store_example.specs.declared.error.AskError.{AskError}
 use Rattle.sd_store_example.proofs.Steps.{started_before}

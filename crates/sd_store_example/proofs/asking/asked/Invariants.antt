@@ -1,5 +1,5 @@
 use Rattle.std.proofs.Common.{◌≡◌, [], take}
-use Rattle.sd_tree.specs.Journal.{IsLawful}
+use Rattle.sd_edit.specs.Journal.{IsLawful}
 use Rattle.sd_store_example.proofs.asking.asked.Given as goal
 
 abbrev pub invariant-loop-edit : goal.invariant-loop-edit

@@ -1,6 +1,6 @@
 use Rattle.std.proofs.Common.{◌≡◌, ◌+◌, [], false, true, arith}
 use Rattle.std.specs.FinMap.{len}
-use Rattle.sd_tree.specs.Journal.{replay}
+use Rattle.sd_edit.specs.Journal.{replay}
 use Rattle.std.proofs.lemmas.List.{nil_from_length}
 use Rattle.std.proofs.lemmas.Bool.Decides.{nat_tests}
 use Rattle.sd_script.proofs.Dumping.{all_asked, asks_otherwise, asks_this, nothing_asks}

@@ -2,7 +2,7 @@
 use Rattle.std.specs.Prelude.{Bool}
 use Rattle.std.specs.Bool.{Decides}
 use Rattle.std.specs.Str.Lines.{lines}
-use Rattle.sd_tree.specs.Journal.{replay}
+use Rattle.sd_edit.specs.Journal.{replay}
 use Rattle.sd_script.specs.Dump.{IsReadBack}
 use Rattle.sd_script.proofs.Dumping.{AreLeft}
 use Rattle.sd_script.proofs.listing.Printer.is_read_back.Given as goal

@@ -1,7 +1,7 @@
 use Rattle.std.proofs.Common.{◌≡◌, ℕ, List, Option, Some, None, subst}
 use Rattle.sd_sid.specs.Mapping.{MappingValue}
 use Rattle.sd_acl.specs.Descriptor.{DescriptorValue}
-use Rattle.sd_tree.specs.Answers.{descriptor_at}
+use Rattle.sd_edit.specs.Answers.{descriptor_at}
 use Rattle.sd_review.specs.Compared.{IsOfBoth}
 use Rattle.sd_review.specs.Lines.{lines}
 use Rattle.sd_answer.specs.Parts.{parts_in}

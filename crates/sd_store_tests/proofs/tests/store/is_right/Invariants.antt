@@ -1,4 +1,4 @@
-use Rattle.sd_tree.specs.Journal.{opening_of}
+use Rattle.sd_edit.specs.Journal.{opening_of}
 use Rattle.sd_store_tests.proofs.tests.store.is_right.Given as goal
 
 -- the store of the root that was just read

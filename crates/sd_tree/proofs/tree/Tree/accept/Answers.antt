@@ -1,5 +1,5 @@
 use Rattle.std.proofs.Common.{◌≡◌, [], ◌∷◌, ◌++◌, sym, ap, subst, append_assoc, ◌∙◌}
-use Rattle.sd_tree.specs.Journal.{TreeValue}
+use Rattle.sd_edit.specs.Journal.{TreeValue}
 use Rattle.sd_tree.specs.Plans.{IsPlanned}
 use Rattle.sd_tree.specs.Stored.{edits_in}
 use Rattle.sd_tree.proofs.Stands.{can_carry_out, stored_more}

@@ -1,9 +1,9 @@
 use Rattle.std.proofs.Common.{◌≤◌, sym, subst}
 use Rattle.sd_acl.specs.Ace.{acl_size_of}
-use Rattle.sd_tree.specs.Refusals.{dacl_size, own_entries}
+use Rattle.sd_edit.specs.Refusals.{dacl_size, own_entries}
 use Rattle.sd_tree.specs.Stored.{tree_of}
-use Rattle.sd_tree.specs.declared.node.Row.{Row}
-use Rattle.sd_tree.proofs.Given.{given_fits}
+use Rattle.sd_edit.specs.declared.node.Row.{Row}
+use Rattle.sd_edit.proofs.Given.{given_fits}
 use Rattle.sd_tree.proofs.tree.Tree.given.Goals as goal
 
 -- src/listing.rt:71:36

@@ -1,6 +1,6 @@
 use Rattle.std.proofs.Common.{arith}
 use Rattle.sd_tree.specs.Stored.{edits_in}
-use Rattle.sd_tree.proofs.Journals.{lawful_short}
+use Rattle.sd_edit.proofs.Journals.{lawful_short}
 use Rattle.sd_tree.proofs.tree.Tree.len.Goals as goal
 
 pub len-requires : goal.len-requires

@@ -6,7 +6,8 @@ use Rattle.sd_tree.specs.Stored.{path_of_node, tree_of}
 use Rattle.sd_tree.specs.Node.{whole_with}
 use Rattle.sd_tree.proofs.Beside.{dacl_beside}
 use Rattle.sd_tree.proofs.OneDacl.{own_alone}
-use Rattle.sd_tree.proofs.NewRow.{whole_at_root, stored_whole, below_stored}
+use Rattle.sd_edit.proofs.NewRow.{whole_at_root}
+use Rattle.sd_tree.proofs.NewNode.{stored_whole, below_stored}
 use Rattle.sd_tree.proofs.tree_view.TreeView.inherited_at.Goals as goal
 
 pub returns-then-is_root : goal.returns-then-is_root

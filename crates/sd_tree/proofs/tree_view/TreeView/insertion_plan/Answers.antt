@@ -2,10 +2,10 @@ use Rattle.std.proofs.Common.{◌≡◌, Option, Some, None, sym, ap, ◌∙◌}
 use Rattle.std.proofs.lemmas.Result.{err_from_is_err_and}
 use Rattle.sd_tree.specs.Stored.{path_of_node}
 use Rattle.sd_tree.specs.declared.node.Node.{Node}
-use Rattle.sd_tree.proofs.Rows.{row_at-insert_same}
+use Rattle.sd_edit.proofs.Rows.{row_at-insert_same}
 use Rattle.sd_tree.proofs.Adding.{insertion}
 use Rattle.sd_tree.proofs.Rebuilding.{large_error, row_there}
-use Rattle.sd_tree.proofs.NewRow.{size_error}
+use Rattle.sd_tree.proofs.NewNode.{size_error}
 use Rattle.sd_tree.proofs.tree_view.TreeView.insertion_plan.Goals as goal
 
 not_both : {X : Type 0} (o : Option X) (x : X) → o ≡ None → o ≡ Some x → ⊥

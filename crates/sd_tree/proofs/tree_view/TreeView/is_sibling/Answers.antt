@@ -5,7 +5,7 @@ use Rattle.sd_path.proofs.PathBytes.{length-up}
 use Rattle.sd_tree.specs.Sharing.{InheritOne}
 use Rattle.sd_tree.specs.Stored.{path_of_node}
 use Rattle.sd_tree.specs.declared.node.Node.{Node}
-use Rattle.sd_tree.specs.declared.node.Row.{Row}
+use Rattle.sd_edit.specs.declared.node.Row.{Row}
 use Rattle.sd_tree.proofs.OneDacl.{alike_inherit_one}
 use Rattle.sd_tree.proofs.tree_view.TreeView.is_sibling.Goals as goal
 

@@ -1,10 +1,10 @@
 use Rattle.std.proofs.Common.{sym, subst, ◌∙◌}
-use Rattle.sd_tree.specs.Plain.{PlainTree}
-use Rattle.sd_tree.specs.Plans.{ChangesOneNode}
+use Rattle.sd_edit.specs.Plain.{PlainTree}
+use Rattle.sd_edit.specs.Edits.{ChangesOneNode}
 use Rattle.sd_tree.specs.Stored.{tree_of}
-use Rattle.sd_tree.specs.declared.node.Row.{Row}
+use Rattle.sd_edit.specs.declared.node.Row.{Row}
 use Rattle.sd_tree.proofs.Adding.{changed_there}
-use Rattle.sd_tree.proofs.Trustees.{same_row_stays}
+use Rattle.sd_edit.proofs.Trustees.{same_row_stays}
 use Rattle.sd_tree.proofs.tree_view.TreeView.keeping_plan.Goals as goal
 
 pub one_node_plan-requires-clause-alone : goal.one_node_plan-requires-clause-alone

@@ -5,14 +5,14 @@ use Rattle.std.specs.FinMap.{insert}
 use Rattle.sd_sid.specs.Mapping.{MappingValue}
 use Rattle.sd_acl.specs.declared.ace.Ace.{Ace}
 use Rattle.sd_path.specs.Names.{Names, is_within}
-use Rattle.sd_tree.specs.Edits.{moved}
-use Rattle.sd_tree.specs.Plain.{dacl_at}
+use Rattle.sd_edit.specs.Edits.{moved}
+use Rattle.sd_edit.specs.Plain.{dacl_at}
 use Rattle.sd_tree.specs.Stored.{path_of_node, tree_of}
 use Rattle.sd_tree.specs.Node.{whole_with}
 use Rattle.sd_tree.specs.declared.node.Node.{Node}
 use Rattle.sd_tree.proofs.Moves.{first_refused, is_moved, gap_behind, plan_moved, deep_refused, none_too_deep, large_late}
 use Rattle.sd_tree.proofs.Rebuilding.{row_there}
-use Rattle.sd_tree.proofs.NewRow.{size_error}
+use Rattle.sd_tree.proofs.NewNode.{size_error}
 use Rattle.sd_tree.proofs.tree_view.TreeView.moving_plan.Goals.{then-at-from, else-at-from}
 use Rattle.sd_tree.proofs.tree_view.TreeView.moving_plan.Goals as goal
 

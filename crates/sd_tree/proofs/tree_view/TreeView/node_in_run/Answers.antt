@@ -3,7 +3,7 @@ use Rattle.std.proofs.lemmas.Result.{IfOk-weaker, IfErr-weaker}
 use Rattle.sd_acl.specs.declared.ace.Ace.{Ace}
 use Rattle.sd_tree.specs.Node.{whole_with}
 use Rattle.sd_tree.proofs.Beside.{made_beside}
-use Rattle.sd_tree.proofs.NewRow.{size_error}
+use Rattle.sd_tree.proofs.NewNode.{size_error}
 use Rattle.sd_tree.proofs.tree_view.TreeView.node_in_run.Goals as goal
 
 pub returns-then-beside-at-clause-node : goal.returns-then-beside-at-clause-node

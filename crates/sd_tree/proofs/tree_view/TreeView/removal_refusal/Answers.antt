@@ -1,7 +1,7 @@
 use Rattle.std.proofs.Common.{◌≡◌, true, false, is_some, sym, ap, ◌∙◌}
 use Rattle.sd_path.specs.Names.{is_root}
-use Rattle.sd_tree.specs.Plain.{row_at}
-use Rattle.sd_tree.specs.Refusals.{has_child}
+use Rattle.sd_edit.specs.Plain.{row_at}
+use Rattle.sd_edit.specs.Refusals.{has_child}
 use Rattle.sd_tree.specs.Stored.{tree_of}
 use Rattle.sd_tree.proofs.Kept.{row_absent}
 use Rattle.sd_tree.proofs.Rebuilding.{row_there}

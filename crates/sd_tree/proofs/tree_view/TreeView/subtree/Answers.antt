@@ -4,7 +4,8 @@ use Rattle.sd_path.specs.Names.{up}
 use Rattle.sd_tree.specs.Stored.{path_of_node, tree_of}
 use Rattle.sd_tree.specs.declared.node.Node.{Node}
 use Rattle.sd_tree.proofs.Kept.{row_here}
-use Rattle.sd_tree.proofs.Rebuilding.{parent_there, parent_place}
+use Rattle.sd_edit.proofs.Below.{parent_there}
+use Rattle.sd_tree.proofs.Rebuilding.{parent_place}
 use Rattle.sd_tree.proofs.Under.{under_first, IsNext, next_stays, next_made, next_error, next_more, stays_more}
 use Rattle.sd_tree.proofs.tree_view.TreeView.subtree.Goals as goal
 

@@ -1,11 +1,11 @@
 use Rattle.std.proofs.Common.{◌≡◌, ◌<◌, ◌≤◌, length, take, max, slice_index_or, slice_set, subst, sym, ap, ◌∙◌, arith}
 use Rattle.std.proofs.lemmas.List.{length-take-le, get_or_read}
 use Rattle.std.proofs.lemmas.List.Elements.{All-get_or}
-use Rattle.sd_versions.specs.Machine.{Machine, Steps, floor_of, with_floor}
-use Rattle.sd_versions.specs.Versions.{longer}
+use Rattle.sd_edit.specs.Machine.{Machine, Steps, floor_of, with_floor}
+use Rattle.sd_edit.specs.Machine.{longer}
 use Rattle.sd_versions.specs.Desk.{machine_of}
-use Rattle.sd_versions.specs.declared.request.Request.TheVariants.{Learn}
-use Rattle.sd_versions.specs.declared.request.Reply.TheVariants.{Learned}
+use Rattle.sd_edit.specs.declared.request.Request.TheVariants.{Learn}
+use Rattle.sd_edit.specs.declared.request.Reply.TheVariants.{Learned}
 use Rattle.sd_versions.proofs.Keeping.{is_reader, floor_is, longer_is, floor_set}
 use Rattle.sd_versions.proofs.desk.Desk.learn.Goals as goal
 

@@ -1,5 +1,5 @@
 use Rattle.std.proofs.Common.{◌≡◌, ◌≤◌, take, length, vec_len, vec_capacity}
-use Rattle.sd_versions.specs.Machine.{Runs}
+use Rattle.sd_edit.specs.Machine.{Runs}
 use Rattle.sd_versions.proofs.desk.Desk.run.Given as goal
 
 -- the first requests are done, and there is room for the replies to the others

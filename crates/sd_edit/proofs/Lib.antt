@@ -1,0 +1,12 @@
+pub mod Below
+pub mod Closed
+pub mod Dacls
+pub mod Given
+pub mod Journals
+pub mod Lists
+pub mod Moved
+pub mod NewRow
+pub mod Refused
+pub mod Rows
+pub mod Sorted
+pub mod Trustees

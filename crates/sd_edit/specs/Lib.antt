@@ -1,0 +1,13 @@
+pub mod Additions
+pub mod Answers
+pub mod Closed
+pub mod Descriptors
+pub mod Edits
+pub mod History
+pub mod Inheritance
+pub mod Journal
+pub mod Limits
+pub mod Machine
+pub mod Plain
+pub mod Refusals
+pub mod Starts

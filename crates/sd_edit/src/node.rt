@@ -1,0 +1,60 @@
+//! What is given to a node.
+
+ghost use Rattle.std.specs.Prelude.{◌≡◌, IfOk};
+ghost use Rattle.sd_edit.specs.Descriptors.{own_dacl};
+
+use crate::entries::Entries;
+use sd_acl::{Dacl, Descriptor};
+use sd_inheritance::NodeKind;
+use sd_sid::Sid;
+use std::alloc::{AllocError, Global};
+
+/// The DACL that is given to a node, without what it inherits ([MS-DTYP] 2.4.6).
+#[derive(Debug, Drop)]
+pub enum NodeDacl {
+    /// A null one: everything is granted, and nothing is inherited or handed on.
+    Null,
+    /// Its own entries; where it is protected (control bit PD), nothing is inherited.
+    List { protected: bool, entries: Entries },
+}
+
+impl NodeDacl {
+    /// The one that a descriptor gives a node ([MS-DTYP] 2.4.6): an absent DACL is an empty list that isn't protected.
+    pub fn of_descriptor(alloc: Global, descriptor: &Descriptor) -> Result<NodeDacl, AllocError>
+        ensures { IfOk result (λ given. given ≡ own_dacl descriptor.now.protected descriptor.now.dacl) }
+    {
+        match &descriptor.dacl {
+            Dacl::Absent => Ok(NodeDacl::List {
+                protected: false,
+                entries: Entries::new(Vec::new(alloc)),
+            }),
+            Dacl::Null => Ok(NodeDacl::Null),
+            Dacl::List(list) => Ok(NodeDacl::List {
+                protected: descriptor.protected,
+                entries: Entries::new(Vec::from_slice(alloc, list.entries())?),
+            }),
+        }
+    }
+
+    /// An equal one.
+    pub fn copy(&self, alloc: Global) -> Result<NodeDacl, AllocError>
+        ensures { IfOk result (λ dacl. dacl ≡ self.now) }
+    {
+        match self {
+            NodeDacl::Null => Ok(NodeDacl::Null),
+            NodeDacl::List { protected, entries } => Ok(NodeDacl::List {
+                protected: *protected,
+                entries: entries.copy(alloc)?,
+            }),
+        }
+    }
+}
+
+/// A node without its path and without what it inherits.
+#[derive(Debug, Drop)]
+pub struct Row {
+    pub kind: NodeKind,
+    pub owner: Sid,
+    pub group: Sid,
+    pub dacl: NodeDacl,
+}

@@ -1,0 +1,42 @@
+-- Changes of a node that change the DACL of no other: of its owner or group, or where nothing stands below it.
+use Rattle.std.proofs.Common.{◌≡◌, ◌≢◌, true, false, Option, Some, None, refl, sym, ◌∙◌, ap, inl, inr}
+use Rattle.std.proofs.lemmas.Bool.{cases_Bool, false≢true}
+use Rattle.sd_sid.specs.Mapping.{MappingValue}
+use Rattle.sd_path.specs.Names.{Names, is_within}
+use Rattle.sd_edit.specs.Plain.{PlainTree, row_at, dacl_at, dacl_here}
+use Rattle.sd_edit.specs.Closed.{IsClosed}
+use Rattle.sd_edit.specs.Edits.{changed, ChangesOneNode}
+use Rattle.sd_tree.specs.Plans.{changed_row, is_of_trustee}
+use Rattle.sd_edit.specs.Refusals.{has_child}
+use Rattle.sd_edit.specs.declared.node.Row.{Row}
+use Rattle.sd_tree.specs.declared.node.RowChange.{RowChange}
+use Rattle.sd_tree.specs.declared.node.RowChange.TheVariants.{Owner, Group, Dacl}
+use Rattle.sd_tree.proofs.Adding.{nothing_below_childless}
+use Rattle.sd_edit.proofs.Rows.{row_at-changed_other}
+use Rattle.sd_edit.proofs.Dacls.{dacl_at_here, dacl_over, dacl_at_outside}
+use Rattle.sd_edit.proofs.Trustees.{others_stay, row_alike}
+
+-- ---- what changes of a node that stays where it is
+
+pub trustee_stays : (g : MappingValue) (t : PlainTree) (path : Names) (change : RowChange) → is_of_trustee change ≡ true → ChangesOneNode g t (changed t path (changed_row change)) path
+trustee_stays g t path (Owner owner) h q ne =
+    others_stay g t path (changed_row (Owner owner)) (λ row r above. row_alike g r row.kind owner row.group row.owner row.group row.dacl above) q ne
+trustee_stays g t path (Group group) h q ne =
+    others_stay g t path (changed_row (Group group)) (λ row r above. row_alike g r row.kind row.owner group row.owner row.group row.dacl above) q ne
+trustee_stays g t path (Dacl dacl) h q ne = absurd cc
+
+-- nothing below a node without children is there to change
+pub childless_stays : (g : MappingValue) (t : PlainTree) → IsClosed t → (path : Names) (change : Row → Row) → has_child t path ≡ false → ChangesOneNode g t (changed t path change) path
+childless_stays g t closed path change none q ne = elim (cases_Bool (is_within path q)) [
+  | inl within ↦ empty_stays (row_at t q) refl within
+  | inr outside ↦ dacl_at_outside g u t path q (λ p other. row_at-changed_other t path p change other) outside
+]
+  where
+    u : PlainTree
+    u = changed t path change
+
+    empty_stays : (o : Option Row) → row_at t q ≡ o → is_within path q ≡ true → dacl_at g u q ≡ dacl_at g t q
+    empty_stays None nothing within =
+        dacl_at_here g u q ∙ ap (λ o. dacl_here g o (dacl_over g u q)) (row_at-changed_other t path q change ne ∙ nothing)
+        ∙ sym (dacl_at_here g t q ∙ ap (λ o. dacl_here g o (dacl_over g t q)) nothing)
+    empty_stays (Some row) there within = absurd (false≢true (sym (nothing_below_childless t closed path q row none there ne) ∙ within))
