@@ -2,6 +2,7 @@
 
 ghost use Rattle.std.specs.Prelude.{◌≡◌, IfOk};
 ghost use Rattle.sd_edit.specs.Additions.{addition_of, row_of};
+ghost use Rattle.sd_edit.specs.declared.edit.Edit.TheVariants.{SetDacl, Move};
 
 use crate::node::NodeDacl;
 use crate::opening::RootSpec;
@@ -90,23 +91,15 @@ impl Edit {
                 owner,
                 group,
                 dacl,
-            } => Ok(Edit::AddContainer {
-                path: path.copy(alloc)?,
-                owner: *owner,
-                group: *group,
-                dacl: dacl.copy(alloc)?,
-            }),
+            } => copy_of_addition(alloc, NodeKind::Container, path, *owner, *group, dacl),
             Edit::AddObject {
                 path,
                 owner,
                 group,
                 dacl,
-            } => Ok(Edit::AddObject {
-                path: path.copy(alloc)?,
-                owner: *owner,
-                group: *group,
-                dacl: dacl.copy(alloc)?,
-            }),
+            } => copy_of_addition(alloc, NodeKind::Object, path, *owner, *group, dacl),
+            Edit::SetDacl { path, dacl } => copy_of_list(alloc, path, dacl),
+            Edit::Move { source, target } => copy_of_move(alloc, source, target),
             Edit::SetOwner { path, owner } => Ok(Edit::SetOwner {
                 path: path.copy(alloc)?,
                 owner: *owner,
@@ -115,20 +108,47 @@ impl Edit {
                 path: path.copy(alloc)?,
                 group: *group,
             }),
-            Edit::SetDacl { path, dacl } => Ok(Edit::SetDacl {
-                path: path.copy(alloc)?,
-                dacl: dacl.copy(alloc)?,
-            }),
             Edit::Remove { path } => Ok(Edit::Remove {
                 path: path.copy(alloc)?,
             }),
             Edit::ProtectKeeping { path } => Ok(Edit::ProtectKeeping {
                 path: path.copy(alloc)?,
             }),
-            Edit::Move { source, target } => Ok(Edit::Move {
-                source: source.copy(alloc)?,
-                target: target.copy(alloc)?,
-            }),
         }
     }
+}
+
+// ---- copies of edits that hold two values, each of which memory may be refused
+
+fn copy_of_addition(
+    alloc: Global,
+    kind: NodeKind,
+    path: &Path,
+    owner: Sid,
+    group: Sid,
+    dacl: &NodeDacl,
+) -> Result<Edit, AllocError>
+    ensures { IfOk result (λ edit. edit ≡ addition_of kind path.now
+        (record { kind = kind; owner = owner; group = group; dacl = dacl.now })) }
+{
+    let path = path.copy(alloc)?;
+    let dacl = dacl.copy(alloc)?;
+    let node = RootSpec { owner, group, dacl };
+    Ok(Edit::addition(kind, path, node))
+}
+
+fn copy_of_list(alloc: Global, path: &Path, dacl: &NodeDacl) -> Result<Edit, AllocError>
+    ensures { IfOk result (λ edit. edit ≡ SetDacl path.now dacl.now) }
+{
+    let path = path.copy(alloc)?;
+    let dacl = dacl.copy(alloc)?;
+    Ok(Edit::SetDacl { path, dacl })
+}
+
+fn copy_of_move(alloc: Global, source: &Path, target: &Path) -> Result<Edit, AllocError>
+    ensures { IfOk result (λ edit. edit ≡ Move source.now target.now) }
+{
+    let source = source.copy(alloc)?;
+    let target = target.copy(alloc)?;
+    Ok(Edit::Move { source, target })
 }
