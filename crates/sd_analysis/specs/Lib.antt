@@ -9,3 +9,4 @@ pub mod Report
 pub mod Effect
 pub mod Redundant
 pub mod Risks
+pub mod Descendants
