@@ -1,5 +1,5 @@
 -- Changes of a node that change the DACL of no other: of its owner or group, or where nothing stands below it.
-use Rattle.std.proofs.Common.{◌≡◌, ◌≢◌, true, false, Option, Some, None, refl, sym, ◌∙◌, ap, inl, inr}
+use Rattle.std.proofs.Common.{◌≡◌, true, false, Option, Some, None, refl, sym, ◌∙◌, ap, inl, inr}
 use Rattle.std.proofs.lemmas.Bool.{cases_Bool, false≢true}
 use Rattle.sd_sid.specs.Mapping.{MappingValue}
 use Rattle.sd_path.specs.Names.{Names, is_within}
