@@ -196,7 +196,7 @@ class Following:
             self._is_silent = False
             self._writer.warn("the source of lines answers again")
         if self._writer.is_lost:
-            # (on a full disk each try reads the whole journal)
+            # (on a full disk it would ask without a pause)
             return RETRY_SECONDS
         return _PAUSE if has_all else 0
 

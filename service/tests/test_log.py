@@ -3,6 +3,7 @@
 import contextlib
 import json
 import os
+import shlex
 import subprocess
 import threading
 import time
@@ -187,7 +188,7 @@ class Services(rig.Case):
         """Another file would get the log: nothing is served."""
         self.make()
         self.configure()
-        command = f"exec {' '.join(rig.PROGRAM)} run {self.config} 2>&-"
+        command = f"exec {shlex.join([*rig.PROGRAM, 'run', str(self.config)])} 2>&-"
         self.assertEqual(subprocess.run(["sh", "-c", command], timeout=rig.PATIENCE, check=False).returncode, 3)
 
 

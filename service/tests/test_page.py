@@ -6,6 +6,7 @@ systemctl and runuser by what they would start."""
 import json
 import os
 import re
+import shlex
 import shutil
 import subprocess
 import time
@@ -27,7 +28,7 @@ STAND_INS = {
         echo $! >>"$MACHINE/../started"
         until grep -q '"ready"' "$MACHINE/log"; do kill -0 $! || exit 1; sleep 0.05; done""",
     "runuser": 'shift 3; exec "$@"',
-    "sdstored": f"exec {' '.join(rig.PROGRAM)} \"$@\"",
+    "sdstored": f"exec {shlex.join(rig.PROGRAM)} \"$@\"",
 }
 
 
