@@ -4,6 +4,7 @@ pub mod Why
 pub mod Lines
 pub mod Who
 pub mod Compare
+pub mod Descendants
 pub mod Lint
 pub mod Descriptor
 pub mod Names

@@ -14,6 +14,7 @@
 
 mod answer;
 mod compare;
+mod descendants;
 mod descriptor;
 mod laws;
 mod lines;
@@ -28,12 +29,13 @@ mod word;
 
 pub use answer::{Spelling, fault_line, sddl_fault_line, spell, verdict_line};
 pub use compare::{compare_text, gains_and_losses};
+pub use descendants::{descendant_head, descendants_text, inheritance_text};
 pub use descriptor::read_sddl_argument;
 pub use laws::{masks_come_back, names_are_distinct};
 pub use lint::{first_misplaced, lint_text};
 pub use mask::read_mask_in;
 pub use names::ObjectKind;
-pub use parts::{borrowed, looked_at};
+pub use parts::{borrowed, entries_in, looked_at};
 pub use rights::rights_line;
 pub use who::{rights_asked, who_text};
 pub use why::why_text;

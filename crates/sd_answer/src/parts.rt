@@ -2,10 +2,10 @@
 ghost use Rattle.std.specs.Prelude.{◌≡◌};
 ghost use Rattle.sd_acl.specs.Descriptor.{descriptor_of};
 ghost use Rattle.sd_analysis.specs.Sufficient.{parts_of};
-ghost use Rattle.sd_answer.specs.Parts.{parts_in};
+ghost use Rattle.sd_answer.specs.Parts.{entries_in, parts_in};
 ghost use Rattle.sd_check.specs.Check.{dacl_entries, entries_of};
 
-use sd_acl::{Dacl, Descriptor};
+use sd_acl::{Ace, Dacl, Descriptor};
 use sd_analysis::DescriptorRef;
 use sd_check::DaclRef;
 
@@ -27,5 +27,16 @@ pub fn borrowed(dacl: &Dacl) -> DaclRef<'_>
         Dacl::Absent => DaclRef::Absent,
         Dacl::Null => DaclRef::Null,
         Dacl::List(list) => DaclRef::List(list.entries()),
+    }
+}
+
+/// The entries of the DACL ([MS-DTYP] 2.4.5): none where there is no list.
+pub fn entries_in(dacl: &Dacl) -> &[Ace]
+    ensures { result.now ≡ entries_in dacl.now }
+{
+    match dacl {
+        Dacl::Absent => &[],
+        Dacl::Null => &[],
+        Dacl::List(list) => list.entries(),
     }
 }

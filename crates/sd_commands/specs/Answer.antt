@@ -25,19 +25,22 @@ use Rattle.sd_check.specs.Check.{verdict, dacl_entries}
 use Rattle.sd_check.specs.Token.{TokenValue}
 use Rattle.sd_answer.specs.Answer.{line, right_names_of, verdict_line, fault_line, sddl_fault_line}
 use Rattle.sd_analysis.specs.Compare.{AreGains}
+use Rattle.sd_analysis.specs.Descendants.{AreDescendantChanges}
+use Rattle.sd_analysis.specs.declared.descendants_compare.DescendantChange.{DescendantChange}
 use Rattle.sd_analysis.specs.declared.compare_report.Change.{Change}
 use Rattle.sd_analysis.specs.declared.who_has.Access.{Access}
 use Rattle.sd_check.specs.declared.token.GroupState.{GroupState}
-use Rattle.sd_answer.specs.Compare.{compare_text}
+use Rattle.sd_answer.specs.Compare.{gains_and_losses}
+use Rattle.sd_answer.specs.Descendants.{descendants_text, inheritance_text}
 use Rattle.sd_answer.specs.Descriptor.{IsRead, IsUnreadAt}
 use Rattle.sd_answer.specs.Lint.{IsLintText}
 use Rattle.sd_answer.specs.Mask.{IsMaskErrorIn, IsMaskIn}
-use Rattle.sd_answer.specs.Parts.{parts_in}
+use Rattle.sd_answer.specs.Parts.{entries_in, parts_in}
 use Rattle.sd_answer.specs.Rights.{rights_line}
 use Rattle.sd_answer.specs.Who.{rights_asked, who_text}
 use Rattle.sd_answer.specs.Why.{why_text}
 use Rattle.sd_answer.specs.Word.{AreGroups, IsFirstNoGroup, IsFirstNoWord, IsToken, texts}
-use Rattle.sd_commands.specs.Analysis.{AreAccesses, compare_outcome}
+use Rattle.sd_commands.specs.Analysis.{AreAccesses}
 use Rattle.sd_commands.specs.Bytes.{BytesRead, bytes_read, form_name, has_sacl, without_sacl}
 use Rattle.sd_usage.specs.declared.row.TextCommand.{TextCommand}
 use Rattle.sd_usage.specs.declared.row.TextCommand.TheVariants as questions
@@ -285,26 +288,41 @@ PrintsWho settings asked d base answer =
     (accesses : List Access) × AreAccesses settings.mapping d base (rights_asked settings.mapping asked) accesses
     × IsDone (who_text settings.spelling accesses) answer
 
--- what tokens gain and lose is printed, or that they are the same
-abbrev pub PrintsComparison : Settings → DescriptorValue → DescriptorValue → List (SidValue × GroupState) → AnswerValue
-    → Type 0
-PrintsComparison settings old new base answer =
+-- what tokens gain and lose of the object itself
+abbrev pub AreOwnChanges : Settings → DescriptorValue → DescriptorValue → List (SidValue × GroupState) → List ℕ → Type 0
+AreOwnChanges settings old new base text =
     (gained : List Change) × (lost : List Change)
     × AreGains settings.mapping base (parts_in old) (parts_in new) gained
     × AreGains settings.mapping base (parts_in new) (parts_in old) lost
-    × IsAnswer (compare_text settings.spelling (parts_in old) (parts_in new) gained lost) []
-    (compare_outcome gained lost) answer
+    × (text ≡ gains_and_losses settings.spelling [] (parts_in old) (parts_in new) gained lost)
+
+-- and of all that is made in it, if it is a container
+abbrev pub AreDescendantLines : Settings → DescriptorValue → DescriptorValue → List (SidValue × GroupState) → List ℕ
+    → Type 0
+AreDescendantLines settings old new base text =
+    (changes : List DescendantChange)
+    × AreDescendantChanges settings.mapping base (entries_in old.dacl) (entries_in new.dacl) changes
+    × (text ≡ descendants_text settings.spelling [] changes)
+
+-- what was found is printed, or that there is nothing
+abbrev pub IsFound : List ℕ → List ℕ → AnswerValue → Type 0
+IsFound nothing [] answer = IsDone nothing answer
+IsFound nothing (b ∷ bs) answer = IsAnswer (b ∷ bs) [] Refused answer
+
+-- what tokens gain and lose is printed, and whether the list inherits where it did not; or that nothing of it changes
+abbrev pub PrintsComparison : Settings → DescriptorValue → DescriptorValue → List (SidValue × GroupState) → AnswerValue
+    → Type 0
+PrintsComparison settings old new base answer =
+    (own : List ℕ) × (below : List ℕ) × AreOwnChanges settings old new base own
+    × AreDescendantLines settings old new base below
+    × IsFound (line (codes "same")) ((own ++ below) ++ inheritance_text old.protected new.protected) answer
 
 -- ---- findings
 
 -- the findings are printed, or that there are none
-abbrev pub IsLinted : List ℕ → AnswerValue → Type 0
-IsLinted [] answer = IsDone (line (codes "clean")) answer
-IsLinted (b ∷ bs) answer = IsAnswer (b ∷ bs) [] Refused answer
-
 abbrev pub PrintsFindings : Settings → DescriptorValue → List (SidValue × GroupState) → AnswerValue → Type 0
 PrintsFindings settings d base answer = (lines : List ℕ) × IsLintText settings.mapping settings.spelling base d lines
-    × IsLinted (lines ++ risk_lines settings d base) answer
+    × IsFound (line (codes "clean")) (lines ++ risk_lines settings d base) answer
 
 -- ---- rights
 

@@ -1,19 +1,20 @@
 //! The answers to `who` and `compare`: whom rights are granted to, and what a change of a descriptor grants and takes.
-ghost use Rattle.std.specs.Prelude.{◌≡◌, ◌<◌, IfOk, length};
+ghost use Rattle.std.specs.Prelude.{◌<◌, IfOk, length, string_bytes};
 ghost use Rattle.sd_acl.specs.Descriptor.{descriptor_of};
 ghost use Rattle.sd_answer.specs.Word.{IsFirstNoGroup, texts};
-ghost use Rattle.sd_commands.specs.Analysis.{compare_outcome};
-ghost use Rattle.sd_commands.specs.Answer.{AnswersOfBase, AnswersOn, IsGroupFault, PrintsComparison};
+ghost use Rattle.sd_commands.specs.Answer.{AnswersOfBase, AnswersOn, AreDescendantLines, AreOwnChanges};
+ghost use Rattle.sd_commands.specs.Answer.{IsGroupFault, PrintsComparison};
 ghost use Rattle.sd_commands.specs.Answer.{PrintsWho, answer_of};
 
-use crate::answer::{Answer, Answered, Outcome};
+use crate::answer::{Answer, Answered, found};
 use crate::descriptor::{Given, noting};
 use crate::settings::Command;
 use crate::words::{argument, items_from};
 use sd_acl::Descriptor;
-use sd_analysis::{Base, Comparison, compare, who};
+use sd_analysis::{Base, compare, compare_descendants, who};
 use sd_answer::{
-    TokenError, borrowed, compare_text, looked_at, read_base, read_mask_in, rights_asked, who_text,
+    TokenError, borrowed, descendants_text, entries_in, gains_and_losses, inheritance_text,
+    looked_at, read_base, read_mask_in, rights_asked, who_text,
 };
 use sd_check::GroupState;
 use sd_sid::{Mask, Sid};
@@ -103,20 +104,48 @@ impl Command {
         ensures { IfOk result (λ answer. PrintsComparison self.settings (descriptor_of old.now) (descriptor_of new.now)
             groups.now (answer_of answer)) }
     {
-        let (old, new) = (looked_at(old), looked_at(new));
-        let (base, mapping) = (Base { groups }, &self.settings.mapping);
-        let comparison = compare(self.alloc, &old, &new, mapping, &base)?;
-        let text = compare_text(self.alloc, self.settings.spelling, &old, &new, &comparison)?;
-        Ok(Answer::of(self.alloc, text, compare_outcome(&comparison)))
+        let base = Base { groups };
+        let mut lines = self.own_changes(old, new, &base)?;
+        let below = self.descendant_changes(old, new, &base)?;
+        lines.push_str(below.as_str())?;
+        lines.push_str(inheritance_text(old.protected, new.protected))?;
+        found(self.alloc, lines, "same\n")
     }
-}
 
-fn compare_outcome(comparison: &Comparison) -> Outcome
-    ensures { result ≡ compare_outcome comparison.now.gained.items comparison.now.lost.items }
-{
-    if comparison.gained.is_empty() && comparison.lost.is_empty() {
-        Outcome::Done
-    } else {
-        Outcome::Refused
+    /// What tokens gain and lose of the object itself.
+    fn own_changes(
+        &self,
+        old: &Descriptor,
+        new: &Descriptor,
+        base: &Base<'_>,
+    ) -> Result<String, AllocError>
+        ensures { IfOk result (λ text. AreOwnChanges self.now.settings (descriptor_of old.now) (descriptor_of new.now)
+            base.now (string_bytes text)) }
+    {
+        let (old, new) = (looked_at(old), looked_at(new));
+        let comparison = compare(self.alloc, &old, &new, &self.settings.mapping, base)?;
+        gains_and_losses(
+            self.alloc,
+            self.settings.spelling,
+            "",
+            &old,
+            &new,
+            &comparison,
+        )
+    }
+
+    /// What they gain and lose of all that is made in it, if it is a container.
+    fn descendant_changes(
+        &self,
+        old: &Descriptor,
+        new: &Descriptor,
+        base: &Base<'_>,
+    ) -> Result<String, AllocError>
+        ensures { IfOk result (λ text. AreDescendantLines self.now.settings (descriptor_of old.now)
+            (descriptor_of new.now) base.now (string_bytes text)) }
+    {
+        let (old, new) = (entries_in(&old.dacl), entries_in(&new.dacl));
+        let changes = compare_descendants(self.alloc, old, new, &self.settings.mapping, base)?;
+        descendants_text(self.alloc, self.settings.spelling, "", &changes)
     }
 }

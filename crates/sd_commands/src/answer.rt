@@ -3,7 +3,7 @@ ghost use Rattle.std.specs.Prelude.{◌≡◌, ◌<◌, ◌^◌, [], IfOk, strin
 ghost use Rattle.sd_answer.specs.Answer.{fault_line, sddl_fault_line};
 ghost use Rattle.sd_acl.specs.Descriptor.{descriptor_of};
 ghost use Rattle.sd_commands.specs.Answer.{AnswersOfArgument, AnswersOn, AnswersQuestion, IsAnswer, IsDone, IsFault};
-ghost use Rattle.sd_commands.specs.Answer.{IsFaultOf, IsTokenFault, answer_of, descriptor_name, outcome_status};
+ghost use Rattle.sd_commands.specs.Answer.{IsFaultOf, IsFound, IsTokenFault, answer_of, descriptor_name, outcome_status};
 ghost use Rattle.sd_commands.specs.Diagnostic.{sddl_fault_text, told_line};
 
 use crate::descriptor::{Given, noting};
@@ -110,6 +110,17 @@ pub fn fault(alloc: Global, what: &str, told: String) -> Result<Answer, AllocErr
         told,
         outcome: Outcome::Refused,
     })
+}
+
+/// The lines of what was found, or this text where nothing was.
+pub(crate) fn found(alloc: Global, lines: String, nothing: &str) -> Answered
+    ensures { IfOk result (λ answer. IsFound nothing.now (string_bytes lines) (answer_of answer)) }
+{
+    if lines.is_empty() {
+        Ok(Answer::done(alloc, String::from_str(alloc, nothing)?))
+    } else {
+        Ok(Answer::of(alloc, lines, Outcome::Refused))
+    }
 }
 
 impl Command {

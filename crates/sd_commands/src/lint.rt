@@ -1,9 +1,9 @@
 //! The answer to `lint`: what stands in a descriptor that its author may not have meant.
-ghost use Rattle.std.specs.Prelude.{IfOk, string_bytes};
+ghost use Rattle.std.specs.Prelude.{IfOk};
 ghost use Rattle.sd_acl.specs.Descriptor.{descriptor_of};
-ghost use Rattle.sd_commands.specs.Answer.{AnswersOfBase, IsLinted, PrintsFindings, answer_of};
+ghost use Rattle.sd_commands.specs.Answer.{AnswersOfBase, PrintsFindings, answer_of};
 
-use crate::answer::{Answer, Answered, Outcome};
+use crate::answer::{Answered, found};
 use crate::risks::risk_lines;
 use crate::settings::Command;
 use sd_acl::Descriptor;
@@ -11,7 +11,7 @@ use sd_analysis::Base;
 use sd_answer::{TokenError, lint_text, read_base};
 use sd_check::GroupState;
 use sd_sid::Sid;
-use std::alloc::{AllocError, Global};
+use std::alloc::AllocError;
 
 impl Command {
     /// The findings in a descriptor, or `clean`, where each token has the base that the words are; or the fault of the
@@ -36,17 +36,6 @@ impl Command {
         let mut lines = lint_text(self.alloc, mapping, spelling, &base, descriptor)?;
         let risks = risk_lines(self.alloc, self.settings, descriptor, &base)?;
         lines.push_str(risks.as_str())?;
-        found(self.alloc, lines)
-    }
-}
-
-/// The findings, or that there are none.
-fn found(alloc: Global, lines: String) -> Answered
-    ensures { IfOk result (λ answer. IsLinted (string_bytes lines) (answer_of answer)) }
-{
-    if lines.is_empty() {
-        Ok(Answer::done(alloc, String::from_str(alloc, "clean\n")?))
-    } else {
-        Ok(Answer::of(alloc, lines, Outcome::Refused))
+        found(self.alloc, lines, "clean\n")
     }
 }
