@@ -16,8 +16,8 @@ from hudarin import Descriptor, Group
 from deadline import Deadline
 from tree import Mapping
 
-#: A descriptor and groups of so many bytes in all are asked about here: that takes a part of a second, as the start of a
-#: process does.
+#: A descriptor and groups of so many bytes in all are asked about here: that takes a part of a second, as the start of
+#: a process does.
 _BYTES = 16_384
 #: Whether somebody waits yet is asked after so many seconds.
 _LOOK_SECONDS = 0.1
