@@ -1,4 +1,4 @@
-"""Whom a descriptor grants what, of all tokens: of a long list that takes up to a minute and more.
+"""Whom a descriptor grants what, of all tokens: of a long list that takes many seconds.
 
 No call of the library can be ended, so it is made in a process of its own then, which can."""
 
@@ -16,9 +16,9 @@ from hudarin import Descriptor, Group
 from deadline import Deadline
 from tree import Mapping
 
-#: A descriptor and groups of so many bytes in all are asked about here: that takes a part of a second, as the start of a
-#: process does.
-_BYTES = 4_096
+#: A descriptor and groups of so many bytes in all are asked about here: that takes a part of a second, as the start of
+#: a process does.
+_BYTES = 16_384
 #: Whether somebody waits yet is asked after so many seconds.
 _LOOK_SECONDS = 0.1
 #: The status of a process that is out of memory.

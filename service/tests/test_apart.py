@@ -46,7 +46,7 @@ class Services(rig.Case):
     def test_its_turn(self) -> None:
         """The next question has it then."""
         self.make(f"open 1 O:BAG:SYD:\naddo /long {LONG}\npublish\n")
-        self.start("long_seconds = 2\nlong_answers = 1")
+        self.start("long_seconds = 1\nlong_answers = 1")
         began = time.monotonic()
         with self.connect() as asked:
             asked.send(b"x who /long FA\n")
