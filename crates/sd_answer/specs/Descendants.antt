@@ -1,4 +1,4 @@
--- The lines about what is made in a container: as those about the container itself, each after a head that says of what.
+-- The lines about what is made in a container: as those about the container itself, each after a head.
 use Rattle.std.specs.Prelude.{ℕ, Bool, if◌then◌else◌, List, [], ◌++◌, codes}
 use Rattle.std.specs.Bool.{beq}
 use Rattle.std.specs.List.{flat_map}
