@@ -8,8 +8,9 @@ ghost use Rattle.sd_arguments.specs.CommandLine.{request_of};
 ghost use Rattle.sd_arguments.specs.Options.{options_of};
 
 use crate::input::answer_input;
+use crate::spoken::answer_text;
 use sd_arguments::{BadValue, Options, TextRequest};
-use sd_commands::{Answer, answer_question, fault, sid_reason, told_line};
+use sd_commands::{Answer, fault, sid_reason, told_line};
 use sd_lines::{RunError, Watched, read_whole};
 use sd_text::Aliases;
 use std::alloc::{AllocError, Global};
@@ -36,10 +37,7 @@ pub fn answer_to<R: Read>(
         Err(bad) => return Ok(bad_value(alloc, bad)?),
     };
     match text {
-        Some(text) => {
-            let (question, arguments) = (request.question, request.arguments);
-            Ok(answer_question(alloc, settings, question, text, arguments)?)
-        }
+        Some(text) => Ok(answer_text(alloc, settings, request, text)?),
         None => {
             let input = read_whole(alloc, reader)?;
             Ok(answer_input(alloc, settings, request, &input)?)

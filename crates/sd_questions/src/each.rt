@@ -10,13 +10,14 @@ ghost use Rattle.sd_questions.specs.Answer.{AnswersEach, after_answer, form_of};
 ghost use Rattle.sd_arguments.specs.CommandLine.{request_of};
 ghost use Rattle.sd_questions.specs.Each.{after_key, has_key, key_len, key_of, no_line_note};
 ghost use Rattle.sd_questions.specs.Each.{told_of_lines, with_line};
-ghost use Rattle.sd_arguments.specs.Options.{options_of};
+ghost use Rattle.sd_arguments.specs.Options.{has, options_of};
 ghost use Rattle.sd_questions.specs.Output.{AppendsWhole, LeavesEach};
 
 use crate::answer::bad_value;
 use crate::input::is_blank;
+use crate::spoken::answer_text;
 use sd_arguments::{BadValue, GivenFlags, Options, TextRequest};
-use sd_commands::{Answer, Outcome, Settings, answer_question, fault, told_line};
+use sd_commands::{Answer, Outcome, Settings, fault, told_line};
 use sd_json::{Tagging, printed_as};
 use sd_lines::{AnswersLines, Ending, Form, RunError, Watched, answer_lines};
 use sd_script::tagged;
@@ -137,12 +138,8 @@ impl LineQuestion<'_> {
         if is_blank(bytes) {
             return fault(alloc, "blank", String::new(alloc));
         }
-        let TextRequest {
-            question,
-            arguments,
-        } = self.request;
         match self.settings {
-            Ok(settings) => answer_question(alloc, settings, question, text, arguments),
+            Ok(settings) => answer_text(alloc, settings, self.request, text),
             Err(bad) => bad_value(alloc, bad),
         }
     }
@@ -186,13 +183,13 @@ fn after_answer(question: TextCommand) -> &'static str
     }
 }
 
-/// What came of the lines, if there was one, with one more, of which this came.
+/// What came of the lines, if there was one, with one more, of which this came: the worst of all.
 fn with_line(lines: Option<Outcome>, outcome: Outcome) -> Option<Outcome>
     ensures { result ≡ with_line lines outcome }
 {
     match lines {
-        Some(Outcome::Refused) => lines,
-        _ => Some(outcome),
+        Some(lines) => Some(lines.or_worse(outcome)),
+        None => Some(outcome),
     }
 }
 
@@ -228,10 +225,10 @@ pub fn answer_each<R: Read, W: Write>(
     reader: &mut Watched<R>,
     writer: &mut Watched<W>,
 ) -> Result<Ended, RunError>
-    ensures ok { IfOk result (λ ended. AppendsWhole
+    ensures ok { IfOk result (λ ended. AppendsWhole (has (options_of options.entry) OptionName.StrictStatus)
         (AnswersEach (options_of options.entry) given (request_of request.entry) (R.remaining (inner_of reader.old)))
         (W.contents (inner_of writer.old)) (W.contents (inner_of writer.new)) (string_bytes ended.told)
-        (outcome_status ended.outcome)) }
+        (outcome_status (has (options_of options.entry) OptionName.StrictStatus) ended.outcome)) }
     ensures err { IfErr result (λ error. Keeps (W.contents (inner_of writer.old)) (W.contents (inner_of writer.new))
         ⊎ LeavesEach (options_of options.entry) given (request_of request.entry) (R.remaining (inner_of reader.old))
         (R.remaining (inner_of reader.new))
@@ -252,6 +249,6 @@ pub fn answer_each<R: Read, W: Write>(
     answer_lines(alloc, &question, &mut lines, form, reader, writer)?;
     Ok(Ended {
         told: told_of_lines(alloc, lines, note),
-        outcome: lines.unwrap_or(Outcome::Refused),
+        outcome: lines.unwrap_or(Outcome::Fault),
     })
 }

@@ -13,6 +13,7 @@
 mod answer;
 mod each;
 mod input;
+mod spoken;
 
 pub use answer::{answer_to, bad_value};
 pub use each::{Ended, answer_each};
