@@ -37,9 +37,11 @@ IsBadOption name reason answer = IsFault (fault_line name) (told_line (codes "--
 
 abbrev pub IsBadValue : BadValue → AnswerValue → Type 0
 IsBadValue (NoDomain text points) answer =
-    (reason : List ℕ) × IsSidReason points (in_domain None) (codes "no domain") text.now reason
+    (reason : List ℕ) × IsSidReason points (in_domain None)
+    (codes "no domain: S-1-5-21 and three numbers, as S-1-5-21-1-2-3") text.now reason
     × IsBadOption (codes "domain") reason answer
-IsBadValue NoMapping answer = IsBadOption (codes "mapping") (codes "no such mapping") answer
+IsBadValue NoMapping answer = IsBadOption (codes "mapping")
+    (codes "no such mapping: file, key, service, process, or four masks R,W,X,A") answer
 IsBadValue NoNodes answer = IsBadOption (codes "nodes") (codes "no number of nodes, 1 to 16777216") answer
 IsBadValue NoEdits answer = IsBadOption (codes "edits") (codes "no number of edits, 0 to 4294967296") answer
 
@@ -74,6 +76,11 @@ abbrev pub AnswersText : Settings → RequestValue → List ℕ → AnswerValue 
 AnswersText settings request text answer =
     AnswersWith (blank_name request.question text request.arguments) settings request text answer
 
+-- the other answer, and advice after what standard error is told otherwise, which rows of tests show
+abbrev pub Advising : (AnswerValue → Type 0) → AnswerValue → Type 0
+Advising Answers answer = (plain : AnswerValue) × (advice : List ℕ) × Answers plain
+    × (answer ≡ record plain { told = plain.told ++ advice })
+
 -- ---- the text that an input is
 
 -- the input is no text that a command answers
@@ -86,7 +93,7 @@ AnswersInput settings request input answer =
     let text = without_end (decoded input) in
     (IsUtf8 text × MatchBool (is_blank text)
     (IsInputFault (codes "blank") (codes "blank") answer)
-    (AnswersText settings request text answer))
+    (Advising (AnswersText settings request text) answer))
     ⊎ ((IsUtf8 text → ⊥) × MatchBool (is_utf16 input)
     (IsInputFault (codes "utf16") (codes "not UTF-16") answer)
     (IsInputFault (codes "utf8") (codes "not UTF-8") answer))
@@ -95,7 +102,7 @@ AnswersInput settings request input answer =
 
 -- what answers a text, or without one the input where it is known, under these settings
 abbrev pub AnswersUnder : Option (List ℕ) → Option (List ℕ) → RequestValue → Settings → AnswerValue → Type 0
-AnswersUnder input (Some text) request settings answer = AnswersText settings request text answer
+AnswersUnder input (Some text) request settings answer = Advising (AnswersText settings request text) answer
 AnswersUnder input None request settings answer =
     (text : List ℕ) × IfSome input (λ bytes. text ≡ bytes) × AnswersInput settings request text answer
 
@@ -164,4 +171,4 @@ AnswersEach options given request input answer =
     × (text : List ℕ) × (last : Option Outcome) × IfSome input (λ bytes. text ≡ bytes)
     × PrintsAndLeaves (form_of given.zero) (AnswersNext given.key (has options Json) settings request) None text
     answer.printed last
-    × (answer.told ≡ told_of_lines last) × (answer.outcome ≡ outcome_of_lines last)
+    × ((advice : List ℕ) × (answer.told ≡ told_of_lines last advice)) × (answer.outcome ≡ outcome_of_lines last)

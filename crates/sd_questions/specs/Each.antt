@@ -40,6 +40,7 @@ outcome_of_lines lines = unwrap_or lines Fault
 abbrev pub no_line_note : List ℕ
 no_line_note = told_line (codes "standard input") (codes "no line")
 
-abbrev pub told_of_lines : Option Outcome → List ℕ
-told_of_lines None = no_line_note
-told_of_lines (Some outcome) = []
+-- or else advice on the question, which rows of tests show
+abbrev pub told_of_lines : Option Outcome → List ℕ → List ℕ
+told_of_lines None advice = no_line_note
+told_of_lines (Some outcome) advice = advice

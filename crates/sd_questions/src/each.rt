@@ -13,6 +13,7 @@ ghost use Rattle.sd_questions.specs.Each.{told_of_lines, with_line};
 ghost use Rattle.sd_arguments.specs.Options.{has, options_of};
 ghost use Rattle.sd_questions.specs.Output.{AppendsWhole, LeavesEach};
 
+use crate::advised::advice_on_each;
 use crate::answer::bad_value;
 use crate::input::is_blank;
 use crate::spoken::answer_text;
@@ -193,14 +194,14 @@ fn with_line(lines: Option<Outcome>, outcome: Outcome) -> Option<Outcome>
     }
 }
 
-/// What standard error is told of the lines: this note, where there was none.
-fn told_of_lines(alloc: Global, lines: Option<Outcome>, note: String) -> String
+/// What standard error is told of the lines: this note, where there was none, or else the advice.
+fn told_of_lines(lines: Option<Outcome>, note: String, advice: String) -> String
     requires { string_bytes note ≡ no_line_note }
-    ensures { string_bytes result ≡ told_of_lines lines }
+    ensures { string_bytes result ≡ told_of_lines lines (string_bytes advice) }
 {
     match lines {
         None => note,
-        Some(_) => String::new(alloc),
+        Some(_) => advice,
     }
 }
 
@@ -238,6 +239,7 @@ pub fn answer_each<R: Read, W: Write>(
     ensures only { IfErr result (λ error. (error ≢ RunError.TooLong) × (error ≢ RunError.Thread)) }
 {
     let note = told_line(alloc, "standard input", "no line")?;
+    let advice = advice_on_each(alloc, options, request)?;
     let question = LineQuestion {
         has_keys: given.key,
         is_json: options.has(OptionName::Json),
@@ -248,7 +250,7 @@ pub fn answer_each<R: Read, W: Write>(
     let form = form_of(given.zero);
     answer_lines(alloc, &question, &mut lines, form, reader, writer)?;
     Ok(Ended {
-        told: told_of_lines(alloc, lines, note),
+        told: told_of_lines(lines, note, advice),
         outcome: lines.unwrap_or(Outcome::Fault),
     })
 }

@@ -6,7 +6,7 @@ ghost use Rattle.sd_questions.specs.Answer.{AnswersInput, IsInputFault};
 ghost use Rattle.sd_arguments.specs.CommandLine.{request_of};
 ghost use Rattle.sd_questions.specs.Input.{is_blank, is_utf16, without_end};
 
-use crate::spoken::answer_text;
+use crate::advised::advised;
 use sd_arguments::TextRequest;
 use sd_commands::{Answer, Settings, fault, told_line};
 use sd_lines::{Decoder, without_return};
@@ -27,7 +27,7 @@ pub(crate) fn answer_input(
     let bytes = decoded(alloc, input)?;
     match from_utf8(without_end(&bytes)) {
         Ok(text) if is_blank(text.as_bytes()) => input_fault(alloc, "blank", "blank"),
-        Ok(text) => answer_text(alloc, settings, request, text),
+        Ok(text) => advised(alloc, settings, request, text),
         Err(_) if is_utf16(input) => input_fault(alloc, "utf16", "not UTF-16"),
         Err(_) => input_fault(alloc, "utf8", "not UTF-8"),
     }
