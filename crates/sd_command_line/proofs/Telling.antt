@@ -5,10 +5,9 @@ use Rattle.sd_lines.specs.declared.error.RunError.TheVariants.{Read, TooLong, Wr
 use Rattle.sd_lines.specs.Output.{LeavesOutput}
 use Rattle.sd_script.specs.declared.manner.Manner.{Manner}
 use Rattle.sd_script.specs.declared.tally.Tally.{Tally}
-use Rattle.sd_usage.specs.declared.row.OptionName.TheVariants.{Strict}
-use Rattle.sd_command_line.specs.Answer.{PrintsRun}
+use Rattle.sd_command_line.specs.Answer.{PrintsRun, is_strict}
 use Rattle.sd_arguments.specs.CommandLine.{Runs, Script}
-use Rattle.sd_arguments.specs.Options.{IsManner, OptionsValue, has}
+use Rattle.sd_arguments.specs.Options.{IsManner, OptionsValue}
 use Rattle.sd_command_line.specs.Output.{LeavesAfter}
 use Rattle.sd_command_line.specs.Scripts.{script_outcome}
 use Rattle.sd_arguments.specs.declared.command_line.ScriptRun.{ScriptRun}
@@ -22,7 +21,7 @@ output_leaves run options manner said input left old new Read leaves = inl leave
 output_leaves run options manner said input left old new TooLong leaves = inl leaves
 output_leaves run options manner said input left old new Write part =
     let tally = part.output.2.0 in inr (inl (record {
-      answer = record { printed = part.printed; told = []; outcome = script_outcome (has options Strict) tally };
+      answer = record { printed = part.printed; told = []; outcome = script_outcome (is_strict options) tally };
       answers = (Ok manner, said, (tally, (part.output.0, part.output.1, part.output.2.1), inr refl, refl));
       beginning = part.beginning;
     }))

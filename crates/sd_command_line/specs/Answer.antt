@@ -1,5 +1,5 @@
 -- What the program prints for a command line, and whether it did what was asked for.
-use Rattle.std.specs.Prelude.{◌≡◌, ℕ, Bool, List, [], Option, MatchResult, Result}
+use Rattle.std.specs.Prelude.{◌≡◌, ℕ, Bool, ◌||◌, List, [], Option, MatchResult, Result}
 use Rattle.sd_script.specs.Output.{PrintsAndCounts}
 use Rattle.sd_lines.specs.Output.{IsOutput}
 use Rattle.sd_script.specs.declared.manner.Manner.{Manner}
@@ -8,7 +8,7 @@ use Rattle.sd_script_audit.specs.Audit.{PrintsAuditAndCounts}
 use Rattle.sd_script.specs.Printed.{PrintsAndCountsServed, PrintsAs}
 use Rattle.sd_json.specs.Text.{printed_as}
 use Rattle.sd_json.specs.declared.tagging.Tagging.TheVariants.{Nothing}
-use Rattle.sd_usage.specs.declared.row.OptionName.TheVariants.{Json, Strict}
+use Rattle.sd_usage.specs.declared.row.OptionName.TheVariants.{Json, Strict, StrictStatus}
 use Rattle.sd_arguments.specs.CommandLine.{CommandLineValue, Ask, Each, Help, Runs, Script, Version}
 use Rattle.sd_arguments.specs.Options.{OptionsValue, GivesManner, has}
 use Rattle.sd_arguments.specs.Version.{version_line}
@@ -36,13 +36,17 @@ PrintsRun AtOnce manner = PrintsAs manner.notation.is_json (PrintsAndCounts mann
 PrintsRun (LineByLine has_ids) manner = PrintsAndCountsServed has_ids manner.notation.is_json manner
 PrintsRun (Audit workers) manner = PrintsAs manner.notation.is_json (PrintsAuditAndCounts manner workers)
 
+-- a fault of a line is told, and isn't success
+abbrev pub is_strict : OptionsValue → Bool
+is_strict options = has options Strict || has options StrictStatus
+
 -- the output of the script on the input; or a value of an option isn't read
 abbrev pub AnswersScript : ScriptRun → Option (List ℕ) → OptionsValue → AnswerValue → Type 0
 AnswersScript run input options answer =
     (said : Result Manner BadValue) × GivesManner options said × MatchResult said
     (λ manner. (tally : Tally) × IsOutput (λ text printed. PrintsRun run manner text printed tally) input answer.printed
-    × IsToldOfScript (has options Strict) tally answer.told
-    × (answer.outcome ≡ script_outcome (has options Strict) tally))
+    × IsToldOfScript (is_strict options) tally answer.told
+    × (answer.outcome ≡ script_outcome (is_strict options) tally))
     (λ bad. IsPrinted options (IsBadValue bad) answer)
 
 -- what is printed for a command line, with this input where it is known, and what came of it; the help's text is

@@ -1,5 +1,5 @@
 -- What the program leaves in a writer whose bytes are known.
-use Rattle.std.specs.Prelude.{◌≡◌, ◌⊎◌, ℕ, Bool, ◌||◌, List, Option, Some, Err, codes}
+use Rattle.std.specs.Prelude.{◌≡◌, ◌⊎◌, ℕ, Bool, false, ◌||◌, List, Option, Some, Err, codes}
 use Rattle.std.specs.Io.KnownBytes.{Keeps}
 use Rattle.std.specs.Borrow.{Bor}
 use Rattle.sd_lines.specs.Streams.{AppendsBeginning, ReadsPart, is_read_error, is_write_error}
@@ -12,17 +12,23 @@ use Rattle.sd_script.specs.declared.ids.TheConstants.{LINES}
 use Rattle.sd_lines.specs.Output.{LeavesAnswers}
 use Rattle.sd_commands.specs.Answer.{AnswerValue}
 use Rattle.sd_arguments.specs.CommandLine.{CommandLineValue, Each, Runs, Script, reading, IsAudit}
-use Rattle.sd_arguments.specs.Options.{IsManner}
+use Rattle.sd_arguments.specs.Options.{IsManner, has}
 use Rattle.sd_arguments.specs.declared.command_line.ScriptRun.TheVariants.{LineByLine}
+use Rattle.sd_usage.specs.declared.row.OptionName.TheVariants.{StrictStatus}
 use Rattle.sd_questions.specs.Output.{AppendsWhole, LeavesEach}
 use Rattle.sd_command_line.specs.Answer.{Answers}
 
 -- ---- of a command line
 
+-- the status of a fault is one of its own
+abbrev pub tells_faults : CommandLineValue → Bool
+tells_faults (Runs options invocation) = has options StrictStatus
+tells_faults line = false
+
 -- known bytes grow by the whole answer, with this input; this is told beside it, and it ends with this status
 abbrev pub AppendsAnswerTo : CommandLineValue → Option (List ℕ) → Option (List ℕ) → Option (List ℕ) → List ℕ → ℕ
     → Type 0
-AppendsAnswerTo line input = AppendsWhole (Answers input line)
+AppendsAnswerTo line input = AppendsWhole (tells_faults line) (Answers input line)
 
 -- known bytes grow by a beginning of the answer
 pub record AppendsPartOfAnswerTo (line : CommandLineValue) (input old new : Option (List ℕ)) : Type 0 where

@@ -6,8 +6,8 @@ ghost use Rattle.sd_commands.specs.Answer.{answer_of, outcome_status};
 ghost use Rattle.sd_command_line.specs.Answer.{Answers, printed_when};
 ghost use Rattle.sd_arguments.specs.CommandLine.{CommandLineValue, IsAudit, Runs, Script, command_line_of};
 ghost use Rattle.sd_arguments.specs.CommandLine.{uses_input};
-ghost use Rattle.sd_arguments.specs.Options.{options_of};
-ghost use Rattle.sd_command_line.specs.Output.{AppendsAnswerTo, LeavesAfter};
+ghost use Rattle.sd_arguments.specs.Options.{has, options_of};
+ghost use Rattle.sd_command_line.specs.Output.{AppendsAnswerTo, LeavesAfter, tells_faults};
 
 use crate::scripts::end_of_script;
 use sd_arguments::{Asked, CommandLine, Invocation, Options, ScriptRun, version_text};
@@ -34,7 +34,7 @@ pub(crate) fn perform<T: Threads + Wait + Sync, R: Read, W: Write>(
 ) -> Result<Ended, RunError>
     ensures ok { IfOk result (λ ended. AppendsAnswerTo (command_line_of line.entry) (R.remaining (inner_of reader.old))
         (W.contents (inner_of writer.old)) (W.contents (inner_of writer.new)) (string_bytes ended.told)
-        (outcome_status ended.outcome)) }
+        (outcome_status (tells_faults (command_line_of line.entry)) ended.outcome)) }
     ensures err { IfErr result (LeavesAfter (command_line_of line.entry) (R.remaining (inner_of reader.old))
         (R.remaining (inner_of reader.new))
         (W.contents (inner_of writer.old)) (W.contents (inner_of writer.new))) }
@@ -80,7 +80,7 @@ fn perform_script<T: Threads + Wait + Sync, R: Read, W: Write>(
     ensures ok { IfOk result (λ ended. AppendsAnswerTo (Runs (options_of options.entry) (Script script_run))
         (R.remaining (inner_of reader.old))
         (W.contents (inner_of writer.old)) (W.contents (inner_of writer.new)) (string_bytes ended.told)
-        (outcome_status ended.outcome)) }
+        (outcome_status (has (options_of options.entry) OptionName.StrictStatus) ended.outcome)) }
     ensures err { IfErr result (LeavesAfter (Runs (options_of options.entry) (Script script_run))
         (R.remaining (inner_of reader.old)) (R.remaining (inner_of reader.new))
         (W.contents (inner_of writer.old)) (W.contents (inner_of writer.new))) }
@@ -90,7 +90,7 @@ fn perform_script<T: Threads + Wait + Sync, R: Read, W: Write>(
         → ReadsPart (R.remaining (inner_of reader.old)) (R.remaining (inner_of reader.new)) RunError.TooLong }
     ensures thread { result ≡ Err RunError.Thread → IsAudit (Runs (options_of options.entry) (Script script_run)) }
 {
-    let is_strict = options.has(OptionName::Strict);
+    let is_strict = options.has(OptionName::Strict) || options.has(OptionName::StrictStatus);
     let manner = match options.manner() {
         Ok(manner) => manner,
         Err(bad) => {
@@ -125,7 +125,7 @@ fn print<W: Write>(
         → Answers input line (printed_when is_json (answer_of answer))
         → IfOk result (λ ended. AppendsAnswerTo line input
         (W.contents (inner_of writer.old)) (W.contents (inner_of writer.new)) (string_bytes ended.told)
-        (outcome_status ended.outcome)) }
+        (outcome_status (tells_faults line) ended.outcome)) }
     ensures err { (line : CommandLineValue) → (input left : Option (List ℕ))
         → Answers input line (printed_when is_json (answer_of answer))
         → IfErr result (LeavesAfter line input left

@@ -3,14 +3,18 @@ ghost use Rattle.std.specs.Prelude.{◌≡◌, ◌≤◌, ◌⊎◌, ℕ, List, 
 ghost use Rattle.std.specs.Io.KnownBytes.{Keeps};
 ghost use Rattle.sd_lines.specs.Watched.{has_failed, inner_of};
 ghost use Rattle.sd_lines.specs.Streams.{AppendsBeginning};
-ghost use Rattle.sd_arguments.specs.CommandLine.{IsUnread, asks_input};
+ghost use Rattle.sd_commands.specs.Answer.{outcome_status};
+ghost use Rattle.sd_arguments.specs.CommandLine.{IsUnread, asks_input, command_line_of};
 ghost use Rattle.sd_arguments.specs.Mistake.{IsMessage};
 ghost use Rattle.sd_command_line.specs.Output.{AppendsAnswer, AppendsPartOfAnswer, IsDue, LeavesByLine, error_line};
+ghost use Rattle.sd_command_line.specs.Output.{tells_faults};
 
 use crate::perform::perform;
-use sd_arguments::{message, read_command_line};
+use sd_arguments::{Asked, CommandLine, message, read_command_line};
+use sd_commands::Outcome;
 use sd_lines::{RunError, Watched, write_whole};
 use sd_questions::Ended;
+use sd_usage::OptionName;
 use std::alloc::Global;
 use std::io::{Read, Write};
 use std::sync::Wait;
@@ -22,11 +26,12 @@ use std::thread::Threads;
 ///
 /// - 0: the text was printed, or the right granted, or the script carried out to its end. Help and
 ///   the version are such texts.
-/// - 1: an argument's fault was printed, or a verdict other than granted.
+/// - 1: a verdict other than granted was printed, a difference or a finding; without `--strict-status` also a fault.
 /// - 2: the words aren't a command line, and `errors` has a message about one of them.
 /// - 3: memory was wanting, a stream failed, the script was too long, or an audit's workers got no
 ///   answers: `errors` has `sdstore: memory`, `sdstore: read`, `sdstore: write`,
 ///   `sdstore: too long` or `sdstore: thread`.
+/// - 4: with `--strict-status`, a fault was printed: an argument or an input can't be parsed.
 pub fn drive<T: Threads + Wait + Sync, R: Read, W: Write, E: Write>(
     rt: &T,
     alloc: Global,
@@ -35,8 +40,12 @@ pub fn drive<T: Threads + Wait + Sync, R: Read, W: Write, E: Write>(
     writer: &mut Watched<W>,
     errors: &mut Watched<E>,
 ) -> u8
-    ensures statuses { result ≤ 3 }
+    ensures statuses { result ≤ 4 }
     ensures answered { result ≤ 1 → (told : List ℕ)
+        × AppendsAnswer words.now (R.remaining (inner_of reader.old))
+        (W.contents (inner_of writer.old)) (W.contents (inner_of writer.new)) told result
+        × AppendsBeginning (E.contents (inner_of errors.old)) (E.contents (inner_of errors.new)) told }
+    ensures faulty { result ≡ 4 → (told : List ℕ)
         × AppendsAnswer words.now (R.remaining (inner_of reader.old))
         (W.contents (inner_of writer.old)) (W.contents (inner_of writer.new)) told result
         × AppendsBeginning (E.contents (inner_of errors.old)) (E.contents (inner_of errors.new)) told }
@@ -61,13 +70,15 @@ pub fn drive<T: Threads + Wait + Sync, R: Read, W: Write, E: Write>(
         (error_line error) }
     ensures sound { result ≤ 2 → (has_failed reader.new ≡ has_failed reader.old)
         × (has_failed writer.new ≡ has_failed writer.old) }
+    ensures sound_fault { result ≡ 4 → (has_failed reader.new ≡ has_failed reader.old)
+        × (has_failed writer.new ≡ has_failed writer.old) }
     ensures unused { asks_input words.now ≡ false → reader.new ≡ reader.old }
 {
     match read_command_line(words) {
         Ok(line) => match perform(rt, alloc, line, reader, writer) {
             Ok(Ended { told, outcome }) => {
                 tell(errors, told.as_str());
-                outcome.status()
+                status_of(line, outcome)
             }
             Err(error) => {
                 tell(errors, error_line(error));
@@ -84,6 +95,17 @@ pub fn drive<T: Threads + Wait + Sync, R: Read, W: Write, E: Write>(
                 3
             }
         },
+    }
+}
+
+/// The status of what came of a command line: that of a fault is one of its own where that is asked for.
+fn status_of(line: CommandLine<'_>, outcome: Outcome) -> u8
+    ensures status { result ≡ outcome_status (tells_faults (command_line_of line.entry)) outcome }
+    ensures within { (result ≤ 1) ⊎ (result ≡ 4) }
+{
+    match line.asked {
+        Asked::Runs(_) => outcome.status(line.options.has(OptionName::StrictStatus)),
+        _ => outcome.status(false),
     }
 }
 

@@ -16,7 +16,7 @@ use Rattle.sd_text.specs.Grammar.{Spells}
 use Rattle.sd_text.specs.Sid.{sid_text_in}
 use Rattle.sd_text.specs.Canon.{canon_in, full_canon}
 use Rattle.sd_text.specs.declared.fault.TextError.{TextError}
-use Rattle.sd_text.specs.declared.fault.TextError.TheVariants.{Fault, Memory}
+use Rattle.sd_text.specs.declared.fault.TextError.TheVariants.{Fault as FaultAt, Memory}
 use Rattle.sd_text.specs.declared.fault.TextFault.{TextFault}
 use Rattle.sd_wire.specs.Reading.{descriptor_read}
 use Rattle.sd_wire.specs.Writing.{wire_of}
@@ -54,7 +54,7 @@ use Rattle.sd_commands.specs.declared.answer.Answer.{Answer}
 use Rattle.sd_usage.specs.declared.row.DescriptorCommand.{DescriptorCommand}
 use Rattle.sd_usage.specs.declared.row.DescriptorCommand.TheVariants as about
 use Rattle.sd_commands.specs.declared.answer.Outcome.{Outcome}
-use Rattle.sd_commands.specs.declared.answer.Outcome.TheVariants.{Done, Refused}
+use Rattle.sd_commands.specs.declared.answer.Outcome.TheVariants.{Done, Refused, Fault}
 use Rattle.sd_commands.specs.declared.descriptor.Given.{Given}
 use Rattle.sd_commands.specs.declared.descriptor.Given.TheVariants as givens
 use Rattle.sd_answer.specs.declared.answer.Spelling.{Spelling}
@@ -72,10 +72,18 @@ verdict_outcome verdict = Refused
 abbrev pub wire_fault_line : WireFault → List ℕ
 wire_fault_line fault = line (codes "fault wire " ++ wire_fault_text fault)
 
--- the status behind an answer
-abbrev pub outcome_status : Outcome → ℕ
-outcome_status Done = 0
-outcome_status Refused = 1
+-- the status behind an answer: that of a fault is one of its own where this is asked for
+abbrev pub outcome_status : Bool → Outcome → ℕ
+outcome_status is_strict Done = 0
+outcome_status is_strict Refused = 1
+outcome_status is_strict Fault = if is_strict then 4 else 1
+
+-- the worse of two: a fault, or else a refusal
+abbrev pub or_worse : Outcome → Outcome → Outcome
+or_worse Fault other = Fault
+or_worse Refused Fault = Fault
+or_worse Refused other = Refused
+or_worse Done other = other
 
 -- ---- answers
 
@@ -102,11 +110,11 @@ IsDone printed = IsAnswer printed [] Done
 
 -- this line of a fault is printed, and this is told of it
 abbrev pub IsFault : List ℕ → List ℕ → AnswerValue → Type 0
-IsFault printed told = IsAnswer printed told Refused
+IsFault printed told = IsAnswer printed told Fault
 
 -- an argument's text has this fault first; out of memory is no answer
 abbrev pub IsFaultOf : Settings → List ℕ → List ℕ → List ℕ → TextError → AnswerValue → Type 0
-IsFaultOf settings what name text (Fault fault place) answer =
+IsFaultOf settings what name text (FaultAt fault place) answer =
     IsFault (fault_line what) (told_line name (fault_text settings.points text fault place)) answer
 IsFaultOf settings what name text Memory answer = ⊥
 

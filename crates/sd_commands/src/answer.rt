@@ -1,9 +1,10 @@
 //! The answer to a command about a descriptor: what is printed, and whether that is what was asked for.
-ghost use Rattle.std.specs.Prelude.{◌≡◌, ◌<◌, ◌^◌, [], IfOk, string_bytes};
+ghost use Rattle.std.specs.Prelude.{◌≡◌, ◌⊎◌, ◌≤◌, ◌<◌, ◌^◌, [], IfOk, string_bytes};
 ghost use Rattle.sd_answer.specs.Answer.{fault_line, sddl_fault_line};
 ghost use Rattle.sd_acl.specs.Descriptor.{descriptor_of};
 ghost use Rattle.sd_commands.specs.Answer.{AnswersOfArgument, AnswersOn, AnswersQuestion, IsAnswer, IsDone, IsFault};
-ghost use Rattle.sd_commands.specs.Answer.{IsFaultOf, IsFound, IsTokenFault, answer_of, descriptor_name, outcome_status};
+ghost use Rattle.sd_commands.specs.Answer.{IsFaultOf, IsFound, IsTokenFault, answer_of, descriptor_name};
+ghost use Rattle.sd_commands.specs.Answer.{or_worse, outcome_status};
 ghost use Rattle.sd_commands.specs.Diagnostic.{sddl_fault_text, told_line};
 
 use crate::descriptor::{Given, noting};
@@ -16,23 +17,39 @@ use sd_text::{TextError, TextFault};
 use sd_usage::{DescriptorCommand, TextCommand};
 use std::alloc::{AllocError, Global};
 
-/// What came of a command.
+/// What came of a command, the best first.
 #[derive(Clone, Copy, PartialEq, Eq)]
 pub enum Outcome {
     /// The text was printed, or the right granted.
     Done,
-    /// What was printed is an argument's fault, or a verdict other than granted.
+    /// What was printed is a verdict other than granted, a difference or a finding.
     Refused,
+    /// What was printed is a fault: an argument or an input can't be parsed.
+    Fault,
 }
 
 impl Outcome {
-    /// The status with which the program ends.
-    pub fn status(self) -> u8
-        ensures { result ≡ outcome_status self }
+    /// The status with which the program ends: that of a fault is one of its own where `is_strict`.
+    pub fn status(self, is_strict: bool) -> u8
+        ensures status { result ≡ outcome_status is_strict self }
+        ensures within { (result ≤ 1) ⊎ (result ≡ 4) }
     {
         match self {
             Outcome::Done => 0,
             Outcome::Refused => 1,
+            Outcome::Fault if is_strict => 4,
+            Outcome::Fault => 1,
+        }
+    }
+
+    /// The worse of the two: a fault is worse than a refusal.
+    pub fn or_worse(self, other: Outcome) -> Outcome
+        ensures { result ≡ or_worse self other }
+    {
+        match (self, other) {
+            (Outcome::Fault, _) | (_, Outcome::Fault) => Outcome::Fault,
+            (Outcome::Refused, _) | (_, Outcome::Refused) => Outcome::Refused,
+            _ => Outcome::Done,
         }
     }
 }
@@ -108,7 +125,7 @@ pub fn fault(alloc: Global, what: &str, told: String) -> Result<Answer, AllocErr
     Ok(Answer {
         text: fault_line(alloc, what)?,
         told,
-        outcome: Outcome::Refused,
+        outcome: Outcome::Fault,
     })
 }
 
@@ -196,7 +213,7 @@ impl Command {
         Ok(Answer {
             text: sddl_fault_line(self.alloc, fault, place)?,
             told: told_line(self.alloc, name, what.as_str())?,
-            outcome: Outcome::Refused,
+            outcome: Outcome::Fault,
         })
     }
 }

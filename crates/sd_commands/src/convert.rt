@@ -109,7 +109,7 @@ fn wire_fault(alloc: Global, bytes: &[u8], fault: WireFault) -> Answered
     Ok(Answer {
         text: format!(in alloc; "fault wire {number} {name}\n")?,
         told: told_line(alloc, "BYTES", what.as_str())?,
-        outcome: Outcome::Refused,
+        outcome: Outcome::Fault,
     })
 }
 

@@ -1,6 +1,7 @@
 -- The answer to a question: of a text, of the input, or of each of its lines.
-use Rattle.std.specs.Prelude.{◌≡◌, ◌⊎◌, ℕ, Bool, true, false, MatchBool, List, [], ◌++◌, Option, Some, None}
-use Rattle.std.specs.Prelude.{IfSome, if◌then◌else◌, MatchResult, Result, codes}
+use Rattle.std.specs.Prelude.{◌≡◌, ◌⊎◌, ℕ, ◌==◌, Bool, true, false, ◌&&◌, MatchBool, List, [], ◌++◌, length, Option}
+use Rattle.std.specs.Prelude.{Some, None, IfSome, if◌then◌else◌, MatchResult, Result, codes}
+use Rattle.std.specs.Borrow.{Bor}
 use Rattle.std.specs.Str.{IsUtf8}
 use Rattle.sd_answer.specs.Answer.{fault_line}
 use Rattle.sd_script.specs.Ids.{tagged}
@@ -15,10 +16,10 @@ use Rattle.sd_usage.specs.declared.row.OptionName.TheVariants.{Json}
 use Rattle.sd_usage.specs.declared.row.DescriptorCommand.TheVariants as about
 use Rattle.sd_usage.specs.declared.row.TextCommand.{TextCommand}
 use Rattle.sd_usage.specs.declared.row.TextCommand.TheVariants.{Descriptor}
-use Rattle.sd_commands.specs.Answer.{AnswerValue, AnswersQuestion, IsFault}
+use Rattle.sd_commands.specs.Answer.{AnswerValue, AnswersQuestion, IsFault, argument}
 use Rattle.sd_commands.specs.Diagnostic.{told_line, IsSidReason}
 use Rattle.sd_commands.specs.declared.answer.Outcome.{Outcome}
-use Rattle.sd_commands.specs.declared.answer.Outcome.TheVariants.{Refused}
+use Rattle.sd_commands.specs.declared.answer.Outcome.TheVariants.{Fault}
 use Rattle.sd_commands.specs.declared.settings.Settings.{Settings}
 use Rattle.sd_arguments.specs.CommandLine.{RequestValue}
 use Rattle.sd_arguments.specs.Options.{OptionsValue, GivesSettings, has}
@@ -36,11 +37,49 @@ IsBadOption name reason answer = IsFault (fault_line name) (told_line (codes "--
 
 abbrev pub IsBadValue : BadValue → AnswerValue → Type 0
 IsBadValue (NoDomain text points) answer =
-    (reason : List ℕ) × IsSidReason points (in_domain None) (codes "no domain") text.now reason
+    (reason : List ℕ) × IsSidReason points (in_domain None)
+    (codes "no domain: S-1-5-21 and three numbers, as S-1-5-21-1-2-3") text.now reason
     × IsBadOption (codes "domain") reason answer
-IsBadValue NoMapping answer = IsBadOption (codes "mapping") (codes "no such mapping") answer
+IsBadValue NoMapping answer = IsBadOption (codes "mapping")
+    (codes "no such mapping: file, key, service, process, or four masks R,W,X,A") answer
 IsBadValue NoNodes answer = IsBadOption (codes "nodes") (codes "no number of nodes, 1 to 16777216") answer
 IsBadValue NoEdits answer = IsBadOption (codes "edits") (codes "no number of edits, 0 to 4294967296") answer
+
+-- ---- questions that have an answer
+
+-- which of the texts that are compared is blank
+abbrev pub blank_name : TextCommand → List ℕ → List (Bor (List ℕ)) → Option (List ℕ)
+blank_name (Descriptor about.Compare) text arguments =
+    if is_blank text then Some (codes "OLD")
+    else (if is_blank (argument arguments 0) then Some (codes "NEW") else None)
+blank_name question text arguments = None
+
+abbrev pub asks_who : TextCommand → Bool
+asks_who (Descriptor about.Who) = true
+asks_who question = false
+
+-- where nothing is printed, that is said: no right was asked for
+abbrev pub IsSaid : Bool → AnswerValue → AnswerValue → Type 0
+IsSaid true plain answer =
+    IsFault (fault_line (codes "mask")) (told_line (codes "MASK") (codes "no right is asked for")) answer
+IsSaid false plain answer = answer ≡ plain
+
+-- a blank text isn't compared; or else the command's answer to the text, but `who` of no right is a fault
+abbrev pub AnswersWith : Option (List ℕ) → Settings → RequestValue → List ℕ → AnswerValue → Type 0
+AnswersWith (Some name) settings request text answer =
+    IsFault (fault_line (codes "blank")) (told_line name (codes "blank")) answer
+AnswersWith None settings request text answer =
+    (plain : AnswerValue) × AnswersQuestion settings request.question text request.arguments plain
+    × IsSaid (asks_who request.question && length plain.printed == 0) plain answer
+
+abbrev pub AnswersText : Settings → RequestValue → List ℕ → AnswerValue → Type 0
+AnswersText settings request text answer =
+    AnswersWith (blank_name request.question text request.arguments) settings request text answer
+
+-- the other answer, and advice after what standard error is told otherwise, which rows of tests show
+abbrev pub Advising : (AnswerValue → Type 0) → AnswerValue → Type 0
+Advising Answers answer = (plain : AnswerValue) × (advice : List ℕ) × Answers plain
+    × (answer ≡ record plain { told = plain.told ++ advice })
 
 -- ---- the text that an input is
 
@@ -54,7 +93,7 @@ AnswersInput settings request input answer =
     let text = without_end (decoded input) in
     (IsUtf8 text × MatchBool (is_blank text)
     (IsInputFault (codes "blank") (codes "blank") answer)
-    (AnswersQuestion settings request.question text request.arguments answer))
+    (Advising (AnswersText settings request text) answer))
     ⊎ ((IsUtf8 text → ⊥) × MatchBool (is_utf16 input)
     (IsInputFault (codes "utf16") (codes "not UTF-16") answer)
     (IsInputFault (codes "utf8") (codes "not UTF-8") answer))
@@ -63,8 +102,7 @@ AnswersInput settings request input answer =
 
 -- what answers a text, or without one the input where it is known, under these settings
 abbrev pub AnswersUnder : Option (List ℕ) → Option (List ℕ) → RequestValue → Settings → AnswerValue → Type 0
-AnswersUnder input (Some text) request settings answer =
-    AnswersQuestion settings request.question text request.arguments answer
+AnswersUnder input (Some text) request settings answer = Advising (AnswersText settings request text) answer
 AnswersUnder input None request settings answer =
     (text : List ℕ) × IfSome input (λ bytes. text ≡ bytes) × AnswersInput settings request text answer
 
@@ -82,7 +120,7 @@ abbrev pub AnswersTold : Result Settings BadValue → RequestValue → Option (L
 AnswersTold settings request None answer = IsFault (fault_line (codes "long")) [] answer
 AnswersTold settings request (Some text) answer =
     (IsUtf8 text × MatchBool (is_blank text) (IsFault (fault_line (codes "blank")) [] answer)
-    (MatchResult settings (λ said. AnswersQuestion said request.question text request.arguments answer)
+    (MatchResult settings (λ said. AnswersText said request text answer)
     (λ bad. IsBadValue bad answer)))
     ⊎ ((IsUtf8 text → ⊥) × IsFault (fault_line (codes "utf8")) [] answer)
 
@@ -106,7 +144,7 @@ abbrev pub AnswersLineIn : Bool → Result Settings BadValue → RequestValue �
 AnswersLineIn true settings request (Some line) printed outcome = MatchBool (has_key line)
     ((answer : List ℕ) × AnswersLine settings request (Some (after_key line)) answer outcome
     × (printed ≡ tagged (key_of line) true answer))
-    ((printed ≡ fault_line (codes "key") ++ after_answer request.question) × (outcome ≡ Refused))
+    ((printed ≡ fault_line (codes "key") ++ after_answer request.question) × (outcome ≡ Fault))
 AnswersLineIn has_keys settings request told printed outcome = AnswersLine settings request told printed outcome
 
 -- the same as it is printed, and what came of the lines up to this one
@@ -125,11 +163,12 @@ form_of zero = record {
   line_by_line = false;
 }
 
--- the lines' answers, one after the other, all under the same settings; refused where one is or where there is none
+-- the lines' answers, one after the other, all under the same settings; the worst of what came of them, and a fault
+-- where there is none
 abbrev pub AnswersEach : OptionsValue → GivenFlags → RequestValue → Option (List ℕ) → AnswerValue → Type 0
 AnswersEach options given request input answer =
     (settings : Result Settings BadValue) × GivesSettings options settings
     × (text : List ℕ) × (last : Option Outcome) × IfSome input (λ bytes. text ≡ bytes)
     × PrintsAndLeaves (form_of given.zero) (AnswersNext given.key (has options Json) settings request) None text
     answer.printed last
-    × (answer.told ≡ told_of_lines last) × (answer.outcome ≡ outcome_of_lines last)
+    × ((advice : List ℕ) × (answer.told ≡ told_of_lines last advice)) × (answer.outcome ≡ outcome_of_lines last)

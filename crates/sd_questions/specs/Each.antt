@@ -3,9 +3,10 @@ use Rattle.std.specs.Prelude.{ℕ, ◌+◌, ◌==◌, nat_lt, Bool, not, ◌&&�
 use Rattle.std.specs.Prelude.{Option, Some, None}
 use Rattle.std.specs.List.{list_any, position_or_len}
 use Rattle.std.specs.Option.{unwrap_or}
+use Rattle.sd_commands.specs.Answer.{or_worse}
 use Rattle.sd_commands.specs.Diagnostic.{told_line}
 use Rattle.sd_commands.specs.declared.answer.Outcome.{Outcome}
-use Rattle.sd_commands.specs.declared.answer.Outcome.TheVariants.{Refused}
+use Rattle.sd_commands.specs.declared.answer.Outcome.TheVariants.{Fault}
 
 -- ---- keys
 
@@ -27,18 +28,19 @@ after_key line = drop (key_len line + 1) line
 
 -- ---- what comes of all
 
--- what came of the lines, if there was one, with one more, of which this came
+-- what came of the lines, if there was one, with one more, of which this came: the worst of all
 abbrev pub with_line : Option Outcome → Outcome → Option Outcome
-with_line (Some Refused) outcome = Some Refused
-with_line lines outcome = Some outcome
+with_line None outcome = Some outcome
+with_line (Some lines) outcome = Some (or_worse lines outcome)
 
--- an input without a line is refused too, and standard error says so
+-- an input without a line is a fault too, and standard error says so
 abbrev pub outcome_of_lines : Option Outcome → Outcome
-outcome_of_lines lines = unwrap_or lines Refused
+outcome_of_lines lines = unwrap_or lines Fault
 
 abbrev pub no_line_note : List ℕ
 no_line_note = told_line (codes "standard input") (codes "no line")
 
-abbrev pub told_of_lines : Option Outcome → List ℕ
-told_of_lines None = no_line_note
-told_of_lines (Some outcome) = []
+-- or else advice on the question, which rows of tests show
+abbrev pub told_of_lines : Option Outcome → List ℕ → List ℕ
+told_of_lines None advice = no_line_note
+told_of_lines (Some outcome) advice = advice

@@ -1,5 +1,5 @@
 -- What an answer leaves in a writer whose bytes are known.
-use Rattle.std.specs.Prelude.{◌≡◌, ℕ, List, Option, None, Result}
+use Rattle.std.specs.Prelude.{◌≡◌, ℕ, Bool, List, Option, None, Result}
 use Rattle.std.specs.Io.KnownBytes.{Appends}
 use Rattle.sd_lines.specs.Answers.{Prints}
 use Rattle.sd_lines.specs.Output.{LeavesAnswers}
@@ -14,13 +14,14 @@ use Rattle.sd_arguments.specs.declared.flags.GivenFlags.{GivenFlags}
 use Rattle.sd_arguments.specs.declared.options.BadValue.{BadValue}
 use Rattle.sd_questions.specs.Answer.{AnswersNext, form_of}
 
--- known bytes grow by a whole answer; this is told beside it, and it ends with this status
-pub record AppendsWhole (Answers : AnswerValue → Type 0) (old new : Option (List ℕ)) (told : List ℕ) (status : ℕ)
-    : Type 0 where
+-- known bytes grow by a whole answer; this is told beside it, and it ends with this status: that of a fault is one of
+-- its own where `is_strict`
+pub record AppendsWhole (is_strict : Bool) (Answers : AnswerValue → Type 0) (old new : Option (List ℕ)) (told : List ℕ)
+    (status : ℕ) : Type 0 where
   pub text : List ℕ
   pub outcome : Outcome
   pub answers : Answers (record { printed = text; told = told; outcome = outcome })
-  pub ended : status ≡ outcome_status outcome
+  pub ended : status ≡ outcome_status is_strict outcome
   pub appended : Appends old new text
 
 -- what was answered of the lines until an error

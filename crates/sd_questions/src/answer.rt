@@ -7,9 +7,10 @@ ghost use Rattle.sd_questions.specs.Answer.{AnswersOnce, IsBadOption, IsBadValue
 ghost use Rattle.sd_arguments.specs.CommandLine.{request_of};
 ghost use Rattle.sd_arguments.specs.Options.{options_of};
 
+use crate::advised::advised;
 use crate::input::answer_input;
 use sd_arguments::{BadValue, Options, TextRequest};
-use sd_commands::{Answer, answer_question, fault, sid_reason, told_line};
+use sd_commands::{Answer, fault, sid_reason, told_line};
 use sd_lines::{RunError, Watched, read_whole};
 use sd_text::Aliases;
 use std::alloc::{AllocError, Global};
@@ -36,10 +37,7 @@ pub fn answer_to<R: Read>(
         Err(bad) => return Ok(bad_value(alloc, bad)?),
     };
     match text {
-        Some(text) => {
-            let (question, arguments) = (request.question, request.arguments);
-            Ok(answer_question(alloc, settings, question, text, arguments)?)
-        }
+        Some(text) => Ok(advised(alloc, settings, request, text)?),
         None => {
             let input = read_whole(alloc, reader)?;
             Ok(answer_input(alloc, settings, request, &input)?)
@@ -57,10 +55,14 @@ pub fn bad_value(alloc: Global, bad: BadValue<'_>) -> Result<Answer, AllocError>
                 domain: None,
                 later: false,
             };
-            let reason = sid_reason(alloc, points, known, "no domain", text)?;
+            let unfit = "no domain: S-1-5-21 and three numbers, as S-1-5-21-1-2-3";
+            let reason = sid_reason(alloc, points, known, unfit, text)?;
             bad_option(alloc, "domain", reason.as_str())
         }
-        BadValue::NoMapping => bad_option(alloc, "mapping", "no such mapping"),
+        BadValue::NoMapping => {
+            let reason = "no such mapping: file, key, service, process, or four masks R,W,X,A";
+            bad_option(alloc, "mapping", reason)
+        }
         BadValue::NoNodes => bad_option(alloc, "nodes", "no number of nodes, 1 to 16777216"),
         BadValue::NoEdits => bad_option(alloc, "edits", "no number of edits, 0 to 4294967296"),
     }

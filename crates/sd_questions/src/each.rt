@@ -10,13 +10,15 @@ ghost use Rattle.sd_questions.specs.Answer.{AnswersEach, after_answer, form_of};
 ghost use Rattle.sd_arguments.specs.CommandLine.{request_of};
 ghost use Rattle.sd_questions.specs.Each.{after_key, has_key, key_len, key_of, no_line_note};
 ghost use Rattle.sd_questions.specs.Each.{told_of_lines, with_line};
-ghost use Rattle.sd_arguments.specs.Options.{options_of};
+ghost use Rattle.sd_arguments.specs.Options.{has, options_of};
 ghost use Rattle.sd_questions.specs.Output.{AppendsWhole, LeavesEach};
 
+use crate::advised::advice_on_each;
 use crate::answer::bad_value;
 use crate::input::is_blank;
+use crate::spoken::answer_text;
 use sd_arguments::{BadValue, GivenFlags, Options, TextRequest};
-use sd_commands::{Answer, Outcome, Settings, answer_question, fault, told_line};
+use sd_commands::{Answer, Outcome, Settings, fault, told_line};
 use sd_json::{Tagging, printed_as};
 use sd_lines::{AnswersLines, Ending, Form, RunError, Watched, answer_lines};
 use sd_script::tagged;
@@ -137,12 +139,8 @@ impl LineQuestion<'_> {
         if is_blank(bytes) {
             return fault(alloc, "blank", String::new(alloc));
         }
-        let TextRequest {
-            question,
-            arguments,
-        } = self.request;
         match self.settings {
-            Ok(settings) => answer_question(alloc, settings, question, text, arguments),
+            Ok(settings) => answer_text(alloc, settings, self.request, text),
             Err(bad) => bad_value(alloc, bad),
         }
     }
@@ -186,24 +184,24 @@ fn after_answer(question: TextCommand) -> &'static str
     }
 }
 
-/// What came of the lines, if there was one, with one more, of which this came.
+/// What came of the lines, if there was one, with one more, of which this came: the worst of all.
 fn with_line(lines: Option<Outcome>, outcome: Outcome) -> Option<Outcome>
     ensures { result ≡ with_line lines outcome }
 {
     match lines {
-        Some(Outcome::Refused) => lines,
-        _ => Some(outcome),
+        Some(lines) => Some(lines.or_worse(outcome)),
+        None => Some(outcome),
     }
 }
 
-/// What standard error is told of the lines: this note, where there was none.
-fn told_of_lines(alloc: Global, lines: Option<Outcome>, note: String) -> String
+/// What standard error is told of the lines: this note, where there was none, or else the advice.
+fn told_of_lines(lines: Option<Outcome>, note: String, advice: String) -> String
     requires { string_bytes note ≡ no_line_note }
-    ensures { string_bytes result ≡ told_of_lines lines }
+    ensures { string_bytes result ≡ told_of_lines lines (string_bytes advice) }
 {
     match lines {
         None => note,
-        Some(_) => String::new(alloc),
+        Some(_) => advice,
     }
 }
 
@@ -228,10 +226,10 @@ pub fn answer_each<R: Read, W: Write>(
     reader: &mut Watched<R>,
     writer: &mut Watched<W>,
 ) -> Result<Ended, RunError>
-    ensures ok { IfOk result (λ ended. AppendsWhole
+    ensures ok { IfOk result (λ ended. AppendsWhole (has (options_of options.entry) OptionName.StrictStatus)
         (AnswersEach (options_of options.entry) given (request_of request.entry) (R.remaining (inner_of reader.old)))
         (W.contents (inner_of writer.old)) (W.contents (inner_of writer.new)) (string_bytes ended.told)
-        (outcome_status ended.outcome)) }
+        (outcome_status (has (options_of options.entry) OptionName.StrictStatus) ended.outcome)) }
     ensures err { IfErr result (λ error. Keeps (W.contents (inner_of writer.old)) (W.contents (inner_of writer.new))
         ⊎ LeavesEach (options_of options.entry) given (request_of request.entry) (R.remaining (inner_of reader.old))
         (R.remaining (inner_of reader.new))
@@ -241,6 +239,7 @@ pub fn answer_each<R: Read, W: Write>(
     ensures only { IfErr result (λ error. (error ≢ RunError.TooLong) × (error ≢ RunError.Thread)) }
 {
     let note = told_line(alloc, "standard input", "no line")?;
+    let advice = advice_on_each(alloc, options, request)?;
     let question = LineQuestion {
         has_keys: given.key,
         is_json: options.has(OptionName::Json),
@@ -251,7 +250,7 @@ pub fn answer_each<R: Read, W: Write>(
     let form = form_of(given.zero);
     answer_lines(alloc, &question, &mut lines, form, reader, writer)?;
     Ok(Ended {
-        told: told_of_lines(alloc, lines, note),
-        outcome: lines.unwrap_or(Outcome::Refused),
+        told: told_of_lines(lines, note, advice),
+        outcome: lines.unwrap_or(Outcome::Fault),
     })
 }

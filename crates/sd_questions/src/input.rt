@@ -6,8 +6,9 @@ ghost use Rattle.sd_questions.specs.Answer.{AnswersInput, IsInputFault};
 ghost use Rattle.sd_arguments.specs.CommandLine.{request_of};
 ghost use Rattle.sd_questions.specs.Input.{is_blank, is_utf16, without_end};
 
+use crate::advised::advised;
 use sd_arguments::TextRequest;
-use sd_commands::{Answer, Settings, answer_question, fault, told_line};
+use sd_commands::{Answer, Settings, fault, told_line};
 use sd_lines::{Decoder, without_return};
 use std::alloc::{AllocError, Global};
 use std::str::from_utf8;
@@ -26,7 +27,7 @@ pub(crate) fn answer_input(
     let bytes = decoded(alloc, input)?;
     match from_utf8(without_end(&bytes)) {
         Ok(text) if is_blank(text.as_bytes()) => input_fault(alloc, "blank", "blank"),
-        Ok(text) => answer_question(alloc, settings, request.question, text, request.arguments),
+        Ok(text) => advised(alloc, settings, request, text),
         Err(_) if is_utf16(input) => input_fault(alloc, "utf16", "not UTF-16"),
         Err(_) => input_fault(alloc, "utf8", "not UTF-8"),
     }

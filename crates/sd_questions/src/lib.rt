@@ -10,9 +10,14 @@
 //! ```
 #![tactic(auto)]
 
+mod advised;
 mod answer;
 mod each;
+mod found;
 mod input;
+mod notes;
+mod remedies;
+mod spoken;
 
 pub use answer::{answer_to, bad_value};
 pub use each::{Ended, answer_each};

@@ -11,6 +11,7 @@ pub(crate) const TEXT_OPTIONS: &[OptionName] = &[
     OptionName::Aliases,
     OptionName::Json,
     OptionName::Caret,
+    OptionName::StrictStatus,
 ];
 
 /// Of those that also print masks, or entries.
@@ -24,6 +25,7 @@ pub(crate) const NAMED_TEXT_OPTIONS: &[OptionName] = &[
     OptionName::Mapping,
     OptionName::Json,
     OptionName::Caret,
+    OptionName::StrictStatus,
 ];
 
 pub(crate) const LINT_OPTIONS: &[OptionName] = &[
@@ -37,6 +39,7 @@ pub(crate) const LINT_OPTIONS: &[OptionName] = &[
     OptionName::Mapping,
     OptionName::Json,
     OptionName::Caret,
+    OptionName::StrictStatus,
 ];
 
 pub(crate) const BYTES_OPTIONS: &[OptionName] = &[
@@ -49,6 +52,7 @@ pub(crate) const BYTES_OPTIONS: &[OptionName] = &[
     OptionName::Mapping,
     OptionName::Json,
     OptionName::Caret,
+    OptionName::StrictStatus,
 ];
 
 pub(crate) const SCRIPT_OPTIONS: &[OptionName] = &[
@@ -62,6 +66,7 @@ pub(crate) const SCRIPT_OPTIONS: &[OptionName] = &[
     OptionName::Aliases,
     OptionName::Mapping,
     OptionName::Json,
+    OptionName::StrictStatus,
 ];
 
 pub(crate) const RIGHTS_OPTIONS: &[OptionName] = &[
@@ -69,6 +74,7 @@ pub(crate) const RIGHTS_OPTIONS: &[OptionName] = &[
     OptionName::Mapping,
     OptionName::Json,
     OptionName::Caret,
+    OptionName::StrictStatus,
 ];
 
 pub(crate) const SID_OPTIONS: &[OptionName] = &[
@@ -76,4 +82,5 @@ pub(crate) const SID_OPTIONS: &[OptionName] = &[
     OptionName::Aliases,
     OptionName::Json,
     OptionName::Caret,
+    OptionName::StrictStatus,
 ];

@@ -104,10 +104,12 @@ pub enum OptionName {
     Json,
     /// `--caret`.
     Caret,
+    /// `--strict-status`.
+    StrictStatus,
 }
 
 /// How many options there are.
-pub const OPTION_COUNT: usize = 16;
+pub const OPTION_COUNT: usize = 17;
 
 /// A command, and what follows it.
 #[derive(Clone, Copy)]

@@ -367,6 +367,17 @@ words by their names",
 a message that names a byte of an argument shows the text, with a caret under that byte, as it does
 in any case where standard error is a terminal",
     ),
+    (
+        "--strict-status",
+        ProgramOption {
+            name: OptionName::StrictStatus,
+            value: None,
+            excludes: None,
+        },
+        "\
+the status of a fault is 4 instead of 1, so that 1 says no more than denied, different or found; of
+a script as with --strict",
+    ),
 ];
 
 /// The commands, for texts: no contract speaks of these, so their proofs don't carry the table along.

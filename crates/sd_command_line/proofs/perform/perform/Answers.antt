@@ -27,3 +27,13 @@ returns-in_ok-version_text-in-Version-clause-ok g c =
     rw c.in-Version.is
     (c.print-in-Version.ensures.ok Version (g.R.Read.remaining (inner_of c.args.reader.now))
     (done.0 ∙ c.in_ok-version_text-in-Version.ensures, done.1, done.2))
+
+pub returns-in-Runs-Each-clause-ok : goal.returns-in-Runs-Each-clause-ok
+returns-in-Runs-Each-clause-ok g c =
+    let field = rw c.in-Runs-Each.is at c.in-Runs-Each.field-0-is in
+    rw (c.in-Runs-Each.is, field) c.answer_each.ensures.ok
+
+pub returns-in-Runs-Script-clause-ok : goal.returns-in-Runs-Script-clause-ok
+returns-in-Runs-Script-clause-ok g c =
+    let field = rw c.in-Runs-Script.is at c.in-Runs-Script.field-0-is in
+    rw (c.in-Runs-Script.is, field) c.perform_script.ensures.ok

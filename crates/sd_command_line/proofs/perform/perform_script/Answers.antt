@@ -26,4 +26,4 @@ pub returns-in-Err-clause-ok : goal.returns-in-Err-clause-ok
 returns-in-Err-clause-ok g c =
     let plain = answer_of c.in_ok-answer-in-Err.answer in
     c.print.ensures.ok (Runs (options_of c.args.options) (Script c.args.script_run)) _
-    (Err c.in-Err.bad, c.in-Err.ensures, (plain, c.in_ok-answer-in-Err.ensures, ap (λ is_json. printed_when is_json plain) c.has.ensures))
+    (Err c.in-Err.bad, c.in-Err.ensures, (plain, c.in_ok-answer-in-Err.ensures, ap (λ is_json. printed_when is_json plain) c.has-in-Err.ensures))

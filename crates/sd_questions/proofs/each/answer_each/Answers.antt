@@ -15,7 +15,7 @@ returns-clause-ok g c =
     record {
       text = out.printed;
       outcome = c.unwrap_or.result;
-      answers = (c.settings.result, c.settings.ensures, out.output.0, c.answer_lines.new.state, out.output.1, out.output.2, c.told_of_lines.ensures, c.unwrap_or.ensures);
+      answers = (c.settings.result, c.settings.ensures, out.output.0, c.answer_lines.new.state, out.output.1, out.output.2, (_, c.told_of_lines.ensures), c.unwrap_or.ensures);
       ended = refl;
       appended = out.appended;
     }

@@ -1,0 +1,189 @@
+//! An answer, and after what standard error is told otherwise the advice on it.
+ghost use Rattle.std.specs.Prelude.{◌≡◌, ◌++◌, IfOk, string_bytes};
+ghost use Rattle.sd_commands.specs.Answer.{answer_of};
+ghost use Rattle.sd_questions.specs.Answer.{Advising, AnswersText};
+ghost use Rattle.sd_arguments.specs.CommandLine.{request_of};
+
+use crate::found::{found_in_descriptor, found_in_mask, found_in_user, found_in_word};
+use crate::notes::notes_on;
+use crate::remedies::{EACH, HEX, LABELS, Row, row_line};
+use crate::spoken::answer_text;
+use sd_answer::{TokenError, read_base, read_mask_in, read_sddl_argument, read_token};
+use sd_arguments::{Options, TextRequest};
+use sd_commands::{Answer, ByteForm, Outcome, Settings, told_line};
+use sd_text::{TextError, read_sid_text_in};
+use sd_usage::{DescriptorCommand, OptionName, TextCommand};
+use std::alloc::{AllocError, Global};
+
+/// The answer of a command to a text, and advice on it. The only error is out of memory.
+pub(crate) fn advised(
+    alloc: Global,
+    settings: Settings,
+    request: TextRequest<'_>,
+    text: &str,
+) -> Result<Answer, AllocError>
+    ensures { IfOk result (λ answer. Advising (AnswersText settings (request_of request.entry) text.now)
+        (answer_of answer)) }
+{
+    let answer = answer_text(alloc, settings, request, text)?;
+    let advice = advice_on(alloc, &settings, &request, text, answer.outcome)?;
+    with_advice(answer, advice.as_str())
+}
+
+/// What mends a fault, or the notes on another answer.
+fn advice_on(
+    alloc: Global,
+    settings: &Settings,
+    request: &TextRequest<'_>,
+    text: &str,
+    outcome: Outcome,
+) -> Result<String, AllocError> {
+    match outcome {
+        Outcome::Fault => remedy(alloc, settings, request, text),
+        _ => notes_on(alloc, settings, request, text),
+    }
+}
+
+/// The answer, and this after what standard error is told otherwise.
+fn with_advice(answer: Answer, advice: &str) -> Result<Answer, AllocError>
+    ensures { IfOk result (λ advised. answer_of advised
+        ≡ record (answer_of answer) { told = string_bytes answer.told ++ advice.now }) }
+{
+    let Answer {
+        text,
+        mut told,
+        outcome,
+    } = answer;
+    told.push_str(advice)?;
+    Ok(Answer {
+        text,
+        told,
+        outcome,
+    })
+}
+
+/// The advice on a question that is asked of each line, whatever the lines are.
+pub(crate) fn advice_on_each(
+    alloc: Global,
+    options: Options<'_>,
+    request: TextRequest<'_>,
+) -> Result<String, AllocError> {
+    let mut advice = misplaced_line(alloc, request)?;
+    if options.has(OptionName::WithoutSacl) && is_verdict(request.question) {
+        let note = told_line(alloc, "SDDL", LABELS)?;
+        advice.push_str(note.as_str())?;
+    }
+    Ok(advice)
+}
+
+fn is_verdict(question: TextCommand) -> bool {
+    matches!(
+        question,
+        TextCommand::Descriptor(DescriptorCommand::Verdict | DescriptorCommand::Why)
+    )
+}
+
+/// The line of a descriptor that stands where USER does.
+fn misplaced_line(alloc: Global, request: TextRequest<'_>) -> Result<String, AllocError> {
+    match (request.question, request.arguments) {
+        (TextCommand::Descriptor(DescriptorCommand::Verdict | DescriptorCommand::Why), [user, ..])
+            if is_descriptor(user) => row_line(alloc, EACH),
+        _ => Ok(String::new(alloc)),
+    }
+}
+
+fn is_descriptor(text: &str) -> bool {
+    matches!(
+        text.as_bytes(),
+        [b'O' | b'G' | b'D' | b'o' | b'g' | b'd', b':', ..]
+    )
+}
+
+/// The line of the first argument from the left that can't be parsed, or nothing.
+fn remedy(
+    alloc: Global,
+    settings: &Settings,
+    request: &TextRequest<'_>,
+    text: &str,
+) -> Result<String, AllocError> {
+    let row = match request.question {
+        TextCommand::Descriptor(question) => {
+            match descriptor_row(alloc, settings, text) {
+                Some(row) => Some(row),
+                None => argument_row(alloc, settings, question, request.arguments),
+            }
+        }
+        TextCommand::FromBinary => hex_row(settings.bytes, text),
+        TextCommand::Rights => found_in_mask(settings, text),
+        TextCommand::Sid => found_in_user(settings.aliases, text),
+    };
+    match row {
+        Some(row) => row_line(alloc, row),
+        None => Ok(String::new(alloc)),
+    }
+}
+
+fn descriptor_row(alloc: Global, settings: &Settings, text: &str) -> Option<Row> {
+    match read_sddl_argument(alloc, settings.aliases, settings.without_sacl, text) {
+        Err(TextError::Fault { fault, place }) => found_in_descriptor(text, fault, place),
+        _ => None,
+    }
+}
+
+/// Of bytes that are no digits.
+fn hex_row(form: ByteForm, text: &str) -> Option<Row> {
+    if form == ByteForm::Hex && text.bytes().any(|byte| !byte.is_ascii_hexdigit()) {
+        Some(HEX)
+    } else {
+        None
+    }
+}
+
+/// Of the first argument after the descriptor that can't be parsed.
+fn argument_row(
+    alloc: Global,
+    settings: &Settings,
+    question: DescriptorCommand,
+    arguments: &[&str],
+) -> Option<Row> {
+    match (question, arguments) {
+        (DescriptorCommand::Verdict | DescriptorCommand::Why, [user, mask, words @ ..]) => {
+            let Ok(sid) = read_sid_text_in(settings.aliases, user) else {
+                return found_in_user(settings.aliases, user);
+            };
+            if read_mask_in(settings.spelling, mask).is_err() {
+                return found_in_mask(settings, mask);
+            }
+            match read_token(alloc, settings.aliases, sid, words) {
+                Err(TokenError::NoWord { place }) => word_row(settings, words, place),
+                _ => None,
+            }
+        }
+        (DescriptorCommand::Who, [mask, words @ ..]) => {
+            if read_mask_in(settings.spelling, mask).is_err() {
+                return found_in_mask(settings, mask);
+            }
+            group_row(alloc, settings, words)
+        }
+        (DescriptorCommand::Compare, [new, words @ ..]) => {
+            match descriptor_row(alloc, settings, new) {
+                Some(row) => Some(row),
+                None => group_row(alloc, settings, words),
+            }
+        }
+        (DescriptorCommand::Lint, words) => group_row(alloc, settings, words),
+        _ => None,
+    }
+}
+
+fn group_row(alloc: Global, settings: &Settings, words: &[&str]) -> Option<Row> {
+    match read_base(alloc, settings.aliases, words) {
+        Err(TokenError::NoWord { place }) => word_row(settings, words, place),
+        _ => None,
+    }
+}
+
+fn word_row(settings: &Settings, words: &[&str], place: usize) -> Option<Row> {
+    let word = words.get(place)?;
+    found_in_word(settings.aliases, word)
+}
