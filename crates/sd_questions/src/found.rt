@@ -12,7 +12,9 @@ pub(crate) fn found_in_descriptor(text: &str, fault: TextFault, place: u64) -> O
     match fault {
         TextFault::HasSacl => Some(SACL),
         TextFault::EntryKind => Some(OTHER_ENTRY),
-        TextFault::ObjectGuid => Some(if fields_after(after).saturating_add(fields_before(before)) < 5 {
+        TextFault::ObjectGuid => Some(if fields_after(after).saturating_add(fields_before(before))
+            < 5
+        {
             FIELDS
         } else {
             OTHER_ENTRY
