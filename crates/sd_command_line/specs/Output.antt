@@ -1,5 +1,5 @@
 -- What the program leaves in a writer whose bytes are known.
-use Rattle.std.specs.Prelude.{◌≡◌, ◌⊎◌, ℕ, Bool, false, ◌||◌, List, Option, Some, Err, codes}
+use Rattle.std.specs.Prelude.{◌≡◌, ⊤, ◌⊎◌, ℕ, Bool, false, ◌||◌, List, Option, Some, Err, codes}
 use Rattle.std.specs.Io.KnownBytes.{Keeps}
 use Rattle.std.specs.Borrow.{Bor}
 use Rattle.sd_lines.specs.Streams.{AppendsBeginning, ReadsPart, is_read_error, is_write_error}
@@ -11,7 +11,7 @@ use Rattle.sd_script.specs.declared.manner.Manner.{Manner}
 use Rattle.sd_script.specs.declared.ids.TheConstants.{LINES}
 use Rattle.sd_lines.specs.Output.{LeavesAnswers}
 use Rattle.sd_commands.specs.Answer.{AnswerValue}
-use Rattle.sd_arguments.specs.CommandLine.{CommandLineValue, Each, Runs, Script, reading, IsAudit}
+use Rattle.sd_arguments.specs.CommandLine.{CommandLineValue, Each, Runs, Script, reading, IsAudit, IsUnread}
 use Rattle.sd_arguments.specs.Options.{IsManner, has}
 use Rattle.sd_arguments.specs.declared.command_line.ScriptRun.TheVariants.{LineByLine}
 use Rattle.sd_usage.specs.declared.row.OptionName.TheVariants.{StrictStatus}
@@ -46,11 +46,24 @@ LeavesLinesOf (Runs options (Each given request)) input left old new error =
     LeavesEach options given request input left old new error
 LeavesLinesOf line input left old new error = ⊥
 
--- what stands where the answer isn't there, or not the whole of it
+-- no write failed
+abbrev pub IsNoWriteError : RunError → Type 0
+IsNoWriteError Write = ⊥
+IsNoWriteError error = ⊤
+
+-- after which errors nothing may stand: of lines that are answered as they end after want of memory alone, of an answer
+-- that is given at once after any but a failed write
+abbrev pub MayLeaveNothing : CommandLineValue → RunError → Type 0
+MayLeaveNothing (Runs options (Script (LineByLine has_ids))) error = error ≡ Memory
+MayLeaveNothing (Runs options (Each given request)) error = error ≡ Memory
+MayLeaveNothing line error = IsNoWriteError error
+
+-- what stands where the answer isn't there, or not the whole of it, after this error
 abbrev pub LeavesAfter : CommandLineValue → Option (List ℕ) → Option (List ℕ) → Option (List ℕ) → Option (List ℕ)
     → RunError → Type 0
 LeavesAfter line input left old new error =
-    Keeps old new ⊎ (AppendsPartOfAnswerTo line input old new ⊎ LeavesLinesOf line input left old new error)
+    (MayLeaveNothing line error × Keeps old new)
+    ⊎ (((error ≡ Write) × AppendsPartOfAnswerTo line input old new) ⊎ LeavesLinesOf line input left old new error)
 
 -- ---- of words
 
@@ -62,12 +75,12 @@ abbrev pub AppendsAnswer : List (Bor (List ℕ)) → Option (List ℕ) → Optio
     → Type 0
 AppendsAnswer words input old new told status = OfReading words (λ line. AppendsAnswerTo line input old new told status)
 
-abbrev pub AppendsPartOfAnswer : List (Bor (List ℕ)) → Option (List ℕ) → Option (List ℕ) → Option (List ℕ) → Type 0
-AppendsPartOfAnswer words input old new = OfReading words (λ line. AppendsPartOfAnswerTo line input old new)
-
-abbrev pub LeavesByLine : List (Bor (List ℕ)) → Option (List ℕ) → Option (List ℕ) → Option (List ℕ) → Option (List ℕ)
+-- what stands after this error: where the words are no command line, memory was wanting for the message
+abbrev pub LeavesOf : List (Bor (List ℕ)) → Option (List ℕ) → Option (List ℕ) → Option (List ℕ) → Option (List ℕ)
     → RunError → Type 0
-LeavesByLine words input left old new error = OfReading words (λ line. LeavesLinesOf line input left old new error)
+LeavesOf words input left old new error =
+    (IsUnread words × (error ≡ Memory) × Keeps old new)
+    ⊎ OfReading words (λ line. LeavesAfter line input left old new error)
 
 -- what standard error gets of an error
 abbrev pub error_line : RunError → List ℕ

@@ -6,7 +6,7 @@ ghost use Rattle.sd_lines.specs.Streams.{AppendsBeginning};
 ghost use Rattle.sd_commands.specs.Answer.{outcome_status};
 ghost use Rattle.sd_arguments.specs.CommandLine.{IsUnread, asks_input, command_line_of};
 ghost use Rattle.sd_arguments.specs.Mistake.{IsMessage};
-ghost use Rattle.sd_command_line.specs.Output.{AppendsAnswer, AppendsPartOfAnswer, IsDue, LeavesByLine, error_line};
+ghost use Rattle.sd_command_line.specs.Output.{AppendsAnswer, IsDue, LeavesOf, error_line};
 ghost use Rattle.sd_command_line.specs.Output.{tells_faults};
 
 use crate::perform::perform;
@@ -55,19 +55,13 @@ pub fn drive<T: Threads + Wait + Sync, R: Read, W: Write, E: Write>(
         × AppendsBeginning (E.contents (inner_of errors.old)) (E.contents (inner_of errors.new)) message }
     ensures refused { IsUnread words.now → (2 ≤ result)
         × Keeps (W.contents (inner_of writer.old)) (W.contents (inner_of writer.new)) }
-    ensures failed { result ≡ 3
-        → Keeps (W.contents (inner_of writer.old)) (W.contents (inner_of writer.new))
-        ⊎ (AppendsPartOfAnswer words.now (R.remaining (inner_of reader.old))
-        (W.contents (inner_of writer.old)) (W.contents (inner_of writer.new))
-        ⊎ ((error : RunError) × LeavesByLine words.now (R.remaining (inner_of reader.old))
-        (R.remaining (inner_of reader.new))
-        (W.contents (inner_of writer.old)) (W.contents (inner_of writer.new)) error)) }
-    ensures told { result ≡ 3 → (error : RunError)
+    ensures failed { result ≡ 3 → (error : RunError)
         × IsDue words.now (has_failed reader.old) (has_failed reader.new)
         (has_failed writer.old) (has_failed writer.new)
         (R.remaining (inner_of reader.old)) (R.remaining (inner_of reader.new)) error
-        × AppendsBeginning (E.contents (inner_of errors.old)) (E.contents (inner_of errors.new))
-        (error_line error) }
+        × LeavesOf words.now (R.remaining (inner_of reader.old)) (R.remaining (inner_of reader.new))
+        (W.contents (inner_of writer.old)) (W.contents (inner_of writer.new)) error
+        × AppendsBeginning (E.contents (inner_of errors.old)) (E.contents (inner_of errors.new)) (error_line error) }
     ensures sound { result ≤ 2 → (has_failed reader.new ≡ has_failed reader.old)
         × (has_failed writer.new ≡ has_failed writer.old) }
     ensures sound_fault { result ≡ 4 → (has_failed reader.new ≡ has_failed reader.old)

@@ -230,7 +230,8 @@ pub fn answer_each<R: Read, W: Write>(
         (AnswersEach (options_of options.entry) given (request_of request.entry) (R.remaining (inner_of reader.old)))
         (W.contents (inner_of writer.old)) (W.contents (inner_of writer.new)) (string_bytes ended.told)
         (outcome_status (has (options_of options.entry) OptionName.StrictStatus) ended.outcome)) }
-    ensures err { IfErr result (λ error. Keeps (W.contents (inner_of writer.old)) (W.contents (inner_of writer.new))
+    ensures err { IfErr result (λ error. ((error ≡ RunError.Memory)
+        × Keeps (W.contents (inner_of writer.old)) (W.contents (inner_of writer.new)))
         ⊎ LeavesEach (options_of options.entry) given (request_of request.entry) (R.remaining (inner_of reader.old))
         (R.remaining (inner_of reader.new))
         (W.contents (inner_of writer.old)) (W.contents (inner_of writer.new)) error) }

@@ -12,14 +12,14 @@ use Rattle.sd_command_line.proofs.perform.perform_script.Goals as goal
 pub returns-in_err-tally-in-AtOnce-clause-err : goal.returns-in_err-tally-in-AtOnce-clause-err
 returns-in_err-tally-in-AtOnce-clause-err g c =
     let refused = err_from_is_err_and c.from_residual-in_err-tally-in-AtOnce.result c.from_residual-in_err-tally-in-AtOnce.ensures.1 in
-    rw (c.in-AtOnce.is, refused.1)
-    (output_leaves AtOnce (options_of c.args.options) c.in-Ok.manner c.in-Ok.ensures _ None _ _ _ c.in_err-tally-in-AtOnce.ensures.err)
+    rw (c.in-AtOnce.is, refused.1, refused.2)
+    (output_leaves AtOnce (options_of c.args.options) c.in-Ok.manner c.in-Ok.ensures (λ error other. other) _ None _ _ _ c.in_err-tally-in-AtOnce.ensures.err)
 
 pub returns-in_err-tally-in-Audit-clause-err : goal.returns-in_err-tally-in-Audit-clause-err
 returns-in_err-tally-in-Audit-clause-err g c =
     let refused = err_from_is_err_and c.from_residual-in_err-tally-in-Audit.result c.from_residual-in_err-tally-in-Audit.ensures.1 in
-    rw (c.in-Audit.is, refused.1)
-    (output_leaves (Audit c.in-Audit.workers) (options_of c.args.options) c.in-Ok.manner c.in-Ok.ensures _ None _ _ _ c.in_err-tally-in-Audit.ensures.err)
+    rw (c.in-Audit.is, refused.1, refused.2)
+    (output_leaves (Audit c.in-Audit.workers) (options_of c.args.options) c.in-Ok.manner c.in-Ok.ensures (λ error other. other) _ None _ _ _ c.in_err-tally-in-Audit.ensures.err)
 
 -- the value of an option that is invalid is the answer
 pub returns-in-Err-clause-ok : goal.returns-in-Err-clause-ok
