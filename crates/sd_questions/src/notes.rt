@@ -1,6 +1,7 @@
 //! What standard error notes beside an answer: a word with two meanings, a text that is empty, a label that is left
 //! out, a token that lacks what most have. It is for people: rows of tests show each text, and no definition says one.
 
+use crate::remedies::CHILDREN;
 use sd_answer::{read_mask_in, read_sddl_argument, read_token, verdict_line};
 use sd_arguments::TextRequest;
 use sd_check::check;
@@ -33,6 +34,10 @@ pub(crate) fn notes_on(
             push_empty(alloc, text, &mut notes)?;
             push_label(alloc, settings, text, &mut notes)?;
             push_mask(alloc, mask, words, &mut notes)?;
+            push_children(alloc, text, &mut notes)?;
+        }
+        (TextCommand::Descriptor(DescriptorCommand::Lint), _) => {
+            push_children(alloc, text, &mut notes)?;
         }
         _ => {}
     }
@@ -83,6 +88,26 @@ fn push_label(
     )?;
     let note = told_line(alloc, "SDDL", what.as_str())?;
     notes.push_str(note.as_str())
+}
+
+/// Of entries that are inherited by what is made in a container ([MS-DTYP] 2.4.4.1): only the object is looked at.
+fn push_children(alloc: Global, text: &str, notes: &mut String) -> Result<(), AllocError> {
+    if text.split('(').any(is_inherited) {
+        let note = told_line(alloc, "SDDL", CHILDREN)?;
+        notes.push_str(note.as_str())?;
+    }
+    Ok(())
+}
+
+/// Whether an entry, after its parenthesis, has OI or CI among its flags.
+fn is_inherited(entry: &str) -> bool {
+    match entry.split(';').nth(1) {
+        Some(flags) => flags.as_bytes().windows(2).any(|flag| matches!(
+            flag,
+            [b'O' | b'o' | b'C' | b'c', b'I' | b'i']
+        )),
+        None => false,
+    }
 }
 
 /// Of a mask whose letters are also an alias, before groups, and of one in decimal digits.
