@@ -23,6 +23,8 @@ _PROGRAMS = (_HERE.parents[1] / "crates/sdstore/out/sdstore", _HERE.parents[2] /
 _WORD = re.compile(r"[!-~]+")
 _GRANT = re.compile(r"(0x[0-9a-f]+) to (\S+)( as the owner)?(?: unless (.*))?")
 _DIFFERENCE = re.compile(r"(gained|lost) (0x[0-9a-f]+) by (.*)")
+#: Of what would be made in a folder, which is no node of the script.
+_OF_NEW_NODES = re.compile(r"(?:(?:(?:objects|containers) below )?new (?:objects|containers)|inheritance): .*")
 
 
 def program() -> str:
@@ -174,8 +176,8 @@ def reviewed(script: Script, words: list[str]) -> Iterator[tuple[Path, list[Diff
         olds.setdefault(change.after, []).append(change.before)
     answers = {new: _each(["compare", "--", new, *words], texts) for new, texts in olds.items()}
     for change in changes:
-        lines = answers[change.after][change.before]
-        if lines != ["same"]:
+        lines = [line for line in answers[change.after][change.before] if not _OF_NEW_NODES.fullmatch(line)]
+        if lines and lines != ["same"]:
             yield change.path, list(map(_difference, lines))
 
 
