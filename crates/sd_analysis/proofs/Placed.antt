@@ -7,9 +7,9 @@ use Rattle.sd_sid.specs.Sid.{SidValue}
 use Rattle.sd_check.specs.declared.grounds.Pass.{Pass}
 use Rattle.sd_analysis.specs.Sufficient.{is_among}
 use Rattle.sd_analysis.specs.Report.{ArePlaced, HasRoom, IsCase, IsPlace, new_of, old_of, sids_in}
-use Rattle.sd_analysis.specs.Table.{AreBoth, IsBeside, listed_of, place_in, point_at, sids_of}
+use Rattle.sd_analysis.specs.Table.{AreBeforeAndAfter, IsOtherSid, listed_of, place_in, point_at, sids_of}
 use Rattle.sd_analysis.specs.declared.compare_search.Case.{Case}
-use Rattle.sd_analysis.specs.declared.compare_table.Both.{Both}
+use Rattle.sd_analysis.specs.declared.compare_table.BeforeAndAfter.{BeforeAndAfter}
 use Rattle.sd_analysis.proofs.Tables.{among_at, among_left, among_right, first_or_before, place_low}
 
 module _ (case : Case) (is : IsCase case) where
@@ -71,7 +71,7 @@ module _ (case : Case) (is : IsCase case) where
 place_inside : (case : Case) (s : SidValue) (place : ℕ) → IsPlace case s place → place < length (sids_in case)
 place_inside case s place is = subst (λ n. n < length (sids_in case)) is.at (place_low (sids_in case) s is.among)
 
-pub is_beside : (case : Case) (s : SidValue) (place : ℕ) → IsPlace case s place → IsBeside (sids_in case) (Some s) (Some place)
+pub is_beside : (case : Case) (s : SidValue) (place : ℕ) → IsPlace case s place → IsOtherSid (sids_in case) (Some s) (Some place)
 is_beside case s place is = record {
   at = ap Some (sym is.at);
   among = λ one same. let eq : s ≡ one = some_same s one same in ap (is_among (sids_in case)) (sym eq) ∙ is.among;
@@ -81,12 +81,12 @@ is_beside case s place is = record {
     some_same x y same = cc
 
 -- what the walks say of a SID at its place
-module _ (case : Case) (pass : Pass) (beside : Option SidValue) (both : Both)
-    (are : AreBoth case.mapping.now case.base.now (sids_in case) (old_of case) (new_of case) pass beside both) where
+module _ (case : Case) (pass : Pass) (other_sid : Option SidValue) (both : BeforeAndAfter)
+    (are : AreBeforeAndAfter case.mapping.now case.base.now (sids_in case) (old_of case) (new_of case) pass other_sid both) where
   pub both_room : HasRoom case both
   both_room = record { before = are.before.room; after = are.after.room }
 
-  pub are_placed : (s : SidValue) (place : ℕ) → IsPlace case s place → ArePlaced case pass (sids_of beside s) both place
+  pub are_placed : (s : SidValue) (place : ℕ) → IsPlace case s place → ArePlaced case pass (sids_of other_sid s) both place
   are_placed s place is =
       let inside = place_inside case s place is in
       let before = are.before.room in

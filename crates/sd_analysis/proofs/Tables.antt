@@ -19,12 +19,12 @@ use Rattle.sd_check.specs.declared.grounds.Pass.{Pass}
 use Rattle.sd_check.specs.declared.token.GroupState.{GroupState}
 use Rattle.sd_analysis.specs.Sufficient.{Parts, entries_or_none, is_among}
 use Rattle.sd_analysis.specs.Passes.{about, lists, sids_stand}
-use Rattle.sd_analysis.specs.Table.{AreShares, IsBeside, IsListing, Point, applies_in, common_of, counts_in, first_point, listed_of, nothing_decided, place_in, point_after, point_at, point_moved, row_for, row_of, share_after, sids_of}
+use Rattle.sd_analysis.specs.Table.{AreRightsBySid, IsOtherSid, IsListing, Point, applies_in, common_of, counts_in, first_point, listed_of, nothing_decided, place_in, point_after, point_at, point_moved, row_for, row_of, share_after, sids_of}
 use Rattle.sd_analysis.specs.declared.compare_table.Listing.{Listing}
-use Rattle.sd_analysis.specs.declared.compare_table.Role.{Role}
-use Rattle.sd_analysis.specs.declared.compare_table.Row.{Row}
-use Rattle.sd_analysis.specs.declared.compare_table.Share.{Share}
-use Rattle.sd_analysis.specs.declared.compare_table.Shares.{Shares}
+use Rattle.sd_analysis.specs.declared.compare_table.WalkPass.{WalkPass}
+use Rattle.sd_analysis.specs.declared.compare_table.EntryRow.{EntryRow}
+use Rattle.sd_analysis.specs.declared.compare_table.DecidedRights.{DecidedRights}
+use Rattle.sd_analysis.specs.declared.compare_table.RightsBySid.{RightsBySid}
 use Rattle.sd_analysis.proofs.Reports.{none_held}
 
 -- ---- places
@@ -63,18 +63,18 @@ among_right xs ys s h = list_any-append (λ one. same_sid one s) xs ys ∙ or_ri
 
 module _ (g : MappingValue) (base : List (SidValue × GroupState)) (sids : List SidValue) where
   -- an entry that speaks of x counts where its place does
-  stands_at : (pass : Pass) (beside : Option SidValue) (at : Option ℕ) → IsBeside sids beside at → (s : SidValue) → is_among sids s ≡ true
+  stands_at : (pass : Pass) (other_sid : Option SidValue) (at : Option ℕ) → IsOtherSid sids other_sid at → (s : SidValue) → is_among sids s ≡ true
       → (e : Ace) (x : SidValue)
-      → sids_stand pass base (sids_of beside s) e.kind x
+      → sids_stand pass base (sids_of other_sid s) e.kind x
       ≡ (applies_in pass at (row_for g base sids (Some x) e) || (counts_in pass at e.kind && (place_in sids x == place_in sids s)))
-  stands_at pass beside at is s among e x = grind (arith, place_same, is.at, is.among)
+  stands_at pass other_sid at is s among e x = grind (arith, place_same, is.at, is.among)
 
-  row_decides_for : (pass : Pass) (beside : Option SidValue) (at : Option ℕ) → IsBeside sids beside at → (s : SidValue) → is_among sids s ≡ true
+  row_decides_for : (pass : Pass) (other_sid : Option SidValue) (at : Option ℕ) → IsOtherSid sids other_sid at → (s : SidValue) → is_among sids s ≡ true
       → (e : Ace) (b : ℕ) (o : Option SidValue)
-      → ((not (is_inherit_only e) && about (sids_stand pass base (sids_of beside s)) e.kind o) && holds (mapped g e.mask) b)
+      → ((not (is_inherit_only e) && about (sids_stand pass base (sids_of other_sid s)) e.kind o) && holds (mapped g e.mask) b)
       ≡ (holds (row_for g base sids o e).mask b
       && (applies_in pass at (row_for g base sids o e) || (counts_in pass at e.kind && ((row_for g base sids o e).place == place_in sids s))))
-  row_decides_for pass beside at is s among e b o = grind (arith, stands_at, none_held, holds_when)
+  row_decides_for pass other_sid at is s among e b o = grind (arith, stands_at, none_held, holds_when)
 
 -- ---- an entry more, bit by bit
 
@@ -91,25 +91,25 @@ allowed_after undecided allowed m allow = allowed || (allow && (m && undecided))
 common_held : (m n b : ℕ) → b < 32 → holds (common_of m n) b ≡ (holds m b && holds n b)
 common_held m n b low = holds_place (λ k. holds m k && holds n k) b low
 
-undecided_held : (share : Share) (mask : ℕ) (kind : AceKind) (b : ℕ) → b < 32
+undecided_held : (share : DecidedRights) (mask : ℕ) (kind : AceKind) (b : ℕ) → b < 32
     → holds (share_after share mask kind).undecided b ≡ undecided_after (holds share.undecided b) (holds mask b)
 undecided_held share mask kind b low = grind (arith, holds_place)
 
 -- what the code makes of a share
-pub shared : (share : Share) (mask : ℕ) (kind : AceKind) (decided undecided more allowed : ℕ) (allows : Bool)
+pub shared : (share : DecidedRights) (mask : ℕ) (kind : AceKind) (decided undecided more allowed : ℕ) (allows : Bool)
     → decided ≡ common_of mask share.undecided
     → undecided ≡ mask_of (λ b. holds share.undecided b && not (holds decided b)) 32
     → allows ≡ is_allow kind → more ≡ cond allows decided 0
     → allowed ≡ mask_of (λ b. holds share.allowed b || holds more b) 32
-    → (let s : Share = record { undecided = undecided; allowed = allowed } in s) ≡ share_after share mask kind
+    → (let s : DecidedRights = record { undecided = undecided; allowed = allowed } in s) ≡ share_after share mask kind
 shared share mask kind decided undecided more allowed allows is_decided is_undecided is_allows is_more is_allowed =
-    ap (λ u. (let s : Share = record { undecided = u; allowed = allowed } in s))
+    ap (λ u. (let s : DecidedRights = record { undecided = u; allowed = allowed } in s))
     (is_undecided ∙ ap (λ d. mask_of (λ b. holds share.undecided b && not (holds d b)) 32) is_decided)
-    ∙ ap (λ a. (let s : Share = record { undecided = (share_after share mask kind).undecided; allowed = a } in s))
+    ∙ ap (λ a. (let s : DecidedRights = record { undecided = (share_after share mask kind).undecided; allowed = a } in s))
     (is_allowed ∙ ap (λ m. mask_of (λ b. holds share.allowed b || holds m b) 32)
     (is_more ∙ ap (λ a. cond a decided 0) is_allows ∙ ap (λ d. cond (is_allow kind) d 0) is_decided))
 
-allowed_held : (share : Share) (mask : ℕ) (kind : AceKind) (b : ℕ) → b < 32
+allowed_held : (share : DecidedRights) (mask : ℕ) (kind : AceKind) (b : ℕ) → b < 32
     → holds (share_after share mask kind).allowed b ≡ allowed_after (holds share.undecided b) (holds share.allowed b) (holds mask b) (is_allow kind)
 allowed_held share mask kind b low = grind (arith, holds_place, holds_when)
 
@@ -120,7 +120,7 @@ granted_at_point p b rest = granted_with (holds p.common.undecided b) (holds p.c
 abbrev IsApart : Point → ℕ → Type 0
 IsApart p b = (holds p.common.allowed b && holds p.common.undecided b) ≡ false
 
-module _ (row : Row) (p : Point) (b : ℕ) (low : b < 32) (rest : Bool) (apart : IsApart p b) where
+module _ (row : EntryRow) (p : Point) (b : ℕ) (low : b < 32) (rest : Bool) (apart : IsApart p b) where
   moved_is : (applies counts : Bool)
       → granted_at_point (point_moved applies counts row p) b rest
       ≡ granted_at_point p b (cond (holds row.mask b && (applies || counts)) (is_allow row.kind) rest)
@@ -148,24 +148,24 @@ first_of here e o = grind arith
 
 -- ---- a whole list
 
-module _ (g : MappingValue) (base : List (SidValue × GroupState)) (sids : List SidValue) (owner : Option SidValue) (role : Role)
-    (beside : Option SidValue) (is : IsBeside sids beside role.beside) (s : SidValue) (among : is_among sids s ≡ true) (b : ℕ) (low : b < 32) where
+module _ (g : MappingValue) (base : List (SidValue × GroupState)) (sids : List SidValue) (owner : Option SidValue) (walk_pass : WalkPass)
+    (other_sid : Option SidValue) (is : IsOtherSid sids other_sid walk_pass.other_sid) (s : SidValue) (among : is_among sids s ≡ true) (b : ℕ) (low : b < 32) where
   abbrev who : AceKind → SidValue → Bool
-  who kind x = about (sids_stand role.pass base (sids_of beside s)) kind (subject owner x)
+  who kind x = about (sids_stand walk_pass.pass base (sids_of other_sid s)) kind (subject owner x)
 
   walked : (es : List Ace) (p : Point) → IsApart p b
-      → holds (listed_of (fold (point_after role (place_in sids s)) p (map (row_of g base sids owner) es))) b
+      → holds (listed_of (fold (point_after walk_pass (place_in sids s)) p (map (row_of g base sids owner) es))) b
       ≡ granted_at_point p b (is_allowed_by (first g who es b))
   walked [] p apart = listed_held p b low ∙ ends (holds p.own.allowed b) (holds p.common.allowed b && holds p.own.undecided b) (holds p.common.undecided b && holds p.own.undecided b)
   walked (e ∷ es) p apart =
       let row = row_of g base sids owner e in
-      let applies = applies_in role.pass role.beside row in
-      let counts = counts_in role.pass role.beside row.kind && (row.place == place_in sids s) in
+      let applies = applies_in walk_pass.pass walk_pass.other_sid row in
+      let counts = counts_in walk_pass.pass walk_pass.other_sid row.kind && (row.place == place_in sids s) in
       walked es (point_moved applies counts row p) (moved_apart row p b low false apart applies counts)
       ∙ moved_is row p b low (is_allowed_by (first g who es b)) apart applies counts
       ∙ ap (granted_at_point p b)
       (ap (λ here. cond here (is_allow e.kind) (is_allowed_by (first g who es b)))
-      (sym (row_decides_for g base sids role.pass beside role.beside is s among e b (subject owner e.sid)))
+      (sym (row_decides_for g base sids walk_pass.pass other_sid walk_pass.other_sid is s among e b (subject owner e.sid)))
       ∙ sym (first_of (decides g who b e) e (first g who es b)))
 
 start_apart : (is_list : Bool) (b : ℕ) → b < 21 → IsApart (first_point is_list) b
@@ -181,42 +181,42 @@ none_starts : (b : ℕ) → b < 21 → (rest : Bool) → granted_at_point (first
 none_starts b rest h = grind (arith, none_held, all_low)
 
 -- what a walk from the start comes to at the place of a SID
-module _ (g : MappingValue) (base : List (SidValue × GroupState)) (sids : List SidValue) (role : Role)
-    (beside : Option SidValue) (is : IsBeside sids beside role.beside) (s : SidValue) (among : is_among sids s ≡ true) (b : ℕ) (low : b < 21) where
+module _ (g : MappingValue) (base : List (SidValue × GroupState)) (sids : List SidValue) (walk_pass : WalkPass)
+    (other_sid : Option SidValue) (is : IsOtherSid sids other_sid walk_pass.other_sid) (s : SidValue) (among : is_among sids s ≡ true) (b : ℕ) (low : b < 21) where
   walk_lists : (owner : Option SidValue) (dacl : Option (List Ace))
-      → holds (listed_of (fold (point_after role (place_in sids s)) (first_point (is_some dacl)) (map (row_of g base sids owner) (entries_or_none dacl)))) b
-      ≡ lists g (record { owner = owner; dacl = dacl }) (sids_stand role.pass base (sids_of beside s)) b
+      → holds (listed_of (fold (point_after walk_pass (place_in sids s)) (first_point (is_some dacl)) (map (row_of g base sids owner) (entries_or_none dacl)))) b
+      ≡ lists g (record { owner = owner; dacl = dacl }) (sids_stand walk_pass.pass base (sids_of other_sid s)) b
   walk_lists owner None =
-      walked g base sids owner role beside is s among b (omega arith) [] (first_point false) (start_apart false b low)
+      walked g base sids owner walk_pass other_sid is s among b (omega arith) [] (first_point false) (start_apart false b low)
       ∙ none_starts b low _ ∙ sym (lt-ltb b 21 low)
   walk_lists owner (Some es) =
-      walked g base sids owner role beside is s among b (omega arith) es (first_point true) (start_apart true b low)
+      walked g base sids owner walk_pass other_sid is s among b (omega arith) es (first_point true) (start_apart true b low)
       ∙ list_starts b low _
-      ∙ sym (ap (λ x. x && is_allowed_by (first g (λ kind x. about (sids_stand role.pass base (sids_of beside s)) kind (subject owner x)) es b)) (lt-ltb b 21 low))
+      ∙ sym (ap (λ x. x && is_allowed_by (first g (λ kind x. about (sids_stand walk_pass.pass base (sids_of other_sid s)) kind (subject owner x)) es b)) (lt-ltb b 21 low))
 
-pub shares_are : (g : MappingValue) (base : List (SidValue × GroupState)) (sids : List SidValue) (parts : Parts) (listing : Listing) (role : Role)
-    (beside : Option SidValue) (shares : Shares) → IsListing g base sids parts listing → IsBeside sids beside role.beside
+pub shares_are : (g : MappingValue) (base : List (SidValue × GroupState)) (sids : List SidValue) (parts : Parts) (listing : Listing) (walk_pass : WalkPass)
+    (other_sid : Option SidValue) (shares : RightsBySid) → IsListing g base sids parts listing → IsOtherSid sids other_sid walk_pass.other_sid
     → length shares.own.items ≡ length sids
-    → ((place : ℕ) → place < length sids → point_at shares place ≡ fold (point_after role place) (first_point listing.is_list) listing.rows.items)
-    → AreShares g base sids parts role.pass beside shares
-shares_are g base sids parts listing role beside shares rows is room points = record {
+    → ((place : ℕ) → place < length sids → point_at shares place ≡ fold (point_after walk_pass place) (first_point listing.is_list) listing.rows.items)
+    → AreRightsBySid g base sids parts walk_pass.pass other_sid shares
+shares_are g base sids parts listing walk_pass other_sid shares rows is room points = record {
   room = room;
   listed = λ s b among low.
       ap (λ p. holds (listed_of p) b)
       (points (place_in sids s) (place_low sids s among)
-      ∙ ap (λ t. fold (point_after role (place_in sids s)) (first_point t) listing.rows.items) rows.is_list
-      ∙ ap (fold (point_after role (place_in sids s)) (first_point (is_some parts.dacl))) rows.rows)
-      ∙ walk_lists g base sids role beside is s among b low parts.owner parts.dacl;
+      ∙ ap (λ t. fold (point_after walk_pass (place_in sids s)) (first_point t) listing.rows.items) rows.is_list
+      ∙ ap (fold (point_after walk_pass (place_in sids s)) (first_point (is_some parts.dacl))) rows.rows)
+      ∙ walk_lists g base sids walk_pass other_sid is s among b low parts.owner parts.dacl;
 }
 
 -- what is granted at a place
-pub listed_made : (shares : Shares) (place : ℕ) (own : Share) → place < length shares.own.items → own ≡ get_or shares.own.items place own
+pub listed_made : (shares : RightsBySid) (place : ℕ) (own : DecidedRights) → place < length shares.own.items → own ≡ get_or shares.own.items place own
     → (common union : ℕ) → common ≡ common_of shares.common.allowed own.undecided
     → union ≡ mask_of (λ b. holds own.allowed b || holds common b) 32 → union ≡ listed_of (point_at shares place)
 listed_made shares place own low is common union is_common is_union =
     is_union ∙ ap (λ m. mask_of (λ b. holds own.allowed b || holds m b) 32) is_common
-    ∙ ap (λ (s : Share). listed_of (record { common = shares.common; own = s })) (get_or_read shares.own.items place own low is nothing_decided)
+    ∙ ap (λ (s : DecidedRights). listed_of (record { common = shares.common; own = s })) (get_or_read shares.own.items place own low is nothing_decided)
 
 -- nobody beside
-pub nobody_beside : (sids : List SidValue) → IsBeside sids None None
+pub nobody_beside : (sids : List SidValue) → IsOtherSid sids None None
 nobody_beside sids = record { at = refl; among = λ s is. absurd cc }

@@ -19,15 +19,15 @@ use Rattle.sd_analysis.specs.declared.descendants.Descendant.TheVariants.{Object
 use Rattle.sd_analysis.specs.declared.descendants_compare.DescendantChange.{DescendantChange}
 
 -- what the entries hand on to a child of the kind
-abbrev pub handed : MappingValue → NodeKind → List Ace → List Ace
-handed g kind es = flat_map (pass_on g kind creator_owner creator_group) es
+abbrev pub inherited_entries : MappingValue → NodeKind → List Ace → List Ace
+inherited_entries g kind es = flat_map (pass_on g kind creator_owner creator_group) es
 
 -- the list of a descendant that has no entry of its own
 abbrev pub list_of : MappingValue → Descendant → List Ace → List Ace
-list_of g Object es = handed g kinds.Object es
-list_of g Container es = handed g kinds.Container es
-list_of g ObjectBelow es = handed g kinds.Object (handed g kinds.Container es)
-list_of g ContainerBelow es = handed g kinds.Container (handed g kinds.Container es)
+list_of g Object es = inherited_entries g kinds.Object es
+list_of g Container es = inherited_entries g kinds.Container es
+list_of g ObjectBelow es = inherited_entries g kinds.Object (inherited_entries g kinds.Container es)
+list_of g ContainerBelow es = inherited_entries g kinds.Container (inherited_entries g kinds.Container es)
 
 -- with that list, as far as a check looks at it
 abbrev pub descendant_parts : List Ace → Parts

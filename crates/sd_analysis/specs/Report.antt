@@ -16,7 +16,7 @@ use Rattle.sd_analysis.specs.declared.compare_report.Report.{Report}
 use Rattle.sd_analysis.specs.declared.compare_search.Case.{Case}
 use Rattle.sd_analysis.specs.declared.compare_search.Finding.{Finding}
 use Rattle.sd_analysis.specs.declared.compare_search.Found.{Found}
-use Rattle.sd_analysis.specs.declared.compare_table.Both.{Both}
+use Rattle.sd_analysis.specs.declared.compare_table.BeforeAndAfter.{BeforeAndAfter}
 use Rattle.sd_analysis.specs.declared.witness.Demand.{Demand}
 use Rattle.sd_analysis.specs.declared.witness.PassSids.{PassSids}
 use Rattle.sd_analysis.specs.declared.witness.Witness.{Witness}
@@ -45,12 +45,12 @@ pub record IsPlace (case : Case) (s : SidValue) (place : ℕ) : Type 0 where
   pub at : place_in (sids_in case) s ≡ place
 
 -- room to walk over both lists for all SIDs
-pub record HasRoom (case : Case) (both : Both) : Type 0 where
+pub record HasRoom (case : Case) (both : BeforeAndAfter) : Type 0 where
   pub before : length both.before.own.items ≡ length (sids_in case)
   pub after : length both.after.own.items ≡ length (sids_in case)
 
 -- at the place is what both lists grant in the pass to the base with the SIDs
-pub record ArePlaced (case : Case) (pass : Pass) (sids : PassSids) (both : Both) (place : ℕ) : Type 0 where
+pub record ArePlaced (case : Case) (pass : Pass) (sids : PassSids) (both : BeforeAndAfter) (place : ℕ) : Type 0 where
   pub room_before : place < length both.before.own.items
   pub room_after : place < length both.after.own.items
   pub before : (b : ℕ) → b < 21 → holds (listed_of (point_at both.before place)) b

@@ -17,12 +17,12 @@ use Rattle.sd_check.specs.declared.grounds.Pass.TheVariants.{First, Second}
 use Rattle.sd_check.specs.declared.token.GroupState.{GroupState}
 use Rattle.sd_analysis.specs.Sufficient.{Parts, entries_or_none, is_among}
 use Rattle.sd_analysis.specs.Passes.{about, lists, sids_stand}
-use Rattle.sd_analysis.specs.declared.compare_table.Both.{Both}
+use Rattle.sd_analysis.specs.declared.compare_table.BeforeAndAfter.{BeforeAndAfter}
 use Rattle.sd_analysis.specs.declared.compare_table.Listing.{Listing}
-use Rattle.sd_analysis.specs.declared.compare_table.Role.{Role}
-use Rattle.sd_analysis.specs.declared.compare_table.Row.{Row}
-use Rattle.sd_analysis.specs.declared.compare_table.Share.{Share}
-use Rattle.sd_analysis.specs.declared.compare_table.Shares.{Shares}
+use Rattle.sd_analysis.specs.declared.compare_table.WalkPass.{WalkPass}
+use Rattle.sd_analysis.specs.declared.compare_table.EntryRow.{EntryRow}
+use Rattle.sd_analysis.specs.declared.compare_table.DecidedRights.{DecidedRights}
+use Rattle.sd_analysis.specs.declared.compare_table.RightsBySid.{RightsBySid}
 use Rattle.sd_analysis.specs.declared.compare_table.Table.{Table}
 use Rattle.sd_analysis.specs.declared.witness.PassSids.{PassSids}
 
@@ -46,7 +46,7 @@ abbrev pub place_for : List SidValue → Option SidValue → ℕ
 place_for sids None = length sids
 place_for sids (Some s) = place_in sids s
 
-abbrev pub row_for : MappingValue → List (SidValue × GroupState) → List SidValue → Option SidValue → Ace → Row
+abbrev pub row_for : MappingValue → List (SidValue × GroupState) → List SidValue → Option SidValue → Ace → EntryRow
 row_for g base sids o e = record {
   kind = e.kind;
   mask = mask_for g o e;
@@ -54,7 +54,7 @@ row_for g base sids o e = record {
   is_based = about (a_group_stands_for base) e.kind o;
 }
 
-abbrev pub row_of : MappingValue → List (SidValue × GroupState) → List SidValue → Option SidValue → Ace → Row
+abbrev pub row_of : MappingValue → List (SidValue × GroupState) → List SidValue → Option SidValue → Ace → EntryRow
 row_of g base sids owner e = row_for g base sids (subject owner e.sid) e
 
 -- ---- a walk
@@ -64,9 +64,9 @@ is_at None place = false
 is_at (Some one) place = place == one
 
 -- the entry applies whichever SID is there
-abbrev pub applies_in : Pass → Option ℕ → Row → Bool
-applies_in First beside row = row.is_based || is_at beside row.place
-applies_in Second beside row = is_at beside row.place
+abbrev pub applies_in : Pass → Option ℕ → EntryRow → Bool
+applies_in First other_sid row = row.is_based || is_at other_sid row.place
+applies_in Second other_sid row = is_at other_sid row.place
 
 -- an entry of the kind counts where its SID is there: a SID beside another denies only, in the first pass
 abbrev pub counts_in : Pass → Option ℕ → AceKind → Bool
@@ -79,7 +79,7 @@ abbrev pub common_of : ℕ → ℕ → ℕ
 common_of m n = mask_of (λ b. holds m b && holds n b) 32
 
 -- what is undecided, and allowed, with an entry more
-abbrev pub share_after : Share → ℕ → AceKind → Share
+abbrev pub share_after : DecidedRights → ℕ → AceKind → DecidedRights
 share_after share mask kind = record {
   undecided = mask_of (λ b. holds share.undecided b && not (holds (common_of mask share.undecided) b)) 32;
   allowed = mask_of (λ b. holds share.allowed b
@@ -88,10 +88,10 @@ share_after share mask kind = record {
 
 -- what is decided for everybody, and at one place
 pub record Point : Type 0 where
-  pub common : Share
-  pub own : Share
+  pub common : DecidedRights
+  pub own : DecidedRights
 
-abbrev pub point_moved : Bool → Bool → Row → Point → Point
+abbrev pub point_moved : Bool → Bool → EntryRow → Point → Point
 point_moved true counts row point = record { common = share_after point.common row.mask row.kind; own = point.own }
 point_moved false true row point = record {
   common = point.common;
@@ -100,24 +100,25 @@ point_moved false true row point = record {
 point_moved false false row point = point
 
 -- the entry counts at its own place
-abbrev pub point_after : Role → ℕ → Point → Row → Point
-point_after role place point row =
-    point_moved (applies_in role.pass role.beside row) (counts_in role.pass role.beside row.kind
+abbrev pub point_after : WalkPass → ℕ → Point → EntryRow → Point
+point_after walk_pass place point row =
+    point_moved (applies_in walk_pass.pass walk_pass.other_sid row)
+    (counts_in walk_pass.pass walk_pass.other_sid row.kind
     && (row.place == place)) row point
 
 -- where no entry decided anything
-abbrev pub nothing_decided : Share
+abbrev pub nothing_decided : DecidedRights
 nothing_decided = record { undecided = 0x001FFFFF; allowed = 0 }
 
 -- where all is allowed
-abbrev pub all_allowed : Share
+abbrev pub all_allowed : DecidedRights
 all_allowed = record { undecided = 0; allowed = 0x001FFFFF }
 
 -- without a list all rights are granted
 abbrev pub first_point : Bool → Point
 first_point is_list = record { common = cond is_list nothing_decided all_allowed; own = nothing_decided }
 
-abbrev pub point_at : Shares → ℕ → Point
+abbrev pub point_at : RightsBySid → ℕ → Point
 point_at shares place = record { common = shares.common; own = slice_index_or shares.own.items place nothing_decided }
 
 -- what is granted with the SID of the place: what it is allowed, and what everybody is, where it has decided nothing
@@ -140,29 +141,29 @@ pub record IsListing (g : MappingValue)
   pub rows : listing.rows.items ≡ map (row_of g base sids parts.owner) (entries_or_none parts.dacl)
 
 -- at the place of each SID is what the descriptor's list grants with it
-pub record AreShares (g : MappingValue)
+pub record AreRightsBySid (g : MappingValue)
     (base : List (SidValue × GroupState)) (sids : List SidValue) (parts : Parts) (pass : Pass)
-    (beside : Option SidValue) (shares : Shares) : Type 0 where
+    (other_sid : Option SidValue) (shares : RightsBySid) : Type 0 where
   pub room : length shares.own.items ≡ length sids
   pub listed : (s : SidValue) (b : ℕ) → is_among sids s ≡ true → b < 21
       → holds (listed_of (point_at shares (place_in sids s))) b
-      ≡ lists g parts (sids_stand pass base (sids_of beside s)) b
+      ≡ lists g parts (sids_stand pass base (sids_of other_sid s)) b
 
-pub record AreBoth (g : MappingValue)
+pub record AreBeforeAndAfter (g : MappingValue)
     (base : List (SidValue × GroupState)) (sids : List SidValue) (old new : Parts) (pass : Pass)
-    (beside : Option SidValue) (both : Both) : Type 0 where
-  pub before : AreShares g base sids old pass beside both.before
-  pub after : AreShares g base sids new pass beside both.after
+    (other_sid : Option SidValue) (both : BeforeAndAfter) : Type 0 where
+  pub before : AreRightsBySid g base sids old pass other_sid both.before
+  pub after : AreRightsBySid g base sids new pass other_sid both.after
 
 -- a SID that others are beside is one of these, and at this place
-pub record IsBeside (sids : List SidValue) (beside : Option SidValue) (place : Option ℕ) : Type 0 where
-  pub at : place ≡ option_map (place_in sids) beside
-  pub among : (s : SidValue) → beside ≡ Some s → is_among sids s ≡ true
+pub record IsOtherSid (sids : List SidValue) (other_sid : Option SidValue) (place : Option ℕ) : Type 0 where
+  pub at : place ≡ option_map (place_in sids) other_sid
+  pub among : (s : SidValue) → other_sid ≡ Some s → is_among sids s ≡ true
 
 pub record IsTable (g : MappingValue)
     (base : List (SidValue × GroupState)) (sids : List SidValue) (old new : Parts) (table : Table) : Type 0 where
   pub places : table.places.items ≡ map (place_in sids) sids
   pub old_rows : IsListing g base sids old table.old
   pub new_rows : IsListing g base sids new table.new
-  pub first : AreBoth g base sids old new First None table.first
-  pub second : AreBoth g base sids old new Second None table.second
+  pub first : AreBeforeAndAfter g base sids old new First None table.first
+  pub second : AreBeforeAndAfter g base sids old new Second None table.second

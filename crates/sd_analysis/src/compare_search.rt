@@ -11,7 +11,7 @@ ghost use Rattle.sd_analysis.specs.Report.{IsSought, is_granted_alone, is_grante
 
 use crate::base::Base;
 use crate::compare_sides::DescriptorRef;
-use crate::compare_table::{Both, Role, Table};
+use crate::compare_table::{BeforeAndAfter, Table, WalkPass};
 use crate::witness::{Demand, PassSids};
 use sd_check::Pass;
 use sd_sid::{GenericMapping, Mask, OBJECT_RIGHTS, Sid};
@@ -67,7 +67,7 @@ impl Case<'_> {
         if wanted.is_empty() {
             return Ok(found.findings);
         }
-        let mut both = Both::new(alloc, self.room(demand))?;
+        let mut both = BeforeAndAfter::new(alloc, self.room(demand))?;
         for (place, allowed) in self.allowed.iter().enumerate() {
             self.try_at(&mut found, &mut both, pass, demand, allowed, place)?;
         }
@@ -90,7 +90,7 @@ impl Case<'_> {
     fn try_at(
         &self,
         found: &mut Found,
-        both: &mut Both,
+        both: &mut BeforeAndAfter,
         pass: Pass,
         demand: Demand,
         allowed: &Sid,
@@ -124,7 +124,7 @@ impl Case<'_> {
     fn try_with(
         &self,
         found: &mut Found,
-        both: &mut Both,
+        both: &mut BeforeAndAfter,
         pass: Pass,
         demand: Demand,
         allowed: &Sid,
@@ -172,7 +172,7 @@ impl Case<'_> {
     /// it by itself, and of these, where only the rest is sought, what the old one grants it as the owner's.
     fn worth_trying(
         &self,
-        both: &Both,
+        both: &BeforeAndAfter,
         pass: Pass,
         demand: Demand,
         alone: &PassSids,
@@ -196,7 +196,7 @@ impl Case<'_> {
     fn try_pairs(
         &self,
         found: &mut Found,
-        both: &mut Both,
+        both: &mut BeforeAndAfter,
         pass: Pass,
         demand: Demand,
         allowed: &Sid,
@@ -213,11 +213,11 @@ impl Case<'_> {
             → sids_meet self.now pass demand (record { allowed = allowed.now; denied = Some s }) b ≡ true
             → holds found.new.left b ≡ false) }
     {
-        let role = Role {
+        let walk_pass = WalkPass {
             pass,
-            beside: Some(place),
+            other_sid: Some(place),
         };
-        both.walk(&self.table.old, &self.table.new, role);
+        both.walk(&self.table.old, &self.table.new, walk_pass);
         for (number, denied) in self.denied.iter().enumerate() {
             let at = self.table.places[self.allowed.len() + number];
             self.try_pair(found, both, pass, demand, allowed, denied, at)?;
@@ -230,7 +230,7 @@ impl Case<'_> {
     fn try_pair(
         &self,
         found: &mut Found,
-        both: &Both,
+        both: &BeforeAndAfter,
         pass: Pass,
         demand: Demand,
         allowed: &Sid,
@@ -259,7 +259,7 @@ impl Case<'_> {
     fn try_sids(
         &self,
         found: &mut Found,
-        both: &Both,
+        both: &BeforeAndAfter,
         pass: Pass,
         demand: Demand,
         sids: &PassSids,
@@ -285,7 +285,7 @@ impl Case<'_> {
     /// The bits of `among` for which the SIDs meet the demand in the pass.
     fn met(
         &self,
-        both: &Both,
+        both: &BeforeAndAfter,
         pass: Pass,
         demand: Demand,
         sids: &PassSids,
@@ -298,19 +298,19 @@ impl Case<'_> {
             → holds result b ≡ (sids_meet self.now pass demand sids.now b && holds among b) }
     {
         let granted = self.granted(both, pass, demand, sids, place);
-        let listed = both.before.listed(place).when(demand.unlisted);
+        let listed = both.before.listed(place).only_if(demand.unlisted);
         let worth = granted.minus(listed).common(among).common(OBJECT_RIGHTS);
         if worth.is_empty() {
             return worth;
         }
-        let owned = self.owned(self.old, pass, sids).when(demand.unowned);
+        let owned = self.owned(self.old, pass, sids).only_if(demand.unowned);
         worth.minus(owned)
     }
 
     /// The bits that the new descriptor grants them, by an entry or as the owner's.
     fn granted(
         &self,
-        both: &Both,
+        both: &BeforeAndAfter,
         pass: Pass,
         demand: Demand,
         sids: &PassSids,
@@ -330,7 +330,7 @@ impl Case<'_> {
 /// The bits of `among` that the lists leave in question at the place: the new one grants them, which with `by_owner`
 /// isn't asked, and the old one doesn't, where `unlisted` demands that.
 #[inline(always)]
-fn in_question(both: &Both, demand: Demand, place: usize, among: Mask) -> Mask
+fn in_question(both: &BeforeAndAfter, demand: Demand, place: usize, among: Mask) -> Mask
     requires before { place < length both.now.before.own.items }
     requires after { place < length both.now.after.own.items }
     ensures { (b : ℕ) → b < 21 → holds result b
@@ -342,7 +342,7 @@ fn in_question(both: &Both, demand: Demand, place: usize, among: Mask) -> Mask
     } else {
         both.after.listed(place)
     };
-    let listed = both.before.listed(place).when(demand.unlisted);
+    let listed = both.before.listed(place).only_if(demand.unlisted);
     granted.minus(listed).common(among)
 }
 

@@ -101,7 +101,7 @@ pub(crate) fn unnamed(old: &DescriptorRef<'_>, new: &DescriptorRef<'_>) -> Sid
     ensures old { is_named (parts_of old.now) result ≡ false }
     ensures new { is_named (parts_of new.now) result ≡ false }
 {
-    let nobody = made(0, &[0]);
+    let nobody = sid_from_parts(0, &[0]);
     if !either_names(old, new, &nobody) {
         return nobody;
     }
@@ -125,12 +125,12 @@ fn either_names(old: &DescriptorRef<'_>, new: &DescriptorRef<'_>, sid: &Sid) -> 
 fn numbered(n: u64) -> Sid
     ensures { result ≡ numbered n }
 {
-    made(0, &[(n / 0x1_0000_0000) as u32, (n % 0x1_0000_0000) as u32])
+    sid_from_parts(0, &[(n / 0x1_0000_0000) as u32, (n % 0x1_0000_0000) as u32])
 }
 
 /// The SID of these parts.
 #[tactic(auto, using(crate::proofs::Unnamed::sid_made, crate::proofs::Unnamed::the_sid))]
-pub(crate) fn made(authority: u64, subs: &[u32]) -> Sid
+pub(crate) fn sid_from_parts(authority: u64, subs: &[u32]) -> Sid
     requires authority { authority < 2 ^ 48 }
     requires some { 0 < length subs.now }
     requires few { length subs.now ≤ 15 }
@@ -186,7 +186,7 @@ impl Case<'_> {
         if !self.is_owner(side, pass, sids) {
             return Mask(0);
         }
-        OWNERS_RIGHTS.when(!side.limits_owner())
+        OWNERS_RIGHTS.only_if(!side.limits_owner())
     }
 
     /// Whether a token may be granted a bit by an entry of the new descriptor, or as its owner's, that the old one

@@ -7,9 +7,9 @@ ghost use Rattle.sd_sid.specs.Mapping.{MappingValue};
 ghost use Rattle.sd_sid.specs.Sid.{SidValue, same_sid};
 ghost use Rattle.sd_check.specs.declared.token.GroupState.{GroupState};
 ghost use Rattle.sd_analysis.specs.Sufficient.{Parts, parts_of};
-ghost use Rattle.sd_analysis.specs.Table.{AreBoth, IsBeside, IsListing, IsTable, all_allowed, applies_in, counts_in};
-ghost use Rattle.sd_analysis.specs.Table.{first_point, is_at, last_sub, listed_of, nothing_decided, place_in};
-ghost use Rattle.sd_analysis.specs.Table.{point_after, point_at, row_of, share_after};
+ghost use Rattle.sd_analysis.specs.Table.{AreBeforeAndAfter, IsOtherSid, IsListing, IsTable, all_allowed, applies_in};
+ghost use Rattle.sd_analysis.specs.Table.{counts_in, first_point, is_at, last_sub, listed_of, nothing_decided};
+ghost use Rattle.sd_analysis.specs.Table.{place_in, point_after, point_at, row_of, share_after};
 
 use crate::base::Base;
 use crate::compare_sides::DescriptorRef;
@@ -20,7 +20,7 @@ use std::alloc::{AllocError, Global};
 
 /// An entry, as a walk takes it.
 #[derive(Clone, Copy)]
-pub(crate) struct Row {
+pub(crate) struct EntryRow {
     pub(crate) kind: AceKind,
     /// What it decides where it applies.
     pub(crate) mask: Mask,
@@ -34,35 +34,35 @@ pub(crate) struct Row {
 #[derive(Drop)]
 pub(crate) struct Listing {
     pub(crate) is_list: bool,
-    pub(crate) rows: Vec<Row>,
+    pub(crate) rows: Vec<EntryRow>,
 }
 
 /// A pass, and the place of a SID that is there beside each other one: these then deny only, in the first pass.
 #[derive(Clone, Copy)]
-pub(crate) struct Role {
+pub(crate) struct WalkPass {
     pub(crate) pass: Pass,
-    pub(crate) beside: Option<usize>,
+    pub(crate) other_sid: Option<usize>,
 }
 
 /// The rights that no entry decided so far, and those that one allowed.
 #[derive(Clone, Copy)]
-pub(crate) struct Share {
+pub(crate) struct DecidedRights {
     pub(crate) undecided: Mask,
     pub(crate) allowed: Mask,
 }
 
 /// What a list comes to: by the entries that apply whichever SID is there, and at each place by those of its SID.
 #[derive(Drop)]
-pub(crate) struct Shares {
-    pub(crate) common: Share,
-    pub(crate) own: Vec<Share>,
+pub(crate) struct RightsBySid {
+    pub(crate) common: DecidedRights,
+    pub(crate) own: Vec<DecidedRights>,
 }
 
 /// What the lists of both descriptors of a comparison come to.
 #[derive(Drop)]
-pub(crate) struct Both {
-    pub(crate) before: Shares,
-    pub(crate) after: Shares,
+pub(crate) struct BeforeAndAfter {
+    pub(crate) before: RightsBySid,
+    pub(crate) after: RightsBySid,
 }
 
 /// The SIDs of a comparison by their places, the rows of both lists, and what these grant in each pass with one of the
@@ -73,18 +73,18 @@ pub(crate) struct Table {
     pub(crate) places: Vec<usize>,
     pub(crate) old: Listing,
     pub(crate) new: Listing,
-    pub(crate) first: Both,
-    pub(crate) second: Both,
+    pub(crate) first: BeforeAndAfter,
+    pub(crate) second: BeforeAndAfter,
 }
 
 /// What no entry came to.
-const NOTHING_DECIDED: Share = Share {
+const NOTHING_DECIDED: DecidedRights = DecidedRights {
     undecided: OBJECT_RIGHTS,
     allowed: Mask(0),
 };
 
 /// What a missing list comes to.
-const ALL_ALLOWED: Share = Share {
+const ALL_ALLOWED: DecidedRights = DecidedRights {
     undecided: Mask(0),
     allowed: OBJECT_RIGHTS,
 };
@@ -105,16 +105,16 @@ impl Table {
         let places = places_of(alloc, sids)?;
         let old_listing = old.listing(alloc, sids, mapping, base)?;
         let new_listing = new.listing(alloc, sids, mapping, base)?;
-        let mut first = Both::new(alloc, sids.len())?;
-        let mut second = Both::new(alloc, sids.len())?;
-        let role = Role {
+        let mut first = BeforeAndAfter::new(alloc, sids.len())?;
+        let mut second = BeforeAndAfter::new(alloc, sids.len())?;
+        let walk_pass = WalkPass {
             pass: Pass::First,
-            beside: None,
+            other_sid: None,
         };
-        first.walk(&old_listing, &new_listing, role);
-        let again = Role {
+        first.walk(&old_listing, &new_listing, walk_pass);
+        let again = WalkPass {
             pass: Pass::Second,
-            beside: None,
+            other_sid: None,
         };
         second.walk(&old_listing, &new_listing, again);
         Ok(Table {
@@ -127,9 +127,9 @@ impl Table {
     }
 
     /// What both lists grant in the pass with one of the SIDs.
-    pub(crate) fn alone(&self, pass: Pass) -> &Both
+    pub(crate) fn alone(&self, pass: Pass) -> &BeforeAndAfter
         ensures { (g : MappingValue) (base : List (SidValue × GroupState)) (sids : List SidValue) (old new : Parts)
-            → IsTable g base sids old new self.now → AreBoth g base sids old new pass None result.now }
+            → IsTable g base sids old new self.now → AreBeforeAndAfter g base sids old new pass None result.now }
     {
         match pass {
             Pass::First => &self.first,
@@ -206,7 +206,7 @@ fn rows_of(
     sids: &[Sid],
     mapping: &GenericMapping,
     base: &Base<'_>,
-) -> Result<Vec<Row>, AllocError>
+) -> Result<Vec<EntryRow>, AllocError>
     ensures { IfOk result (λ rows. rows.items ≡ map (row_of mapping.now base.now sids.now owner.now) entries.now) }
 {
     entries
@@ -221,70 +221,72 @@ fn row_of(
     sids: &[Sid],
     mapping: &GenericMapping,
     base: &Base<'_>,
-) -> Row
+) -> EntryRow
     ensures { result ≡ row_of mapping.now base.now sids.now owner.now entry.now }
 {
     match subject_of(owner, &entry.sid) {
-        None => Row {
+        None => EntryRow {
             kind: entry.kind,
             mask: Mask(0),
             place: sids.len(),
             is_based: false,
         },
-        Some(subject) => Row {
+        Some(subject) => EntryRow {
             kind: entry.kind,
-            mask: mapping.map(entry.mask).when(!entry.is_inherit_only()),
+            mask: mapping.map(entry.mask).only_if(!entry.is_inherit_only()),
             place: place_of(sids, subject),
             is_based: base.stands_for(entry.kind, subject),
         },
     }
 }
 
-impl Both {
+impl BeforeAndAfter {
     /// Room for this number of SIDs.
-    pub(crate) fn new(alloc: Global, count: usize) -> Result<Both, AllocError>
+    pub(crate) fn new(alloc: Global, count: usize) -> Result<BeforeAndAfter, AllocError>
         ensures before { IfOk result (λ both. length both.before.own.items ≡ count) }
         ensures after { IfOk result (λ both. length both.after.own.items ≡ count) }
     {
-        Ok(Both {
-            before: Shares::new(alloc, count)?,
-            after: Shares::new(alloc, count)?,
+        Ok(BeforeAndAfter {
+            before: RightsBySid::new(alloc, count)?,
+            after: RightsBySid::new(alloc, count)?,
         })
     }
 
-    /// What the lists grant in the role.
-    pub(crate) fn walk(&mut self, old: &Listing, new: &Listing, role: Role)
+    /// What the lists grant in the pass.
+    pub(crate) fn walk(&mut self, old: &Listing, new: &Listing, walk_pass: WalkPass)
         ensures { (g : MappingValue)
-            (base : List (SidValue × GroupState)) (sids : List SidValue) (one other : Parts) (beside : Option SidValue)
-            → IsListing g base sids one old.now → IsListing g base sids other new.now → IsBeside sids beside role.beside
+            (base : List (SidValue × GroupState)) (sids : List SidValue) (one other : Parts)
+            (other_sid : Option SidValue)
+            → IsListing g base sids one old.now → IsListing g base sids other new.now
+            → IsOtherSid sids other_sid walk_pass.other_sid
             → length self.old.before.own.items ≡ length sids → length self.old.after.own.items ≡ length sids
-            → AreBoth g base sids one other role.pass beside self.new }
+            → AreBeforeAndAfter g base sids one other walk_pass.pass other_sid self.new }
     {
-        self.before.walk(old, role);
-        self.after.walk(new, role);
+        self.before.walk(old, walk_pass);
+        self.after.walk(new, walk_pass);
     }
 }
 
-impl Shares {
+impl RightsBySid {
     /// Room for this number of SIDs.
-    fn new(alloc: Global, count: usize) -> Result<Shares, AllocError>
+    fn new(alloc: Global, count: usize) -> Result<RightsBySid, AllocError>
         ensures { IfOk result (λ shares. length shares.own.items ≡ count) }
     {
-        Ok(Shares {
+        Ok(RightsBySid {
             common: NOTHING_DECIDED,
             own: vec![in alloc; NOTHING_DECIDED; count]?,
         })
     }
 
-    /// What the list comes to in the role.
-    fn walk(&mut self, listing: &Listing, role: Role)
+    /// What the list comes to in the pass.
+    fn walk(&mut self, listing: &Listing, walk_pass: WalkPass)
         ensures room { length self.new.own.items ≡ length self.old.own.items }
         ensures points { (place : ℕ) → place < length self.old.own.items
             → point_at self.new place
-            ≡ fold (point_after role place) (first_point listing.now.is_list) listing.now.rows.items }
+            ≡ fold (point_after walk_pass place) (first_point listing.now.is_list) listing.now.rows.items }
     {
         self.begin(listing.is_list);
-        self.take_rows(&listing.rows, role);
+        self.take_rows(&listing.rows, walk_pass);
     }
 
     /// Starts over, with a list or without one.
@@ -298,28 +300,28 @@ impl Shares {
         self.common = first_share(is_list);
     }
 
-    fn take_rows(&mut self, rows: &[Row], role: Role)
+    fn take_rows(&mut self, rows: &[EntryRow], walk_pass: WalkPass)
         ensures room { length self.new.own.items ≡ length self.old.own.items }
         ensures points { (place : ℕ) → place < length self.old.own.items
-            → point_at self.new place ≡ fold (point_after role place) (point_at self.old place) rows.now }
+            → point_at self.new place ≡ fold (point_after walk_pass place) (point_at self.old place) rows.now }
     {
         for row in rows {
-            self.take(row, role);
+            self.take(row, walk_pass);
         }
     }
 
     /// One entry more.
     #[inline(always)]
-    fn take(&mut self, row: &Row, role: Role)
+    fn take(&mut self, row: &EntryRow, walk_pass: WalkPass)
         ensures room { length self.new.own.items ≡ length self.old.own.items }
         ensures points { (place : ℕ) → place < length self.old.own.items
-            → point_at self.new place ≡ point_after role place (point_at self.old place) row.now }
+            → point_at self.new place ≡ point_after walk_pass place (point_at self.old place) row.now }
     {
-        if role.applies(row) {
+        if walk_pass.applies(row) {
             self.common = self.common.after(row.mask, row.kind);
             return;
         }
-        if !role.counts(row.kind) {
+        if !walk_pass.counts(row.kind) {
             return;
         }
         if row.place >= self.own.len() {
@@ -341,7 +343,7 @@ impl Shares {
     }
 }
 
-fn first_share(is_list: bool) -> Share
+fn first_share(is_list: bool) -> DecidedRights
     ensures { result ≡ (first_point is_list).common }
 {
     if is_list {
@@ -351,24 +353,24 @@ fn first_share(is_list: bool) -> Share
     }
 }
 
-impl Share {
+impl DecidedRights {
     #[inline(always)]
-    fn after(self, mask: Mask, kind: AceKind) -> Share
+    fn after(self, mask: Mask, kind: AceKind) -> DecidedRights
         ensures { result ≡ share_after self mask kind }
     {
         let decided = mask.common(self.undecided);
         let undecided = self.undecided.minus(decided);
-        let more = decided.when(kind.is_allow());
+        let more = decided.only_if(kind.is_allow());
         let allowed = self.allowed.union(more);
-        Share { undecided, allowed }
+        DecidedRights { undecided, allowed }
     }
 }
 
-impl Role {
+impl WalkPass {
     /// Whether the entry applies whichever SID is there.
     #[inline(always)]
-    fn applies(self, row: &Row) -> bool
-        ensures { result ≡ applies_in self.pass self.beside row.now }
+    fn applies(self, row: &EntryRow) -> bool
+        ensures { result ≡ applies_in self.pass self.other_sid row.now }
     {
         match self.pass {
             Pass::First => row.is_based || self.is_beside(row.place),
@@ -378,9 +380,9 @@ impl Role {
 
     #[inline(always)]
     fn is_beside(self, place: usize) -> bool
-        ensures { result ≡ is_at self.beside place }
+        ensures { result ≡ is_at self.other_sid place }
     {
-        match self.beside {
+        match self.other_sid {
             None => false,
             Some(one) => place == one,
         }
@@ -389,9 +391,9 @@ impl Role {
     /// Whether an entry of the kind applies where its SID is there.
     #[inline(always)]
     fn counts(self, kind: AceKind) -> bool
-        ensures { result ≡ counts_in self.pass self.beside kind }
+        ensures { result ≡ counts_in self.pass self.other_sid kind }
     {
-        match (self.beside, self.pass) {
+        match (self.other_sid, self.pass) {
             (None, _) => true,
             (Some(_), Pass::First) => !kind.is_allow(),
             (Some(_), Pass::Second) => true,

@@ -2,9 +2,9 @@
 
 ghost use Rattle.std.specs.Prelude.{◌≡◌, ◌||◌, IfOk};
 ghost use Rattle.sd_inheritance.specs.Inheritance.{no_propagate};
-ghost use Rattle.sd_analysis.specs.Descendants.{descendants_of, handed, list_of, stops_somewhere};
+ghost use Rattle.sd_analysis.specs.Descendants.{descendants_of, inherited_entries, list_of, stops_somewhere};
 
-use crate::compare_sides::made;
+use crate::compare_sides::sid_from_parts;
 use bitflags::Flags;
 use sd_acl::{Ace, AceFlags};
 use sd_inheritance::{Heir, NodeKind, hand_on};
@@ -44,29 +44,29 @@ pub fn inherited_list(
     ensures { IfOk result (λ list. list.items ≡ list_of mapping.now descendant entries.now) }
 {
     match descendant {
-        Descendant::Object => handed(alloc, mapping, NodeKind::Object, entries),
-        Descendant::Container => handed(alloc, mapping, NodeKind::Container, entries),
+        Descendant::Object => inherited_entries(alloc, mapping, NodeKind::Object, entries),
+        Descendant::Container => inherited_entries(alloc, mapping, NodeKind::Container, entries),
         Descendant::ObjectBelow => {
-            let above = handed(alloc, mapping, NodeKind::Container, entries)?;
-            handed(alloc, mapping, NodeKind::Object, &above)
+            let above = inherited_entries(alloc, mapping, NodeKind::Container, entries)?;
+            inherited_entries(alloc, mapping, NodeKind::Object, &above)
         }
         Descendant::ContainerBelow => {
-            let above = handed(alloc, mapping, NodeKind::Container, entries)?;
-            handed(alloc, mapping, NodeKind::Container, &above)
+            let above = inherited_entries(alloc, mapping, NodeKind::Container, entries)?;
+            inherited_entries(alloc, mapping, NodeKind::Container, &above)
         }
     }
 }
 
 /// What the entries hand on to a child of the kind.
-fn handed(
+fn inherited_entries(
     alloc: Global,
     mapping: &GenericMapping,
     kind: NodeKind,
     entries: &[Ace],
 ) -> Result<Vec<Ace>, AllocError>
-    ensures { IfOk result (λ list. list.items ≡ handed mapping.now kind entries.now) }
+    ensures { IfOk result (λ list. list.items ≡ inherited_entries mapping.now kind entries.now) }
 {
-    let (owner, group) = (made(3, &[0]), made(3, &[1]));
+    let (owner, group) = (sid_from_parts(3, &[0]), sid_from_parts(3, &[1]));
     let heir = Heir {
         kind,
         owner: &owner,

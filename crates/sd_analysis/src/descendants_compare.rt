@@ -7,7 +7,7 @@ ghost use Rattle.sd_analysis.specs.Sufficient.{parts_of};
 
 use crate::base::Base;
 use crate::compare_gains::{Comparison, compare};
-use crate::compare_sides::{DescriptorRef, made};
+use crate::compare_sides::{DescriptorRef, sid_from_parts};
 use crate::descendants::{Descendant, descendants_of, inherited_list};
 use sd_acl::Ace;
 use sd_check::DaclRef;
@@ -90,7 +90,7 @@ pub fn descendant_ref(list: &[Ace]) -> DescriptorRef<'_>
     ensures { parts_of result ≡ descendant_parts list.now }
 {
     DescriptorRef {
-        owner: Some(made(3, &[0])),
+        owner: Some(sid_from_parts(3, &[0])),
         dacl: DaclRef::List(list),
     }
 }

@@ -10,7 +10,7 @@ ghost use Rattle.sd_analysis.specs.Risks.{risks_of, unknown_if_any, writing};
 ghost use Rattle.sd_analysis.specs.declared.risks.Risk.TheVariants.{UnknownGroup, UnknownOwner};
 
 use crate::base::Base;
-use crate::compare_sides::made;
+use crate::compare_sides::sid_from_parts;
 use crate::trial::granted_by;
 use crate::who_case::Case;
 use sd_acl::{Ace, Dacl, Descriptor};
@@ -145,10 +145,10 @@ fn list_risks(alloc: Global, case: &Case<'_>) -> Result<Vec<Risk>, AllocError>
     let mut found = Vec::new(alloc);
     push_if(&mut found, case.entries.is_empty(), Risk::EmptyList)?;
     add_owner_risks(alloc, &mut found, case)?;
-    add_grants(alloc, &mut found, case, made(1, &[0]))?;
-    add_grants(alloc, &mut found, case, made(5, &[7]))?;
-    add_grants(alloc, &mut found, case, made(5, &[11]))?;
-    add_grants(alloc, &mut found, case, made(5, &[32, 545]))?;
+    add_grants(alloc, &mut found, case, sid_from_parts(1, &[0]))?;
+    add_grants(alloc, &mut found, case, sid_from_parts(5, &[7]))?;
+    add_grants(alloc, &mut found, case, sid_from_parts(5, &[11]))?;
+    add_grants(alloc, &mut found, case, sid_from_parts(5, &[32, 545]))?;
     let of_entries = entry_risks(alloc, case.entries)?;
     found.extend_from_slice(&of_entries)?;
     Ok(found)

@@ -64,7 +64,10 @@ impl Case<'_> {
     {
         let mut alike = on_the_side_of(among, place, OWNERS_RIGHTS);
         for entry in self.entries {
-            let named = self.mapping.map(entry.mask).when(!entry.is_inherit_only());
+            let named = self
+                .mapping
+                .map(entry.mask)
+                .only_if(!entry.is_inherit_only());
             alike = on_the_side_of(alike, place, named);
         }
         alike

@@ -1,4 +1,4 @@
-pub mod Answer
+pub mod VerdictLine
 pub mod Word
 pub mod Why
 pub mod Lines

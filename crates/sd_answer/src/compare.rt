@@ -6,8 +6,8 @@ ghost use Rattle.sd_answer.specs.Compare.{arguments_text, change_line, compare_t
 ghost use Rattle.sd_answer.specs.Compare.{user_text, witness_text};
 ghost use Rattle.sd_answer.specs.Lines.{values};
 
-use crate::answer::Spelling;
 use crate::lines::{BitsLine, Printer, push_sid};
+use crate::verdict_line::Spelling;
 use sd_analysis::{Change, Comparison, DescriptorRef, PassSids, Witness};
 use sd_sid::Sid;
 use sd_text::print_full_sid;

@@ -12,7 +12,6 @@
 //! ```
 #![tactic(auto)]
 
-mod answer;
 mod compare;
 mod descendants;
 mod descriptor;
@@ -23,11 +22,11 @@ mod mask;
 mod names;
 mod parts;
 mod rights;
+mod verdict_line;
 mod who;
 mod why;
 mod word;
 
-pub use answer::{Spelling, fault_line, sddl_fault_line, spell, verdict_line};
 pub use compare::{compare_text, gains_and_losses};
 pub use descendants::{descendant_head, descendants_text, inheritance_text};
 pub use descriptor::read_sddl_argument;
@@ -35,8 +34,9 @@ pub use laws::{masks_come_back, names_are_distinct};
 pub use lint::{first_misplaced, lint_text};
 pub use mask::read_mask_in;
 pub use names::ObjectKind;
-pub use parts::{borrowed, entries_in, looked_at};
+pub use parts::{dacl_ref, descriptor_ref, entries_in};
 pub use rights::rights_line;
+pub use verdict_line::{Spelling, fault_line, sddl_fault_line, spell, verdict_line};
 pub use who::{rights_asked, who_text};
 pub use why::why_text;
 pub use word::{TokenError, read_base, read_token};

@@ -4,8 +4,8 @@ ghost use Rattle.sd_text.specs.declared.fault.TextError.TheVariants.{Memory};
 ghost use Rattle.sd_answer.specs.Mask.{AreJoined, IsErrorFrom, IsMaskErrorIn, IsMaskIn, IsWordErrorAt, IsWordMask};
 ghost use Rattle.sd_answer.specs.Mask.{between_pluses};
 
-use crate::answer::Spelling;
 use crate::names::{ObjectKind, mask_named};
+use crate::verdict_line::Spelling;
 use sd_sid::Mask;
 use sd_text::{TextError, TextFault, read_mask};
 

@@ -10,17 +10,17 @@ use sd_analysis::DescriptorRef;
 use sd_check::DaclRef;
 
 /// A descriptor, as far as a check looks at it ([MS-DTYP] 2.5.3.2): its owner and its DACL.
-pub fn looked_at(descriptor: &Descriptor) -> DescriptorRef<'_>
+pub fn descriptor_ref(descriptor: &Descriptor) -> DescriptorRef<'_>
     ensures { parts_of result ≡ parts_in (descriptor_of descriptor.now) }
 {
     DescriptorRef {
         owner: descriptor.owner,
-        dacl: borrowed(&descriptor.dacl),
+        dacl: dacl_ref(&descriptor.dacl),
     }
 }
 
 /// The DACL ([MS-DTYP] 2.4.5), borrowed for an analysis.
-pub fn borrowed(dacl: &Dacl) -> DaclRef<'_>
+pub fn dacl_ref(dacl: &Dacl) -> DaclRef<'_>
     ensures { entries_of result ≡ dacl_entries dacl.now }
 {
     match dacl {

@@ -13,8 +13,8 @@ use Rattle.sd_usage.specs.declared.row.CommandName.TheVariants as names
 use Rattle.sd_usage.specs.declared.row.OptionName.TheVariants.{Stdin}
 use Rattle.sd_usage.specs.declared.row.TextCommand.{TextCommand}
 use Rattle.sd_arguments.specs.declared.command_line.Call.{Call}
-use Rattle.sd_arguments.specs.declared.command_line.Asked.{Asked}
-use Rattle.sd_arguments.specs.declared.command_line.Asked.TheVariants as asked
+use Rattle.sd_arguments.specs.declared.command_line.ProgramRequest.{ProgramRequest}
+use Rattle.sd_arguments.specs.declared.command_line.ProgramRequest.TheVariants as asked
 use Rattle.sd_arguments.specs.declared.command_line.CommandLine.{CommandLine}
 use Rattle.sd_arguments.specs.declared.command_line.Invocation.{Invocation}
 use Rattle.sd_arguments.specs.declared.command_line.Invocation.TheVariants as invocations
@@ -52,7 +52,7 @@ pub data CommandLineValue : Type 0 where
   Version : CommandLineValue
   Runs : OptionsValue → InvocationValue → CommandLineValue
 
-abbrev pub line_of : OptionsValue → Asked → CommandLineValue
+abbrev pub line_of : OptionsValue → ProgramRequest → CommandLineValue
 line_of options (asked.Help command) = Help command
 line_of options asked.Version = Version
 line_of options (asked.Runs invocation) = Runs options (invocation_of invocation)

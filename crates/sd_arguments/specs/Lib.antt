@@ -1,6 +1,6 @@
 pub mod CommandLine
 pub mod Flags
 pub mod Laws
-pub mod Mistake
+pub mod UsageError
 pub mod Options
 pub mod Version

@@ -10,10 +10,10 @@ use Rattle.sd_text.specs.Sid.{sid_text}
 use Rattle.sd_text.specs.declared.domain.Domain.{Domain as DomainValue}
 use Rattle.sd_edit.specs.Limits.{IsLimits, LimitsValue, standard_limits}
 use Rattle.sd_script.specs.Argument.{IsNumber}
-use Rattle.sd_script.specs.declared.manner.Manner.{Manner}
+use Rattle.sd_script.specs.declared.script_options.ScriptOptions.{ScriptOptions}
 use Rattle.sd_script.specs.declared.paths.PathSpelling.TheVariants as paths
-use Rattle.sd_answer.specs.declared.answer.Spelling.{Spelling}
-use Rattle.sd_answer.specs.declared.answer.Spelling.TheVariants.{Number, Names as ByNames}
+use Rattle.sd_answer.specs.declared.verdict_line.Spelling.{Spelling}
+use Rattle.sd_answer.specs.declared.verdict_line.Spelling.TheVariants.{Number, Names as ByNames}
 use Rattle.sd_usage.specs.Table.{option_named, place, takes_option}
 use Rattle.sd_usage.specs.declared.row.OptionName.{OptionName}
 use Rattle.sd_usage.specs.declared.row.OptionName.TheVariants.{Aliases, Base64, Caret, Domain, Edits, Json}
@@ -159,17 +159,17 @@ GivesLimits options said =
     MatchResult said (λ limits. HasNodes options limits × HasEdits options limits) (HasBadLimit options)
 
 -- how a script is carried out
-pub record IsManner (options : OptionsValue) (manner : Manner) : Type 0 where
-  pub mapping : GivesMapping (given options Mapping) manner.mapping
-  pub limits : GivesLimits options (Ok manner.limits)
-  pub paths : manner.notation.paths ≡ (if has options Percent then paths.Percent else paths.Plain)
-  pub spelling : manner.notation.spelling ≡ spelling_of options
-  pub domain : GivesDomain (given options Domain) manner.notation.aliases.domain
-  pub later : manner.notation.aliases.later ≡ has options Aliases
-  pub without_sacl : manner.notation.without_sacl ≡ has options WithoutSacl
-  pub is_json : manner.notation.is_json ≡ has options Json
+pub record AreScriptOptions (options : OptionsValue) (script_options : ScriptOptions) : Type 0 where
+  pub mapping : GivesMapping (given options Mapping) script_options.mapping
+  pub limits : GivesLimits options (Ok script_options.limits)
+  pub paths : script_options.notation.paths ≡ (if has options Percent then paths.Percent else paths.Plain)
+  pub spelling : script_options.notation.spelling ≡ spelling_of options
+  pub domain : GivesDomain (given options Domain) script_options.notation.aliases.domain
+  pub later : script_options.notation.aliases.later ≡ has options Aliases
+  pub without_sacl : script_options.notation.without_sacl ≡ has options WithoutSacl
+  pub is_json : script_options.notation.is_json ≡ has options Json
 
 -- in this manner, or this value that isn't read: a limit's only where the others' are
-abbrev pub GivesManner : OptionsValue → Result Manner BadValue → Type 0
-GivesManner options said = MatchResult said (IsManner options) (λ bad.
+abbrev pub GivesScriptOptions : OptionsValue → Result ScriptOptions BadValue → Type 0
+GivesScriptOptions options said = MatchResult said (AreScriptOptions options) (λ bad.
     HasBadValue options bad ⊎ (((settings : Settings) × AreSettings options settings) × HasBadLimit options bad))

@@ -5,24 +5,24 @@ ghost use Rattle.sd_arguments.specs.CommandLine.{call_in, call_of, each_by, run_
 ghost use Rattle.sd_arguments.specs.CommandLine.{command_line_of, first_call, help_on, invocation_of, line_of, reading};
 ghost use Rattle.sd_arguments.specs.CommandLine.{request_after, request_of, request_on, shown_by, workers_of};
 ghost use Rattle.sd_arguments.specs.Laws.{shows};
-ghost use Rattle.sd_arguments.specs.Mistake.{accepted};
+ghost use Rattle.sd_arguments.specs.UsageError.{accepted};
 ghost use Rattle.sd_arguments.specs.Options.{no_options, options_of};
 
 use crate::flags::{GivenFlags, NO_FLAGS, flags_in};
-use crate::mistake::{Mistake, Wrong};
 use crate::options::{Options, misplaced_in, options_in};
+use crate::usage_error::{UsageError, UsageErrorKind};
 use sd_usage::{Command, CommandName, OptionName, TextCommand, command_named};
 
 /// What a command line asks for, and with which options.
 #[derive(Clone, Copy)]
 pub struct CommandLine<'a> {
     pub options: Options<'a>,
-    pub asked: Asked<'a>,
+    pub asked: ProgramRequest<'a>,
 }
 
-/// What is asked for.
+/// What the program is asked for.
 #[derive(Clone, Copy)]
-pub enum Asked<'a> {
+pub enum ProgramRequest<'a> {
     /// The help on a command, or on the program.
     Help { command: Option<CommandName> },
     /// The version of the program.
@@ -79,34 +79,34 @@ struct Call<'a> {
 
 impl<'a> Call<'a> {
     /// What is asked for, where each option before the command may go there.
-    fn asks(self, invocation: Invocation<'a>) -> Result<Invocation<'a>, Mistake>
+    fn asks(self, invocation: Invocation<'a>) -> Result<Invocation<'a>, UsageError>
         ensures { accepted invocation_of result ≡ asks (call_of self.entry) (invocation_of invocation.entry) }
     {
         match misplaced_in(self.name, self.named, self.options, self.words) {
-            Some(mistake) => Err(mistake),
+            Some(usage_error) => Err(usage_error),
             None => Ok(invocation),
         }
     }
 
     /// The mistake of a wrong number of arguments: the one that is missing, or the first that is too many.
-    fn miscounted(self, count: usize) -> Mistake {
+    fn miscounted(self, count: usize) -> UsageError {
         let arguments = self.command.arguments;
         let (left, wrong) = match arguments.at(count) {
-            Some(argument) => (0, Wrong::MissingArgument(argument, self.command)),
+            Some(argument) => (0, UsageErrorKind::MissingArgument(argument, self.command)),
             None => {
                 let left = count.saturating_sub(arguments.count());
-                (left, Wrong::SurplusArgument(self.command))
+                (left, UsageErrorKind::SurplusArgument(self.command))
             }
         };
-        Mistake::new(left, self.named, wrong)
+        UsageError::new(left, self.named, wrong)
     }
 
     /// What a command that answers a text asks of one that the arguments follow.
-    fn request_after(self) -> Result<TextRequest<'a>, Mistake>
+    fn request_after(self) -> Result<TextRequest<'a>, UsageError>
         ensures { accepted request_of result ≡ request_after self.entry.command.name (call_of self.entry) }
     {
         let CommandName::Ask(question) = self.command.name else {
-            return Err(Mistake::new(self.named, self.named, Wrong::NoText));
+            return Err(UsageError::new(self.named, self.named, UsageErrorKind::NoText));
         };
         if !self.command.takes_count(1 + self.arguments.len()) {
             return Err(self.miscounted(1 + self.arguments.len()));
@@ -118,7 +118,7 @@ impl<'a> Call<'a> {
     }
 
     /// What a command asks for with its arguments, as many as it takes.
-    fn request_on(self) -> Result<Invocation<'a>, Mistake>
+    fn request_on(self) -> Result<Invocation<'a>, UsageError>
         ensures { accepted invocation_of result ≡ request_on (call_of self.entry) }
     {
         if !self.command.takes_count(self.arguments.len()) {
@@ -145,20 +145,20 @@ impl<'a> Call<'a> {
     }
 
     /// The audit by as many workers as the word says.
-    fn audit_by(self, word: &str) -> Result<Invocation<'a>, Mistake>
+    fn audit_by(self, word: &str) -> Result<Invocation<'a>, UsageError>
         ensures { accepted invocation_of result ≡ audit_by (call_of self.entry) word.now }
     {
         match workers_in(word) {
             Some(workers) => self.asks(Invocation::Script(ScriptRun::Audit { workers })),
             None => {
-                let wrong = Wrong::NoWorkers(self.command);
-                Err(Mistake::new(self.arguments.len(), self.named, wrong))
+                let wrong = UsageErrorKind::NoWorkers(self.command);
+                Err(UsageError::new(self.arguments.len(), self.named, wrong))
             }
         }
     }
 
     /// What the command of `each`, with which the arguments begin, asks of each line.
-    fn each_line(self) -> Result<Invocation<'a>, Mistake>
+    fn each_line(self) -> Result<Invocation<'a>, UsageError>
         ensures { accepted invocation_of result ≡ each_by (call_of self.entry) self.entry.arguments.now }
     {
         let call = call_in(self.options, self.words, self.arguments)?;
@@ -167,7 +167,7 @@ impl<'a> Call<'a> {
     }
 
     /// What the command asks for with its arguments, or after `--stdin` what it asks of the input.
-    fn asked(self) -> Result<Invocation<'a>, Mistake>
+    fn asked(self) -> Result<Invocation<'a>, UsageError>
         ensures { accepted invocation_of result ≡ asked_by (call_of self.entry) }
     {
         if !self.options.has(OptionName::Stdin) {
@@ -182,7 +182,7 @@ impl<'a> Call<'a> {
 }
 
 /// What the arguments ask for, of which the first is the program's name, or the first mistake in them.
-pub fn read_command_line<'a>(words: &'a [&'a str]) -> Result<CommandLine<'a>, Mistake>
+pub fn read_command_line<'a>(words: &'a [&'a str]) -> Result<CommandLine<'a>, UsageError>
     ensures { accepted command_line_of result ≡ reading words.entry.now }
 {
     match words {
@@ -192,7 +192,7 @@ pub fn read_command_line<'a>(words: &'a [&'a str]) -> Result<CommandLine<'a>, Mi
 }
 
 /// What the arguments after the program's name ask for.
-fn asked_by_words<'a>(words: &'a [&'a str]) -> Result<CommandLine<'a>, Mistake>
+fn asked_by_words<'a>(words: &'a [&'a str]) -> Result<CommandLine<'a>, UsageError>
     ensures { accepted command_line_of result ≡ asked_by_words words.entry.now }
 {
     match shown_by(words) {
@@ -205,14 +205,14 @@ fn asked_by_words<'a>(words: &'a [&'a str]) -> Result<CommandLine<'a>, Mistake>
 }
 
 /// What the command after the options asks for.
-fn run_by<'a>(words: &'a [&'a str]) -> Result<CommandLine<'a>, Mistake>
+fn run_by<'a>(words: &'a [&'a str]) -> Result<CommandLine<'a>, UsageError>
     ensures { accepted command_line_of result ≡ run_by words.entry.now }
 {
     let call = first_call(words)?;
     let invocation = call.asked()?;
     Ok(CommandLine {
         options: call.options,
-        asked: Asked::Runs(invocation),
+        asked: ProgramRequest::Runs(invocation),
     })
 }
 
@@ -222,8 +222,8 @@ pub fn reads_input(words: &[&str]) -> bool
 {
     match read_command_line(words) {
         Ok(line) => match line.asked {
-            Asked::Runs(Invocation::Ask { text, .. }) => text.is_none(),
-            Asked::Runs(_) => true,
+            ProgramRequest::Runs(Invocation::Ask { text, .. }) => text.is_none(),
+            ProgramRequest::Runs(_) => true,
             _ => false,
         },
         Err(_) => false,
@@ -241,16 +241,18 @@ pub fn is_command_line(words: &[&str]) -> bool
 pub fn asks_help(words: &[&str]) -> bool
     ensures { result ≡ shows (reading words.now) }
 {
-    read_command_line(words).is_ok_and(|line| !matches!(line.asked, Asked::Runs(_)))
+    read_command_line(words).is_ok_and(|line| !matches!(line.asked, ProgramRequest::Runs(_)))
 }
 
 /// The help or the version that the arguments after the program's name ask for.
-fn shown_by<'a>(words: &[&str]) -> Option<Asked<'a>>
+fn shown_by<'a>(words: &[&str]) -> Option<ProgramRequest<'a>>
     ensures { option_map (line_of no_options) result ≡ shown_by words.now }
 {
     match words {
-        ["-h" | "--help" | "help"] | ["help", "help"] => Some(Asked::Help { command: None }),
-        ["-V" | "--version"] => Some(Asked::Version),
+        ["-h" | "--help" | "help"] | ["help", "help"] => Some(ProgramRequest::Help {
+            command: None,
+        }),
+        ["-V" | "--version"] => Some(ProgramRequest::Version),
         ["help", name] => help_on(name),
         [name, "-h"] => help_on(name),
         [name, "--help"] => help_on(name),
@@ -259,19 +261,19 @@ fn shown_by<'a>(words: &[&str]) -> Option<Asked<'a>>
 }
 
 /// The help on the command that the text names.
-fn help_on<'a>(word: &str) -> Option<Asked<'a>>
+fn help_on<'a>(word: &str) -> Option<ProgramRequest<'a>>
     ensures { option_map (line_of no_options) result ≡ help_on word.now }
 {
     let command = Some(command_named(word)?.name);
-    Some(Asked::Help { command })
+    Some(ProgramRequest::Help { command })
 }
 
 /// What is wrong where no command begins: no command is named after `help`, or what stands there.
-fn no_command(words: &[&str]) -> Mistake {
+fn no_command(words: &[&str]) -> UsageError {
     if asks_unknown(words) {
-        return Mistake::new(1, 0, Wrong::UnknownCommand);
+        return UsageError::new(1, 0, UsageErrorKind::UnknownCommand);
     }
-    Mistake::new(words.len(), 0, wrong_in(words))
+    UsageError::new(words.len(), 0, wrong_in(words))
 }
 
 /// Whether help is asked for on what is no command.
@@ -283,17 +285,17 @@ fn asks_unknown(words: &[&str]) -> bool {
 }
 
 /// Help or the version is asked for among other arguments, or there is an option or another text.
-fn wrong_in(words: &[&str]) -> Wrong {
+fn wrong_in(words: &[&str]) -> UsageErrorKind {
     match words {
-        [] => Wrong::NoCommand,
-        ["help" | "-h" | "--help" | "-V" | "--version", ..] => Wrong::NotAlone,
-        [word, ..] if word.starts_with('-') => Wrong::UnknownOption,
-        _ => Wrong::UnknownCommand,
+        [] => UsageErrorKind::NoCommand,
+        ["help" | "-h" | "--help" | "-V" | "--version", ..] => UsageErrorKind::NotAlone,
+        [word, ..] if word.starts_with('-') => UsageErrorKind::UnknownOption,
+        _ => UsageErrorKind::UnknownCommand,
     }
 }
 
 /// The command after the options with which the words begin.
-fn first_call<'a>(words: &'a [&'a str]) -> Result<Call<'a>, Mistake>
+fn first_call<'a>(words: &'a [&'a str]) -> Result<Call<'a>, UsageError>
     ensures { accepted call_of result ≡ first_call words.entry.now }
 {
     let (options, rest) = options_in(Options::none(), words)?;
@@ -305,7 +307,7 @@ fn call_in<'a>(
     options: Options<'a>,
     words: &'a [&'a str],
     rest: &'a [&'a str],
-) -> Result<Call<'a>, Mistake>
+) -> Result<Call<'a>, UsageError>
     ensures { accepted call_of result ≡ call_in (options_of options.entry) words.entry.now rest.entry.now }
 {
     let [name, after @ ..] = rest else {

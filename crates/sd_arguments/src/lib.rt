@@ -13,16 +13,16 @@
 mod command_line;
 mod flags;
 mod laws;
-mod mistake;
 mod options;
+mod usage_error;
 mod version;
 
 pub use command_line::{
-    Asked, CommandLine, Invocation, ScriptRun, TextRequest, asks_help, is_command_line,
+    CommandLine, Invocation, ProgramRequest, ScriptRun, TextRequest, asks_help, is_command_line,
     read_command_line, reads_input,
 };
 pub use flags::GivenFlags;
 pub use laws::{dashes_keep_texts, each_asks_the_command, help_stands_alone, names_are_distinct};
-pub use mistake::{Mistake, message};
 pub use options::{BadValue, Options};
+pub use usage_error::{UsageError, message};
 pub use version::version_text;

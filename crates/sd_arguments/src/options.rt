@@ -3,15 +3,15 @@ ghost use Rattle.std.specs.Prelude.{◌≡◌, ◌⊎◌, ℕ, IfErr, IfNone, If
 ghost use Rattle.sd_text.specs.Domain.{domain_sid};
 ghost use Rattle.sd_text.specs.Grammar.{Spells};
 ghost use Rattle.sd_text.specs.Sid.{sid_text};
-ghost use Rattle.sd_arguments.specs.Options.{GivesDomain, GivesLimits, GivesManner, GivesNumber, GivesSettings};
+ghost use Rattle.sd_arguments.specs.Options.{GivesDomain, GivesLimits, GivesScriptOptions, GivesNumber, GivesSettings};
 ghost use Rattle.sd_arguments.specs.Options.{HasBadValue, IsNoDomain, given, go_before, goes_before, has};
 ghost use Rattle.sd_arguments.specs.Options.{no_options, options_in, options_of, with_option};
-ghost use Rattle.sd_arguments.specs.Mistake.{accepted};
+ghost use Rattle.sd_arguments.specs.UsageError.{accepted};
 
-use crate::mistake::{Mistake, Wrong};
+use crate::usage_error::{UsageError, UsageErrorKind};
 use sd_answer::Spelling;
 use sd_commands::{ByteForm, Settings, kind_given, mapping_given};
-use sd_script::{Manner, Notation, PathSpelling, number_in};
+use sd_script::{Notation, PathSpelling, ScriptOptions, number_in};
 use sd_text::{Aliases, Domain, read_sid_text};
 use sd_tree::{Limits, LimitsError};
 use sd_usage::{OPTION_COUNT, OptionName, ProgramOption, option_named, takes_option};
@@ -60,11 +60,16 @@ impl<'a> Options<'a> {
     }
 
     /// The options and one more, with `left` arguments from it on; `RepeatedOption` if it is given already.
-    fn with_option(self, left: usize, option: OptionName, value: &'a str) -> Result<Self, Mistake>
+    fn with_option(
+        self,
+        left: usize,
+        option: OptionName,
+        value: &'a str,
+    ) -> Result<Self, UsageError>
         ensures { accepted options_of result ≡ with_option (options_of self.entry) option value.now }
     {
         if self.has(option) {
-            return Err(Mistake::new(left, 0, Wrong::RepeatedOption));
+            return Err(UsageError::new(left, 0, UsageErrorKind::RepeatedOption));
         }
         let mut values = self.values;
         values[option.place()] = Some(value);
@@ -110,12 +115,12 @@ impl<'a> Options<'a> {
 
     /// How they have a script carried out, or whose value isn't read: first those of `settings`, then `--nodes`'s and
     /// `--edits`'s.
-    pub fn manner(self) -> Result<Manner, BadValue<'a>>
-        ensures { GivesManner (options_of self.entry) result }
+    pub fn script_options(self) -> Result<ScriptOptions, BadValue<'a>>
+        ensures { GivesScriptOptions (options_of self.entry) result }
     {
         let settings = self.settings()?;
         let limits = self.limits()?;
-        Ok(Manner {
+        Ok(ScriptOptions {
             mapping: settings.mapping,
             limits,
             notation: Notation {
@@ -171,7 +176,7 @@ pub(crate) fn misplaced_in(
     named: usize,
     options: Options<'_>,
     words: &[&str],
-) -> Option<Mistake>
+) -> Option<UsageError>
     ensures { not (is_some result) ≡ go_before name.now (options_of options.entry) words.now }
 {
     let [word, after @ ..] = words else {
@@ -179,7 +184,7 @@ pub(crate) fn misplaced_in(
     };
     let option = option_named(word)?;
     if let Some(wrong) = wrong_option(name, options, option) {
-        return Some(Mistake::new(words.len(), named, wrong));
+        return Some(UsageError::new(words.len(), named, wrong));
     }
     match after {
         [_value, after @ ..] if option.value.is_some() => misplaced_in(name, named, options, after),
@@ -188,14 +193,14 @@ pub(crate) fn misplaced_in(
 }
 
 /// Why the option may not go before the command, or not beside the others, if it may not.
-fn wrong_option(name: &str, options: Options<'_>, option: ProgramOption) -> Option<Wrong>
+fn wrong_option(name: &str, options: Options<'_>, option: ProgramOption) -> Option<UsageErrorKind>
     ensures { not (is_some result) ≡ goes_before name.now (options_of options.entry) option }
 {
     if !takes_option(name, option.name) {
-        return Some(Wrong::MisplacedOption(option.name));
+        return Some(UsageErrorKind::MisplacedOption(option.name));
     }
     match option.excludes {
-        Some(other) if options.has(other) => Some(Wrong::ExcludedOption),
+        Some(other) if options.has(other) => Some(UsageErrorKind::ExcludedOption),
         _ => None,
     }
 }
@@ -229,7 +234,7 @@ fn number_given(text: Option<&str>, standard: u64) -> u64
 pub(crate) fn options_in<'a>(
     options: Options<'a>,
     words: &'a [&'a str],
-) -> Result<(Options<'a>, &'a [&'a str]), Mistake>
+) -> Result<(Options<'a>, &'a [&'a str]), UsageError>
     ensures { accepted (λ read. (options_of read.0, read.1.now)) result
         ≡ options_in (options_of options.entry) words.entry.now }
 {
@@ -242,7 +247,7 @@ pub(crate) fn options_in<'a>(
     let (value, after) = match after {
         _ if option.value.is_none() => ("", after),
         [value, after @ ..] => (*value, after),
-        [] => return Err(Mistake::new(words.len(), 0, Wrong::NoValue)),
+        [] => return Err(UsageError::new(words.len(), 0, UsageErrorKind::NoValue)),
     };
     let options = options.with_option(words.len(), option.name, value)?;
     options_in(options, after)

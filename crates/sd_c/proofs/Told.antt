@@ -3,10 +3,10 @@ use Rattle.std.specs.Prelude.{◌≡◌, refl, ℕ, List, Option, Result, Ok}
 use Rattle.sd_check.specs.declared.verdict.Verdict.{Verdict}
 use Rattle.sd_explain.specs.Parts.{reason_in}
 use Rattle.sd_explain.specs.declared.reason.Reason.{Reason}
-use Rattle.sd_c.specs.Answer.{verdict_given}
+use Rattle.sd_c.specs.CallAnswer.{verdict_given}
 use Rattle.sd_c.specs.Explaining.{explained, parts_of, reasons_on}
 use Rattle.sd_c.specs.Request.{RequestValue, verdict_of}
-use Rattle.sd_c.specs.declared.answer.CheckAnswer.{CheckAnswer}
+use Rattle.sd_c.specs.declared.call_answer.CheckAnswer.{CheckAnswer}
 use Rattle.sd_c.specs.declared.explaining.Explained.{Explained}
 use Rattle.sd_c.specs.declared.explaining.PartAnswer.{PartAnswer}
 use Rattle.sd_c.specs.declared.stop.NotRead.{NotRead}

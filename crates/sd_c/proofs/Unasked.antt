@@ -5,7 +5,7 @@ use Rattle.sd_sid.specs.Sid.{SidValue}
 use Rattle.sd_acl.specs.Descriptor.{DescriptorValue}
 use Rattle.sd_check.specs.declared.token.GroupState.{GroupState}
 use Rattle.sd_c.specs.Analysis.{AnswersCompare, AnswersWho, IsCompareText, IsWhoText, Stops, asked_over, both_kept, descriptors_in, kept_in, no_accesses, no_comparison}
-use Rattle.sd_c.specs.Answer.{not_read}
+use Rattle.sd_c.specs.CallAnswer.{not_read}
 use Rattle.sd_c.specs.Kept.{descriptor_in, is_kept}
 use Rattle.sd_c.specs.Request.{◌>>=◌}
 use Rattle.sd_c.specs.declared.analysis.CompareAnswer.{CompareAnswer}

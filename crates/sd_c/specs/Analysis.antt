@@ -14,10 +14,10 @@ use Rattle.sd_analysis.specs.declared.who_has.Access.{Access}
 use Rattle.sd_answer.specs.Parts.{parts_in}
 use Rattle.sd_answer.specs.Compare.{compare_text}
 use Rattle.sd_answer.specs.Who.{rights_asked, who_text}
-use Rattle.sd_answer.specs.declared.answer.Spelling.TheVariants.{Number}
+use Rattle.sd_answer.specs.declared.verdict_line.Spelling.TheVariants.{Number}
 use Rattle.sd_c.specs.declared.analysis.CompareAnswer.{CompareAnswer}
 use Rattle.sd_c.specs.declared.analysis.WhoAnswer.{WhoAnswer}
-use Rattle.sd_c.specs.declared.answer.CheckAnswer.{CheckAnswer}
+use Rattle.sd_c.specs.declared.call_answer.CheckAnswer.{CheckAnswer}
 use Rattle.sd_c.specs.declared.handle.Handle.{Handle}
 use Rattle.sd_c.specs.declared.handle.kept.Kept.{Kept}
 use Rattle.sd_c.specs.declared.mapping.Mapping.{Mapping}
@@ -25,7 +25,7 @@ use Rattle.sd_c.specs.declared.stop.NotRead.{NotRead}
 use Rattle.sd_c.specs.declared.stop.NotRead.TheVariants.{DescriptorHandle, NewHandle}
 use Rattle.sd_c.specs.declared.stop.Stop.{Stop}
 use Rattle.sd_c.specs.declared.stop.Stop.TheVariants as stops
-use Rattle.sd_c.specs.Answer.{unwritten, why_not}
+use Rattle.sd_c.specs.CallAnswer.{unwritten, why_not}
 use Rattle.sd_c.specs.Kept.{descriptor_in, is_kept}
 use Rattle.sd_c.specs.Request.{◌>>=◌, Fails, groups_read, mapping_read}
 use Rattle.sd_c.specs.Written.{Writes}

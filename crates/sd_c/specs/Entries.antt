@@ -11,7 +11,7 @@ use Rattle.sd_acl.specs.declared.ace.AceKind.{AceKind}
 use Rattle.sd_acl.specs.declared.ace.AceKind.TheVariants.{Allow, Deny}
 use Rattle.sd_acl.specs.Dacl.{Dacl}
 use Rattle.sd_acl.specs.declared.descriptor.DaclOf.TheVariants as dacls
-use Rattle.sd_c.specs.declared.answer.Written.{Written}
+use Rattle.sd_c.specs.declared.call_answer.Written.{Written}
 use Rattle.sd_c.specs.declared.entries.DaclAnswer.{DaclAnswer}
 use Rattle.sd_c.specs.declared.entries.EntryAnswer.{EntryAnswer}
 use Rattle.sd_c.specs.declared.entries.NoPart.{NoPart}

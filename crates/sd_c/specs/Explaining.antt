@@ -15,7 +15,7 @@ use Rattle.sd_c.specs.declared.explaining.Explained.{Explained}
 use Rattle.sd_c.specs.declared.explaining.FindingAnswer.{FindingAnswer}
 use Rattle.sd_c.specs.declared.explaining.PartAnswer.{PartAnswer}
 use Rattle.sd_c.specs.declared.stop.NotRead.{NotRead}
-use Rattle.sd_c.specs.Answer.{check_answer}
+use Rattle.sd_c.specs.CallAnswer.{check_answer}
 use Rattle.sd_c.specs.Request.{RequestValue}
 
 -- ---- a part

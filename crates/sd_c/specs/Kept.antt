@@ -7,8 +7,8 @@ use Rattle.sd_check.specs.Token.{TokenValue}
 use Rattle.sd_edit.specs.History.{History, history_of}
 use Rattle.sd_versions.specs.Versions.{VersionsValue}
 use Rattle.sd_wire.specs.Reading.{descriptor_read}
-use Rattle.sd_c.specs.declared.answer.CheckAnswer.{CheckAnswer}
-use Rattle.sd_c.specs.declared.answer.Written.{Written}
+use Rattle.sd_c.specs.declared.call_answer.CheckAnswer.{CheckAnswer}
+use Rattle.sd_c.specs.declared.call_answer.Written.{Written}
 use Rattle.sd_c.specs.declared.handle.Handle.{Handle}
 use Rattle.sd_c.specs.declared.handle.kept.Kept.{Kept}
 use Rattle.sd_c.specs.declared.handle.kept.Kept.TheVariants as kinds
@@ -16,7 +16,7 @@ use Rattle.sd_c.specs.declared.mapping.Mapping.{Mapping}
 use Rattle.sd_c.specs.declared.refusal.Refusal.{Refusal}
 use Rattle.sd_c.specs.declared.stop.NotRead.{NotRead}
 use Rattle.sd_c.specs.declared.stop.NotRead.TheVariants.{DescriptorHandle, TokenHandle}
-use Rattle.sd_c.specs.Answer.{check_memory, not_read, unread}
+use Rattle.sd_c.specs.CallAnswer.{check_memory, not_read, unread}
 use Rattle.sd_c.specs.Request.{◌>>=◌, RequestValue, mapping_read}
 use Rattle.sd_c.specs.Written.{not_written, refused}
 

@@ -7,7 +7,7 @@ use Rattle.sd_acl.specs.Descriptor.{DescriptorValue, IsDescriptor}
 use Rattle.sd_acl.specs.Dacl.{Dacl}
 use Rattle.sd_acl.specs.declared.descriptor.DaclOf.TheVariants.{List as Entries}
 use Rattle.sd_wire.specs.Reading.{u16_at, descriptor_read}
-use Rattle.sd_c.specs.declared.answer.Written.{Written}
+use Rattle.sd_c.specs.declared.call_answer.Written.{Written}
 use Rattle.sd_c.specs.declared.refusal.Refusal.{Refusal}
 use Rattle.sd_c.specs.Written.{RefusesBytes, refused}
 

@@ -1,5 +1,5 @@
 pub mod Request
-pub mod Answer
+pub mod CallAnswer
 pub mod Written
 pub mod InDomain
 pub mod Length

@@ -11,7 +11,7 @@ use Rattle.sd_edit.specs.History.{History}
 use Rattle.sd_edit.specs.Journal.{replay}
 use Rattle.sd_inheritance.specs.declared.kind.NodeKind.{NodeKind}
 use Rattle.sd_inheritance.specs.declared.kind.NodeKind.TheVariants.{Container, Object}
-use Rattle.sd_edit.specs.declared.node.Row.{Row}
+use Rattle.sd_edit.specs.declared.node.NodeRow.{NodeRow}
 use Rattle.sd_c.specs.declared.handle.Handle.{Handle}
 use Rattle.sd_c.specs.declared.handle.kept.Kept.{Kept}
 use Rattle.sd_c.specs.declared.nodes.NodeAnswer.{NodeAnswer}
@@ -64,7 +64,7 @@ IsNoOwnAt view path why =
 -- an edit whose value is what was written of a node gives it the same owner, group and DACL
 abbrev pub OwnFormsComeBack : Type 0
 OwnFormsComeBack =
-    (row : Row) → IsDescriptor (own_descriptor_of_row row) → HaveNamedFlags (own_list row.dacl)
+    (row : NodeRow) → IsDescriptor (own_descriptor_of_row row) → HaveNamedFlags (own_list row.dacl)
     → IsNode (wire_of (own_descriptor_of_row row)) row.owner row.group row.dacl
 
 -- ---- the nodes in path order
@@ -72,7 +72,7 @@ OwnFormsComeBack =
 -- the text of the path of the node at this index
 abbrev pub IsPathAt : Kept → ℕ → List ℕ → NodeKind → Type 0
 IsPathAt view place bytes kind =
-    (h : History) × (names : Names) × (row : Row) × (view_in view ≡ Some h)
+    (h : History) × (names : Names) × (row : NodeRow) × (view_in view ≡ Some h)
     × (slice_get (entries (replay h.opening h.journal)) place ≡ Some (names, row)) × (bytes ≡ text_of names)
     × (kind ≡ row.kind)
 

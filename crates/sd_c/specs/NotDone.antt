@@ -7,14 +7,14 @@ use Rattle.sd_edit.specs.Limits.{limits_error_number}
 use Rattle.sd_edit.specs.Refusals.{number_of}
 use Rattle.sd_edit.specs.declared.limits.LimitsError.{LimitsError}
 use Rattle.sd_edit.specs.declared.limits.LimitsError.TheVariants as limits
-use Rattle.sd_c.specs.declared.answer.CheckAnswer.{CheckAnswer}
+use Rattle.sd_c.specs.declared.call_answer.CheckAnswer.{CheckAnswer}
 use Rattle.sd_c.specs.declared.not_done.PathArgument.{PathArgument}
 use Rattle.sd_c.specs.declared.not_done.PathArgument.TheVariants as arguments
 use Rattle.sd_c.specs.declared.not_done.NotDone.{NotDone}
 use Rattle.sd_c.specs.declared.not_done.NotDone.TheVariants.{Memory, StoreHandle, ViewHandle, TokenHandle, MappingBits}
 use Rattle.sd_c.specs.declared.not_done.NotDone.TheVariants.{EditKind, Utf8, Path, Descriptor, Parts, Sid, Refused}
 use Rattle.sd_c.specs.declared.not_done.NotDone.TheVariants.{Limits, NoNode}
-use Rattle.sd_c.specs.Answer.{unread}
+use Rattle.sd_c.specs.CallAnswer.{unread}
 
 abbrev pub argument_number : PathArgument → ℕ
 argument_number arguments.Path = 12

@@ -12,15 +12,15 @@ use Rattle.sd_edit.specs.declared.refusal.EditRefusal.{EditRefusal}
 use Rattle.sd_edit.specs.declared.refusal.TreeError.{TreeError}
 use Rattle.sd_edit.specs.declared.refusal.TreeError.TheVariants as errors
 use Rattle.sd_versions.specs.Versions.{VersionsValue, accepted}
-use Rattle.sd_c.specs.declared.answer.CheckAnswer.{CheckAnswer}
-use Rattle.sd_c.specs.declared.answer.Written.{Written}
+use Rattle.sd_c.specs.declared.call_answer.CheckAnswer.{CheckAnswer}
+use Rattle.sd_c.specs.declared.call_answer.Written.{Written}
 use Rattle.sd_c.specs.declared.handle.Handle.{Handle}
 use Rattle.sd_c.specs.declared.handle.kept.Kept.{Kept}
 use Rattle.sd_c.specs.declared.mapping.Mapping.{Mapping}
 use Rattle.sd_c.specs.declared.not_done.NotDone.{NotDone}
 use Rattle.sd_c.specs.declared.not_done.NotDone.TheVariants as reasons
 use Rattle.sd_c.specs.declared.stop.NotRead.TheVariants.{MappingBits}
-use Rattle.sd_c.specs.Answer.{unread}
+use Rattle.sd_c.specs.CallAnswer.{unread}
 use Rattle.sd_c.specs.Edits.{IsEdit, IsNoEdit, IsNoNode, IsNode, HasNode}
 use Rattle.sd_c.specs.Kept.{IsSame, store_in, view_in}
 use Rattle.sd_c.specs.Length.{length_told}

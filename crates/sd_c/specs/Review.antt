@@ -7,7 +7,7 @@ use Rattle.sd_acl.specs.Descriptor.{DescriptorValue}
 use Rattle.sd_path.specs.Names.{Names}
 use Rattle.sd_path.specs.PathText.{text_of}
 use Rattle.sd_edit.specs.Answers.{descriptor_at, kind_at}
-use Rattle.sd_edit.specs.declared.node.Row.{Row}
+use Rattle.sd_edit.specs.declared.node.NodeRow.{NodeRow}
 use Rattle.sd_versions.specs.Versions.{VersionsValue}
 use Rattle.sd_analysis.specs.Compare.{AreGains}
 use Rattle.sd_analysis.specs.Sufficient.{Parts}
@@ -17,7 +17,7 @@ use Rattle.sd_review.specs.Review.{Trees, former, trees_after}
 use Rattle.sd_review.specs.declared.review.Former.{Former}
 use Rattle.sd_review.specs.declared.review.Former.TheVariants.{Same, Moved, New}
 use Rattle.sd_answer.specs.Compare.{gains_and_losses}
-use Rattle.sd_answer.specs.declared.answer.Spelling.TheVariants.{Number}
+use Rattle.sd_answer.specs.declared.verdict_line.Spelling.TheVariants.{Number}
 use Rattle.sd_c.specs.declared.handle.Handle.{Handle}
 use Rattle.sd_c.specs.declared.handle.kept.Kept.{Kept}
 use Rattle.sd_c.specs.declared.not_done.NotDone.{NotDone}
@@ -83,13 +83,13 @@ abbrev pub trees_in : VersionsValue → Trees
 trees_in v = trees_after v.opening v.published v.pending
 
 -- the published node at a place
-abbrev pub published_at : Trees → ℕ → Option (Names × Row)
+abbrev pub published_at : Trees → ℕ → Option (Names × NodeRow)
 published_at ts place = slice_get (entries ts.old) (place - length (entries ts.new))
 
 abbrev pub IsReviewAt : Trees → ℕ → NodeReview → Type 0
 IsReviewAt ts place r =
-    ((node : Names × Row) × (slice_get (entries ts.new) place ≡ Some node) × IsNodeReview ts node.0 r)
-    ⊎ ((node : Names × Row) × (slice_get (entries ts.new) place ≡ None) × (published_at ts place ≡ Some node)
+    ((node : Names × NodeRow) × (slice_get (entries ts.new) place ≡ Some node) × IsNodeReview ts node.0 r)
+    ⊎ ((node : Names × NodeRow) × (slice_get (entries ts.new) place ≡ None) × (published_at ts place ≡ Some node)
     × IsPublishedReview ts node.0 r)
 
 -- why there is none: no node is at the place in either, or out of memory where one is

@@ -11,8 +11,8 @@ use Rattle.sd_edit.specs.Journal.{replay}
 use Rattle.sd_edit.specs.declared.reply.CheckReply.{CheckReply}
 use Rattle.sd_edit.specs.declared.reply.CheckReply.TheVariants.{Verdict, NoNode}
 use Rattle.sd_versions.specs.Versions.{accepted}
-use Rattle.sd_c.specs.declared.answer.CheckAnswer.{CheckAnswer}
-use Rattle.sd_c.specs.declared.answer.Written.{Written}
+use Rattle.sd_c.specs.declared.call_answer.CheckAnswer.{CheckAnswer}
+use Rattle.sd_c.specs.declared.call_answer.Written.{Written}
 use Rattle.sd_c.specs.declared.handle.Handle.{Handle}
 use Rattle.sd_c.specs.declared.handle.kept.Kept.{Kept}
 use Rattle.sd_c.specs.declared.handle.kept.Kept.TheVariants as kinds
@@ -21,7 +21,7 @@ use Rattle.sd_c.specs.declared.not_done.NotDone.TheVariants as reasons
 use Rattle.sd_c.specs.declared.not_done.PathArgument.TheVariants as arguments
 use Rattle.sd_c.specs.declared.stop.NotRead.TheVariants.{TokenHandle}
 use Rattle.sd_c.specs.declared.views.ViewAnswer.{ViewAnswer}
-use Rattle.sd_c.specs.Answer.{unwritten, verdict_given}
+use Rattle.sd_c.specs.CallAnswer.{unwritten, verdict_given}
 use Rattle.sd_c.specs.Edits.{IsNoPath}
 use Rattle.sd_c.specs.Kept.{token_in, view_in}
 use Rattle.sd_c.specs.Length.{length_told}

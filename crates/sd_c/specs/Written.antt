@@ -16,8 +16,8 @@ use Rattle.sd_wire.specs.Writing.{wire_of}
 use Rattle.sd_text.specs.Rights.{mask_text}
 use Rattle.sd_text.specs.declared.fault.TextError.{TextError}
 use Rattle.sd_text.specs.declared.fault.TextError.TheVariants as errors
-use Rattle.sd_c.specs.declared.answer.Written.{Written}
-use Rattle.sd_c.specs.declared.answer.MaskAnswer.{MaskAnswer}
+use Rattle.sd_c.specs.declared.call_answer.Written.{Written}
+use Rattle.sd_c.specs.declared.call_answer.MaskAnswer.{MaskAnswer}
 use Rattle.sd_c.specs.declared.refusal.Refusal.{Refusal}
 use Rattle.sd_c.specs.declared.refusal.Refusal.TheVariants.{Memory, Utf8, Text, Wire, Sid, NoDomain}
 

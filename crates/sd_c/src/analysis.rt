@@ -6,14 +6,14 @@ ghost use Rattle.sd_c.specs.Analysis.{AnswersCompare, AnswersWho, IsCompareOf, I
 ghost use Rattle.sd_c.specs.Analysis.{Stops, bits_of, both_kept, descriptors_in, kept_in, no_accesses, no_comparison};
 ghost use Rattle.sd_c.specs.Kept.{Stays, descriptor_in};
 
-use crate::answer::{CheckAnswer, Written, not_read, unwritten, why_not, write};
+use crate::call_answer::{CheckAnswer, Written, not_read, unwritten, why_not, write};
 use crate::handle::{Handle, Kept};
 use crate::mapping::Mapping;
 use crate::request::{groups_of, mapping_of};
 use crate::stop::{NotRead, Stop};
 use sd_acl::Descriptor;
 use sd_analysis::{Base, Change, compare, who};
-use sd_answer::{Spelling, borrowed, compare_text, looked_at, rights_asked, who_text};
+use sd_answer::{Spelling, compare_text, dacl_ref, descriptor_ref, rights_asked, who_text};
 use sd_check::GroupState;
 use sd_sid::{GenericMapping, Mask, Sid};
 use std::alloc::{AllocError, Global};
@@ -165,7 +165,7 @@ fn who_lines(
         (record { groups = groups.now; mapping = mapping.now }) asked (string_bytes text)) }
 {
     let base = Base { groups };
-    let dacl = borrowed(&descriptor.dacl);
+    let dacl = dacl_ref(&descriptor.dacl);
     let rights = rights_asked(mapping, asked);
     let accesses = who(alloc, descriptor.owner, dacl, mapping, &base, rights)?;
     who_text(alloc, Spelling::Number, &accesses)
@@ -215,7 +215,7 @@ fn comparison_of(
     ensures { IfOk result (λ made. IsCompareText (descriptor_of old.now) (descriptor_of new.now)
         (record { groups = groups.now; mapping = mapping.now }) (string_bytes made.text) made.gained made.lost) }
 {
-    let (old, new, base) = (looked_at(old), looked_at(new), Base { groups });
+    let (old, new, base) = (descriptor_ref(old), descriptor_ref(new), Base { groups });
     let comparison = compare(alloc, &old, &new, mapping, &base)?;
     Ok(Compared {
         text: compare_text(alloc, Spelling::Number, &old, &new, &comparison)?,

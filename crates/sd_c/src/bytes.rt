@@ -3,7 +3,7 @@
 ghost use Rattle.std.specs.Prelude.{◌≡◌, IfOk, IfErr, string_bytes};
 ghost use Rattle.sd_c.specs.Written.{Answers, IsFullSidTextOf, IsSidTextOf, IsTextOf, RefusesBytes, RefusesSid};
 
-use crate::answer::{Written, refused, write};
+use crate::call_answer::{Written, refused, write};
 use crate::refusal::Refusal;
 use sd_sid::read_sid;
 use sd_text::{print_full_sid, print_sddl, print_sid};

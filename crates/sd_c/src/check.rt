@@ -2,10 +2,10 @@
 
 ghost use Rattle.std.specs.Prelude.{◌≡◌, ◌<◌, ◌⊎◌, length, IsErrOf};
 ghost use Rattle.sd_wire.specs.Memory.{TakesMemory};
-ghost use Rattle.sd_c.specs.Answer.{check_answer, check_memory};
+ghost use Rattle.sd_c.specs.CallAnswer.{check_answer, check_memory};
 ghost use Rattle.sd_c.specs.Request.{Gives, request_read, verdict_read};
 
-use crate::answer::{CheckAnswer, verdict_given, why_not};
+use crate::call_answer::{CheckAnswer, verdict_given, why_not};
 use crate::mapping::Mapping;
 use crate::request::{descriptor_of, mapping_of, token_of};
 use crate::stop::Stop;

@@ -8,7 +8,7 @@ ghost use Rattle.sd_c.specs.Entries.{no_entry, no_part, sid_in, where_set};
 ghost use Rattle.sd_c.specs.Kept.{Stays};
 ghost use Rattle.sd_c.specs.declared.entries.NoPart.TheVariants.{Memory};
 
-use crate::answer::{HANDLE, MEMORY, NO_PART, OK, Written, not_written, write};
+use crate::call_answer::{HANDLE, MEMORY, NO_PART, OK, Written, not_written, write};
 use crate::handle::{Handle, Kept};
 use bitflags::Flags;
 use sd_acl::{Ace, AceKind, Dacl, Descriptor};

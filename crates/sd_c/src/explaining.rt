@@ -7,7 +7,7 @@ ghost use Rattle.sd_c.specs.Kept.{Stays, asked_of, kept_request};
 ghost use Rattle.sd_c.specs.Request.{RequestValue, verdict_of};
 ghost use Rattle.sd_explain.specs.Parts.{reason_in, told_verdict};
 
-use crate::answer::{CheckAnswer, not_read, verdict_given};
+use crate::call_answer::{CheckAnswer, not_read, verdict_given};
 use crate::handle::{Handle, Kept};
 use crate::mapping::Mapping;
 use crate::request::mapping_of;

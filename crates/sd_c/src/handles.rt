@@ -1,11 +1,11 @@
 //! The check of what handles keep, and the end of a handle.
 
 ghost use Rattle.std.specs.Prelude.{◌≡◌, ◌⊎◌, ◌<◌};
-ghost use Rattle.sd_c.specs.Answer.{check_answer};
+ghost use Rattle.sd_c.specs.CallAnswer.{check_answer};
 ghost use Rattle.sd_c.specs.Kept.{Stays, asked_of, kept_request};
 ghost use Rattle.sd_c.specs.Request.{verdict_read};
 
-use crate::answer::{CheckAnswer, not_read, verdict_given};
+use crate::call_answer::{CheckAnswer, not_read, verdict_given};
 use crate::handle::{Handle, Kept};
 use crate::mapping::Mapping;
 use crate::request::mapping_of;

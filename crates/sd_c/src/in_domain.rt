@@ -7,7 +7,7 @@ ghost use Rattle.sd_c.specs.Edits.{IsSid};
 ghost use Rattle.sd_c.specs.InDomain.{IsDomainOf, IsFormOfIn, IsSidOfIn, RefusesDomain, RefusesIn};
 ghost use Rattle.sd_c.specs.Written.{Answers};
 
-use crate::answer::{Written, refused, write};
+use crate::call_answer::{Written, refused, write};
 use crate::refusal::Refusal;
 use crate::text::{descriptor_of, sid_of};
 use sd_sid::{Sid, read_sid, sid_bytes};

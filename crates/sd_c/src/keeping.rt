@@ -10,7 +10,7 @@ ghost use Rattle.sd_c.specs.Kept.{TokenTakesMemory, descriptor_in, token_in};
 ghost use Rattle.sd_c.specs.Request.{Fails, token_read};
 ghost use Rattle.sd_c.specs.Written.{RefusesBytes, RefusesText};
 
-use crate::answer::{CheckAnswer, HANDLE, OK, Written, not_written, refused, unread, why_not};
+use crate::call_answer::{CheckAnswer, HANDLE, OK, Written, not_written, refused, unread, why_not};
 use crate::handle::{Handle, Kept};
 use crate::refusal::Refusal;
 use crate::request::token_of;

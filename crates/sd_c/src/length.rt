@@ -10,7 +10,7 @@ ghost use Rattle.sd_c.specs.Length.{AnswersLength, FrontIsRead, HasListRoom, IsL
 ghost use Rattle.sd_c.specs.Length.{length_told, trustee_end};
 ghost use Rattle.sd_c.specs.Written.{RefusesBytes};
 
-use crate::answer::{Written, length_told, refused};
+use crate::call_answer::{Written, length_told, refused};
 use crate::refusal::Refusal;
 use sd_acl::{Dacl, Descriptor};
 use sd_sid::{SID_HEADER_BYTES, Sid};

@@ -10,8 +10,8 @@
 #![tactic(auto)]
 
 mod analysis;
-mod answer;
 mod bytes;
+mod call_answer;
 mod check;
 mod edits;
 mod entries;
@@ -39,8 +39,8 @@ mod views;
 mod without_sacl;
 
 pub use analysis::{CompareAnswer, WhoAnswer, hudarin_compare, hudarin_who};
-pub use answer::{CheckAnswer, MaskAnswer, Written};
 pub use bytes::{hudarin_bytes_to_sddl, hudarin_sid_bytes_to_full_text, hudarin_sid_bytes_to_text};
+pub use call_answer::{CheckAnswer, MaskAnswer, Written};
 pub use check::hudarin_check;
 pub use entries::{
     DaclAnswer, EntryAnswer, NoPart, SidPart, hudarin_descriptor_dacl, hudarin_descriptor_entry,

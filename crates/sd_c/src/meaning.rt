@@ -5,7 +5,7 @@ ghost use Rattle.sd_c.specs.Meaning.{FaultsHaveNames, fault_name, limits_fault, 
 ghost use Rattle.sd_c.specs.Meaning.{status_text, text_fault, wire_fault};
 ghost use Rattle.sd_c.specs.Written.{Writes};
 
-use crate::answer::{
+use crate::call_answer::{
     BEHIND_GROUPS, DOMAIN, EDIT, HANDLE, LIMITS, MAPPING, MEMORY, NO_NODE, NO_PART, OK, PARTS,
     PATH, PRIVILEGES, REFUSED, ROOM, SID, STATE, TEXT, UTF8, WIRE, Written, write,
 };

@@ -10,7 +10,7 @@ ghost use Rattle.sd_c.specs.Nodes.{kind_number, no_node_told};
 ghost use Rattle.sd_c.specs.Views.{IsNotFound};
 ghost use Rattle.sd_c.specs.Written.{Writes};
 
-use crate::answer::{Written, write};
+use crate::call_answer::{Written, write};
 use crate::edits::path_of;
 use crate::handle::{Handle, Kept};
 use crate::not_done::{NotDone, PathArgument};

@@ -4,7 +4,7 @@ ghost use Rattle.std.specs.Prelude.{◌≡◌};
 ghost use Rattle.sd_c.specs.declared.not_done.NotDone.TheVariants.{Limits, Memory};
 ghost use Rattle.sd_c.specs.NotDone.{argument_number, limits_argument, not_done};
 
-use crate::answer::{
+use crate::call_answer::{
     CheckAnswer, EDIT, HANDLE, LIMITS, MAPPING, MEMORY, NO_NODE, PARTS, PATH, REFUSED, SID, UTF8,
     WIRE, unread,
 };

@@ -1,12 +1,12 @@
 //! The check by a kept token, directly over a descriptor's bytes.
 
 ghost use Rattle.std.specs.Prelude.{◌≡◌};
-ghost use Rattle.sd_c.specs.Answer.{check_answer};
+ghost use Rattle.sd_c.specs.CallAnswer.{check_answer};
 ghost use Rattle.sd_c.specs.Kept.{Stays};
 ghost use Rattle.sd_c.specs.OverBytes.{asked_over, request_over};
 ghost use Rattle.sd_c.specs.Request.{verdict_read};
 
-use crate::answer::{CheckAnswer, not_read, verdict_given};
+use crate::call_answer::{CheckAnswer, not_read, verdict_given};
 use crate::handle::{Handle, Kept};
 use crate::mapping::Mapping;
 use crate::request::mapping_of;

@@ -14,7 +14,7 @@ ghost use Rattle.sd_c.specs.Review.{text_in, unreviewed};
 ghost use Rattle.sd_c.specs.Written.{Writes};
 
 use crate::analysis::bits_of;
-use crate::answer::{Written, write};
+use crate::call_answer::{Written, write};
 use crate::handle::{Handle, Kept};
 use crate::not_done::NotDone;
 use crate::views::not_told;

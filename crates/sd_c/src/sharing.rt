@@ -3,7 +3,7 @@
 ghost use Rattle.std.specs.Prelude.{◌≡◌, IsSome, MatchOption, MatchResult, None};
 ghost use Rattle.sd_c.specs.Kept.{IsShared, IsSame, Stays, store_in};
 
-use crate::answer::{HANDLE, MEMORY, OK, Written, not_written};
+use crate::call_answer::{HANDLE, MEMORY, OK, Written, not_written};
 use crate::handle::{Handle, Kept};
 use std::alloc::{AllocError, Global};
 use std::sync::Arc;

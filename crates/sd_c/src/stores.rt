@@ -6,7 +6,9 @@ ghost use Rattle.sd_c.specs.Kept.{IsSame, Stays, store_in, view_in};
 ghost use Rattle.sd_c.specs.Publishing.{Begins, Edits, IsAllowed, IsBegun, IsEdited, IsNotBegun, IsNotEdited};
 ghost use Rattle.sd_c.specs.Publishing.{IsReverted, IsViewOf, Judges, Publishes, Reverts, tree_reason};
 
-use crate::answer::{CheckAnswer, HANDLE, MEMORY, OK, Written, length_told, not_written, unread};
+use crate::call_answer::{
+    CheckAnswer, HANDLE, MEMORY, OK, Written, length_told, not_written, unread,
+};
 use crate::edits::{edit_of, node_of};
 use crate::handle::{Handle, Kept};
 use crate::mapping::Mapping;

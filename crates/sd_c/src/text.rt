@@ -10,7 +10,7 @@ ghost use Rattle.sd_text.specs.Sid.{sid_text, sid_text_in};
 ghost use Rattle.sd_c.specs.Written.{Answers, AnswersMask, IsCanonOf, IsFormOf, IsNamesOf, IsNotUtf8, IsSidOf};
 ghost use Rattle.sd_c.specs.Written.{RefusesMask, RefusesMemory, RefusesText, text_refusal};
 
-use crate::answer::{MaskAnswer, Written, mask_given, no_mask, refused, write};
+use crate::call_answer::{MaskAnswer, Written, mask_given, no_mask, refused, write};
 use crate::refusal::Refusal;
 use sd_acl::Descriptor;
 use sd_sid::{Mask, Sid, sid_bytes};

@@ -5,7 +5,7 @@ ghost use Rattle.sd_wire.specs.Reading.{u16_at};
 ghost use Rattle.sd_c.specs.Trim.{IsFormIn, RefusesBlob, Trims, left_out, manager_left_out, sacl_left_out, sacl_offset};
 ghost use Rattle.sd_c.specs.Trim.{with_header};
 
-use crate::answer::{Written, refused, write};
+use crate::call_answer::{Written, refused, write};
 use crate::refusal::Refusal;
 use sd_wire::{WireError, WireFault, read_descriptor, write_descriptor};
 use std::alloc::{AllocError, Global};

@@ -8,7 +8,7 @@ ghost use Rattle.sd_c.specs.Kept.{Stays};
 ghost use Rattle.sd_c.specs.Views.{Asks, IsAnswered, IsFormAt, IsFormIn, IsNoFormAt, IsNotAsked, IsNotFound};
 ghost use Rattle.sd_c.specs.Views.{TellsLength, WritesNode, length_in, not_told, reply_given, unasked, view_answer};
 
-use crate::answer::{
+use crate::call_answer::{
     CheckAnswer, HANDLE, Written, length_told, not_written, unwritten, verdict_given, write,
 };
 use crate::edits::path_of;

@@ -9,7 +9,7 @@ ghost use Rattle.sd_c.specs.InDomain.{RefusesDomain};
 ghost use Rattle.sd_c.specs.WithoutSacl.{IsDomainArgument, IsFormWithoutSacl, RefusesWithoutSacl, TrimsText};
 ghost use Rattle.sd_c.specs.Written.{RefusesText};
 
-use crate::answer::{refused, write};
+use crate::call_answer::{refused, write};
 use crate::in_domain::domain_of;
 use crate::refusal::Refusal;
 use crate::text::{refusal_of, utf8_of};

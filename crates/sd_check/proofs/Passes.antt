@@ -1,7 +1,7 @@
 -- What a pass comes to with one more entry, bit by bit.
 use Rattle.std.proofs.Common.{◌≡◌, ℕ, ◌<◌, ◌≤◌, ◌-◌, ◌++◌, length, map, take, drop, get_or, Bool, true, false, not, ◌&&◌, ◌||◌, ◌==◌, cond, List, [], ◌∷◌, Option, Some, None, refl, sym, ◌∙◌, ap, arith, subst, append-nil, append_assoc, eqb-true}
-use Rattle.sd_check.proofs.Words.{or-false, bit_at-zero, holds, mask_of, MappingValue, mapped, SidValue, same_sid, owner_rights, holds_when, mask_of-alike, is_allow, is_inherit_only, applies, applies_again, applies_in, decides, first, is_allowed_by, is_limit, is_restricting_subject, limits_owner, stands_for_subject, subject, TokenValue, is_restricting, stands_for, Pass, First, Second, Ace, AceKind, IsTally, part_of, option_or, is_none, find-append, list_any-append, Tally, take_all, Asking, IsPass, IsSettled, TakesOn}
-use Rattle.sd_check.specs.declared.tally.Settled.{Settled}
+use Rattle.sd_check.proofs.Words.{or-false, bit_at-zero, holds, mask_of, MappingValue, mapped, SidValue, same_sid, owner_rights, holds_when, mask_of-alike, is_allow, is_inherit_only, applies, applies_again, applies_in, decides, first, is_allowed_by, is_limit, is_restricting_subject, limits_owner, stands_for_subject, subject, TokenValue, is_restricting, stands_for, Pass, First, Second, Ace, AceKind, IsCheckProgress, part_of, option_or, is_none, find-append, list_any-append, CheckProgress, take_all, Asking, IsPass, IsSettled, TakesOn}
+use Rattle.sd_check.specs.declared.check_progress.PassProgress.{PassProgress}
 use Rattle.sd_check.proofs.Answered.{stands}
 
 -- ---- a bit
@@ -34,7 +34,7 @@ module _ (g : MappingValue) (who : AceKind → SidValue → Bool) (bits owners :
   limit_at_end : limits_owner (Some (seen ++ e ∷ [])) ≡ (limits_owner (Some seen) || is_limit e)
   limit_at_end = list_any-append is_limit seen (e ∷ []) ∙ ap (λ t. limits_owner (Some seen) || t) (or-false (is_limit e))
 
-  pass_by : (s : Settled) (k : ℕ) (to : Settled) (keeps : ℕ)
+  pass_by : (s : PassProgress) (k : ℕ) (to : PassProgress) (keeps : ℕ)
       → ((b : ℕ) → b < 32 → holds to.undecided b ≡ (holds s.undecided b && not (decides g who b e && holds s.undecided b)))
       → ((b : ℕ) → b < 32 → holds to.allowed b ≡ (holds s.allowed b || (is_allow e.kind && (decides g who b e && holds s.undecided b))))
       → ((b : ℕ) → b < 32 → (holds to.allowed b || holds keeps b) ≡ (holds to.allowed b || (not (is_limit e) && holds k b)))
@@ -45,7 +45,7 @@ module _ (g : MappingValue) (who : AceKind → SidValue → Bool) (bits owners :
     kept = λ b h. grind (arith, keep b h, got b h, pass.kept b h, limit_at_end);
   }
 
-  pub pass_decides : (s : Settled) (k m : ℕ) (kind : AceKind) (to : Settled) (keeps : ℕ) → m ≡ part_of g who e → kind ≡ e.kind
+  pub pass_decides : (s : PassProgress) (k m : ℕ) (kind : AceKind) (to : PassProgress) (keeps : ℕ) → m ≡ part_of g who e → kind ≡ e.kind
       → to.undecided ≡ mask_of (λ b. holds s.undecided b && not (holds (mask_of (λ b. holds m b && holds s.undecided b) 32) b)) 32
       → to.allowed ≡ mask_of (λ b. holds s.allowed b || holds (cond (is_allow kind) (mask_of (λ b. holds m b && holds s.undecided b) 32) 0) b) 32
       → keeps ≡ cond (not (is_limit e)) k 0
@@ -61,13 +61,13 @@ module _ (g : MappingValue) (who : AceKind → SidValue → Bool) (bits owners :
       ∙ ap (λ t. holds s.allowed b || t) (holds_when (is_allow kind) d b ∙ ap (λ a. is_allow a && holds d b) is_kind ∙ ap (λ t. is_allow e.kind && t) (here b h)))
       (λ b h. ap (λ t. holds to.allowed b || t) (ap (λ n. holds n b) is_keeps ∙ holds_when (not (is_limit e)) k b))
 
-  pass_silent : (s : Settled) (k : ℕ) → part_of g who e ≡ 0 → is_limit e ≡ false → IsPass g who bits owners seen s k → IsPass g who bits owners (seen ++ e ∷ []) s k
+  pass_silent : (s : PassProgress) (k : ℕ) → part_of g who e ≡ 0 → is_limit e ≡ false → IsPass g who bits owners seen s k → IsPass g who bits owners (seen ++ e ∷ []) s k
   pass_silent s k none free =
       let no : (b : ℕ) → (decides g who b e && holds s.undecided b) ≡ false = λ b.
       ap (λ t. t && holds s.undecided b) (sym (holds_when (not (is_inherit_only e) && who e.kind e.sid) (mapped g e.mask) b) ∙ ap (λ n. holds n b) none ∙ ap (λ n. n == 1) (bit_at-zero b)) in
       pass_by s k s k (λ b h. grind (arith, no b)) (λ b h. grind (arith, no b)) (λ b h. grind (arith, free))
 
-  pub pass_over : (s : Settled) (k : ℕ) → IsSettled s k → IsPass g who bits owners seen s k → IsPass g who bits owners (seen ++ e ∷ []) s k
+  pub pass_over : (s : PassProgress) (k : ℕ) → IsSettled s k → IsPass g who bits owners seen s k → IsPass g who bits owners (seen ++ e ∷ []) s k
   pass_over s k over =
       pass_by s k s k (λ b h. grind (arith, over b h)) (λ b h. grind (arith, over b h)) (λ b h. grind (arith, over b h))
 
@@ -108,14 +108,14 @@ nothing_hangs u a k hanging left is_hanging is_left none b h =
     )
 
 -- then no further entry changes anything
-pass_over_each : (g : MappingValue) (who : AceKind → SidValue → Bool) (bits owners : ℕ) (seen es : List Ace) (s : Settled) (k : ℕ)
+pass_over_each : (g : MappingValue) (who : AceKind → SidValue → Bool) (bits owners : ℕ) (seen es : List Ace) (s : PassProgress) (k : ℕ)
     → IsSettled s k → IsPass g who bits owners seen s k → IsPass g who bits owners (seen ++ es) s k
 pass_over_each g who bits owners seen [] s k over pass = subst (λ es. IsPass g who bits owners es s k) (sym (append-nil seen)) pass
 pass_over_each g who bits owners seen (e ∷ es) s k over pass =
     subst (λ es. IsPass g who bits owners es s k) (append_assoc seen (e ∷ []) es)
     (pass_over_each g who bits owners (seen ++ e ∷ []) es s k over (pass_over g who bits owners seen e s k over pass))
 
-pub pass_begins : (g : MappingValue) (who : AceKind → SidValue → Bool) (bits owners : ℕ) (s : Settled) (k : ℕ)
+pub pass_begins : (g : MappingValue) (who : AceKind → SidValue → Bool) (bits owners : ℕ) (s : PassProgress) (k : ℕ)
     → s.undecided ≡ bits → s.allowed ≡ 0 → k ≡ owners → IsPass g who bits owners [] s k
 pass_begins g who bits owners s k all none keeps = record {
   undecided = λ b h. grind (arith, all);
@@ -123,7 +123,7 @@ pass_begins g who bits owners s k all none keeps = record {
   kept = λ b h. grind (arith, keeps);
 }
 
-pub pass_grants : (g : MappingValue) (who : AceKind → SidValue → Bool) (bits owners : ℕ) (es : List Ace) (s : Settled) (k r : ℕ)
+pub pass_grants : (g : MappingValue) (who : AceKind → SidValue → Bool) (bits owners : ℕ) (es : List Ace) (s : PassProgress) (k r : ℕ)
     → IsPass g who bits owners es s k → r ≡ mask_of (λ b. holds s.allowed b || holds k b) 32
     → r ≡ mask_of (λ b. (holds bits b && is_allowed_by (first g who es b)) || (holds owners b && not (limits_owner (Some es)))) 32
 pass_grants g who bits owners es s k r pass is =
@@ -152,26 +152,26 @@ apart x (y ∷ ys) d some is =
     let size : length ys ≡ length (y ∷ ys) - 1 = omega arith in
     ap (λ t. y ∷ t) (sym (take_all (length ys) ys (omega arith))) ∙ ap (λ t. t ∷ take (length ys) ys) (sym is) ∙ ap (λ n. x ∷ take n ys) size
 
-pub takes_next : {A : Type 0} (ace : A → Ace) (both : Bool) (q : Asking) (x : A) (xs : List A) (d : A) (t u w : Tally) → 1 ≤ length xs → x ≡ get_or xs 0 d
+pub takes_next : {A : Type 0} (ace : A → Ace) (both : Bool) (q : Asking) (x : A) (xs : List A) (d : A) (t u w : CheckProgress) → 1 ≤ length xs → x ≡ get_or xs 0 d
     → TakesOn both q (ace x ∷ []) t u → TakesOn both q (map ace (take (length xs - 1) (drop 1 xs))) u w → TakesOn both q (map ace xs) t w
 takes_next ace both q x xs d t u w some is one others seen comes =
-    subst (λ es. IsTally both q (seen ++ map ace es) w) (sym (apart x xs d some is))
-    (subst (λ es. IsTally both q es w) (append_assoc seen (ace x ∷ []) (map ace (take (length xs - 1) (drop 1 xs)))) (others (seen ++ ace x ∷ []) (one seen comes)))
+    subst (λ es. IsCheckProgress both q (seen ++ map ace es) w) (sym (apart x xs d some is))
+    (subst (λ es. IsCheckProgress both q es w) (append_assoc seen (ace x ∷ []) (map ace (take (length xs - 1) (drop 1 xs)))) (others (seen ++ ace x ∷ []) (one seen comes)))
 
-pub takes_none : {A : Type 0} (ace : A → Ace) (both : Bool) (q : Asking) (xs : List A) (t : Tally) → length xs < 1 → TakesOn both q (map ace xs) t t
-takes_none ace both q [] t none seen comes = subst (λ es. IsTally both q es t) (sym (append-nil seen)) comes
+pub takes_none : {A : Type 0} (ace : A → Ace) (both : Bool) (q : Asking) (xs : List A) (t : CheckProgress) → length xs < 1 → TakesOn both q (map ace xs) t t
+takes_none ace both q [] t none seen comes = subst (λ es. IsCheckProgress both q es t) (sym (append-nil seen)) comes
 takes_none ace both q (x ∷ xs) t none seen comes = absurd (omega (arith, none))
 
 -- an entry that takes part with nothing, and limits nobody
-pub tally_silent : (both : Bool) (q : Asking) (e : Ace) (t : Tally) → part_of q.mapping (applies q.token q.owner) e ≡ 0
+pub tally_silent : (both : Bool) (q : Asking) (e : Ace) (t : CheckProgress) → part_of q.mapping (applies q.token q.owner) e ≡ 0
     → (both ≡ true → part_of q.mapping (applies_again q.token q.owner) e ≡ 0) → is_limit e ≡ false → TakesOn both q (e ∷ []) t t
 tally_silent both q e t none again free seen is = record {
   first = pass_silent q.mapping (applies q.token q.owner) _ _ seen e t.first t.kept none free is.first;
   second = λ yes. pass_silent q.mapping (applies_again q.token q.owner) _ _ seen e t.second t.kept (again yes) free (is.second yes);
 }
 
-pub tally_over : (both : Bool) (q : Asking) (seen es : List Ace) (t : Tally) → IsSettled t.first t.kept → (both ≡ true → IsSettled t.second t.kept)
-    → IsTally both q seen t → IsTally both q (seen ++ es) t
+pub tally_over : (both : Bool) (q : Asking) (seen es : List Ace) (t : CheckProgress) → IsSettled t.first t.kept → (both ≡ true → IsSettled t.second t.kept)
+    → IsCheckProgress both q seen t → IsCheckProgress both q (seen ++ es) t
 tally_over both q seen es t first second is = record {
   first = pass_over_each q.mapping (applies q.token q.owner) _ _ seen es t.first t.kept first is.first;
   second = λ yes. pass_over_each q.mapping (applies_again q.token q.owner) _ _ seen es t.second t.kept (second yes) (is.second yes);

@@ -5,12 +5,12 @@ pub use Rattle.sd_acl.specs.declared.ace.Ace.{Ace}
 pub use Rattle.sd_acl.specs.declared.ace.AceKind.TheVariants.{Allow, Deny}
 pub use Rattle.sd_acl.specs.declared.ace.AceKind.{AceKind}
 pub use Rattle.sd_check.specs.Check.{answered, applies, applies_again, applies_in, decides, entries_of, first, is_allowed_by, is_given, is_granted, is_implied, is_limit, is_listed, is_restricting_subject, joined_with, judged, limits_owner, maximum_verdict, missing_of, most, most_of, plain_verdict, reserved_of, stands_for_subject, subject, verdict, without_maximum, acl_grants, is_owner}
-pub use Rattle.sd_check.specs.Fold.{IsTally, asking, owners_in, part_of, rights_in, wanted_bits, Asking, IsPass, IsSettled, TakesOn}
+pub use Rattle.sd_check.specs.Fold.{IsCheckProgress, asking, owners_in, part_of, rights_in, wanted_bits, Asking, IsPass, IsSettled, TakesOn}
 pub use Rattle.sd_check.specs.Index.{IsIndex, IsMarked, Keeps, MarksEach, OnChain, behind, here, may_hold, place_of}
 pub use Rattle.sd_check.specs.Token.{TokenValue, a_group_stands_for, counts, is_restricted, is_restricting, stands_for}
 pub use Rattle.sd_check.specs.declared.grounds.Pass.TheVariants.{First, Second}
 pub use Rattle.sd_check.specs.declared.grounds.Pass.{Pass}
-pub use Rattle.sd_check.specs.declared.tally.Tally.{Tally}
+pub use Rattle.sd_check.specs.declared.check_progress.CheckProgress.{CheckProgress}
 pub use Rattle.sd_check.specs.declared.token.GroupState.{GroupState}
 pub use Rattle.sd_check.specs.declared.token.Privileges.{Privileges}
 pub use Rattle.sd_check.specs.declared.verdict.Verdict.TheVariants.{Denied, Granted}

@@ -11,8 +11,8 @@ use Rattle.sd_check.specs.Check.{applies, applies_again, first, is_allowed_by, i
 use Rattle.sd_check.specs.Check.{without_maximum}
 use Rattle.sd_check.specs.Token.{TokenValue}
 use Rattle.sd_check.specs.declared.question.Question.{Question}
-use Rattle.sd_check.specs.declared.tally.Settled.{Settled}
-use Rattle.sd_check.specs.declared.tally.Tally.{Tally}
+use Rattle.sd_check.specs.declared.check_progress.PassProgress.{PassProgress}
+use Rattle.sd_check.specs.declared.check_progress.CheckProgress.{CheckProgress}
 
 -- who asks, of an object of whom, for what
 pub record Asking : Type 0 where
@@ -53,7 +53,7 @@ part_of g applies e = cond (not (is_inherit_only e) && applies e.kind e.sid) (ma
 -- of a pass: a bit is undecided where no entry decides it, allowed where the first that does is an allow; and what
 -- isn't allowed is kept where it is the owner's, whom no entry limits
 pub record IsPass (g : MappingValue) (who : AceKind → SidValue → Bool) (rights owners : ℕ) (es : List Ace)
-    (settled : Settled) (keeps : ℕ) : Type 0 where
+    (settled : PassProgress) (keeps : ℕ) : Type 0 where
   pub undecided : (b : ℕ) → b < 32 → holds settled.undecided b ≡ (holds rights b && is_none (first g who es b))
   pub allowed : (b : ℕ) → b < 32 → holds settled.allowed b ≡ (holds rights b && is_allowed_by (first g who es b))
   pub kept : (b : ℕ) → b < 32
@@ -61,18 +61,19 @@ pub record IsPass (g : MappingValue) (who : AceKind → SidValue → Bool) (righ
       ≡ (holds settled.allowed b || (holds owners b && not (limits_owner (Some es))))
 
 -- the entries come to the tally: in the first pass and, where there are both, in the second
-pub record IsTally (both : Bool) (q : Asking) (es : List Ace) (tally : Tally) : Type 0 where
+pub record IsCheckProgress (both : Bool) (q : Asking) (es : List Ace) (progress : CheckProgress) : Type 0 where
   pub first : IsPass q.mapping (applies q.token q.owner) (rights_in (wanted_bits q.mapping q.asked))
-      (owners_in q.token q.owner (wanted_bits q.mapping q.asked)) es tally.first tally.kept
+      (owners_in q.token q.owner (wanted_bits q.mapping q.asked)) es progress.first progress.kept
   pub second : both ≡ true
       → IsPass q.mapping (applies_again q.token q.owner) (rights_in (wanted_bits q.mapping q.asked))
-      (owners_in q.token q.owner (wanted_bits q.mapping q.asked)) es tally.second tally.kept
+      (owners_in q.token q.owner (wanted_bits q.mapping q.asked)) es progress.second progress.kept
 
 -- with these entries one tally comes to the other, whichever entries it stands for
-abbrev pub TakesOn : Bool → Asking → List Ace → Tally → Tally → Type 0
-TakesOn both q es tally to = (seen : List Ace) → IsTally both q seen tally → IsTally both q (seen ++ es) to
+abbrev pub TakesOn : Bool → Asking → List Ace → CheckProgress → CheckProgress → Type 0
+TakesOn both q es progress to =
+    (seen : List Ace) → IsCheckProgress both q seen progress → IsCheckProgress both q (seen ++ es) to
 
 -- an entry further on can tell the pass nothing: no bit is undecided, nor any that the owner keeps and isn't allowed
-abbrev pub IsSettled : Settled → ℕ → Type 0
+abbrev pub IsSettled : PassProgress → ℕ → Type 0
 IsSettled settled kept = (b : ℕ) → b < 32
     → (holds settled.undecided b || (holds kept b && not (holds settled.allowed b))) ≡ false

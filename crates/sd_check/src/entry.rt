@@ -30,7 +30,7 @@ pub trait Trustee {
 
     /// Whether the token stands for it in an entry of the kind ([MS-DTYP] 2.5.3.1), if one look shows this, and that it
     /// is neither OWNER RIGHTS nor a restricting SID; else `None`.
-    fn is_alone_of(&self, kind: AceKind, token: &Token) -> Option<bool>
+    fn is_of_in_one_look(&self, kind: AceKind, token: &Token) -> Option<bool>
         ensures { IfSome result (λ stands. (stands_for token.now kind (sid self.now) ≡ stands)
             × (is_restricting token.now (sid self.now) ≡ false) × (same_sid (sid self.now) owner_rights ≡ false)) };
 
@@ -58,8 +58,8 @@ impl Trustee for Sid {
     }
 
     #[inline(always)]
-    fn is_alone_of(&self, kind: AceKind, token: &Token) -> Option<bool> {
-        token.lone(kind, self)
+    fn is_of_in_one_look(&self, kind: AceKind, token: &Token) -> Option<bool> {
+        token.has_in_one_look(kind, self)
     }
 
     #[inline(always)]
@@ -87,8 +87,8 @@ impl<'a> Trustee for SidRef<'a> {
     }
 
     #[inline(always)]
-    fn is_alone_of(&self, kind: AceKind, token: &Token) -> Option<bool> {
-        token.lone(kind, &self.copied())
+    fn is_of_in_one_look(&self, kind: AceKind, token: &Token) -> Option<bool> {
+        token.has_in_one_look(kind, &self.copied())
     }
 
     #[inline(always)]

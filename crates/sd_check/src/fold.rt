@@ -9,13 +9,13 @@ ghost use Rattle.sd_acl.specs.declared.ace.Ace.{Ace};
 ghost use Rattle.sd_check.specs.Check.{is_given, is_granted, is_implied, is_listed, is_owner, limits_owner, most_of};
 ghost use Rattle.sd_check.specs.Check.{verdict};
 ghost use Rattle.sd_check.specs.Check as rules;
-ghost use Rattle.sd_check.specs.Fold.{asking, IsSettled, IsTally, TakesOn, wanted_bits};
+ghost use Rattle.sd_check.specs.Fold.{asking, IsSettled, IsCheckProgress, TakesOn, wanted_bits};
 ghost use Rattle.sd_check.specs.Token.{is_restricted};
-ghost use Rattle.sd_check.specs.declared.tally.Tally.{Tally};
+ghost use Rattle.sd_check.specs.declared.check_progress.CheckProgress.{CheckProgress};
 
+use crate::check_progress::{CheckProgress, PassProgress};
 use crate::entry::{Entry, Trustee};
 use crate::question::{MAXIMUM_ALLOWED, MAXIMUM_PLACE, Question};
-use crate::tally::{Settled, Tally};
 use crate::token::Privileges;
 use crate::verdict::Verdict;
 use sd_sid::{Mask, OBJECT_RIGHTS};
@@ -32,17 +32,17 @@ const ACCESS_SYSTEM_SECURITY: Mask = Mask(0x0100_0000);
 impl<O: Trustee> Question<'_, O> {
     /// What no entry comes to.
     #[inline(always)]
-    pub fn begin(&self) -> Tally
-        ensures { (both : Bool) → IsTally both (asking O.sid self.now) [] result }
+    pub fn begin(&self) -> CheckProgress
+        ensures { (both : Bool) → IsCheckProgress both (asking O.sid self.now) [] result }
     {
         let wanted = self.wanted_bits();
         let rights = wanted.common(OBJECT_RIGHTS);
-        let first = Settled {
+        let first = PassProgress {
             undecided: rights,
             allowed: Mask(0),
         };
         let second = first;
-        Tally {
+        CheckProgress {
             first,
             second,
             kept: self.owners_rights(wanted),
@@ -53,22 +53,26 @@ impl<O: Trustee> Question<'_, O> {
     /// restricted. One look passes over most: the token doesn't stand for their SID, or all is settled. Takes no
     /// memory.
     #[inline(always)]
-    pub fn after<const BOTH: bool, E: Entry>(&self, tally: Tally, entry: &E) -> Tally
-        ensures { (seen : List Ace) → IsTally BOTH (asking O.sid self.now) seen tally
-            → IsTally BOTH (asking O.sid self.now) (seen ++ E.ace entry.now ∷ []) result }
+    pub fn after<const BOTH: bool, E: Entry>(
+        &self,
+        progress: CheckProgress,
+        entry: &E,
+    ) -> CheckProgress
+        ensures { (seen : List Ace) → IsCheckProgress BOTH (asking O.sid self.now) seen progress
+            → IsCheckProgress BOTH (asking O.sid self.now) (seen ++ E.ace entry.now ∷ []) result }
     {
-        if self.is_silent(entry) || tally.is_over::<BOTH>() {
-            return tally;
+        if self.is_silent(entry) || progress.is_over::<BOTH>() {
+            return progress;
         }
-        let (next, _over) = self.deciding::<BOTH, E>(tally, entry);
+        let (next, _over) = self.deciding::<BOTH, E>(progress, entry);
         next
     }
 
     /// Whether one look shows that the entry changes nothing, as most entries of a long list do.
     #[inline(always)]
     fn is_silent<E: Entry>(&self, entry: &E) -> bool
-        ensures { result ≡ true → (both : Bool) (tally : Tally)
-            → TakesOn both (asking O.sid self.now) (E.ace entry.now ∷ []) tally tally }
+        ensures { result ≡ true → (both : Bool) (progress : CheckProgress)
+            → TakesOn both (asking O.sid self.now) (E.ace entry.now ∷ []) progress progress }
     {
         !self.token.may_matter(entry.trustee())
     }
@@ -76,24 +80,28 @@ impl<O: Trustee> Question<'_, O> {
     /// What the entries so far come to with this one, which decides what was undecided of its mask, in each pass; and
     /// whether this settles all. Of those at the place of a SID of the token most are for another, and change nothing.
     #[inline(always)]
-    fn deciding<const BOTH: bool, E: Entry>(&self, tally: Tally, entry: &E) -> (Tally, bool)
-        ensures takes { TakesOn BOTH (asking O.sid self.now) (E.ace entry.now ∷ []) tally result.0 }
+    fn deciding<const BOTH: bool, E: Entry>(
+        &self,
+        progress: CheckProgress,
+        entry: &E,
+    ) -> (CheckProgress, bool)
+        ensures takes { TakesOn BOTH (asking O.sid self.now) (E.ace entry.now ∷ []) progress result.0 }
         ensures first { result.1 ≡ true → IsSettled result.0.first result.0.kept }
         ensures second { result.1 ≡ true → BOTH ≡ true → IsSettled result.0.second result.0.kept }
     {
         if entry.is_inherit_only() {
-            return (tally, false);
+            return (progress, false);
         }
-        if let Some(stands) = entry.trustee().is_alone_of(entry.kind(), self.token) {
+        if let Some(stands) = entry.trustee().is_of_in_one_look(entry.kind(), self.token) {
             if !stands {
-                return (tally, false);
+                return (progress, false);
             }
             // (inlined a second time, where both are known)
-            return self.decided::<BOTH, E>(tally, entry, true, false);
+            return self.decided::<BOTH, E>(progress, entry, true, false);
         }
         let limits = entry.trustee().is_owner_rights();
         let applies = self.applies(entry);
-        self.decided::<BOTH, E>(tally, entry, applies, limits)
+        self.decided::<BOTH, E>(progress, entry, applies, limits)
     }
 
     /// What the entries so far come to with this one, which isn't inherit-only, and whether this settles all.
@@ -101,30 +109,30 @@ impl<O: Trustee> Question<'_, O> {
     #[inline(always)]
     fn decided<const BOTH: bool, E: Entry>(
         &self,
-        tally: Tally,
+        progress: CheckProgress,
         entry: &E,
         applies: bool,
         limits: bool,
-    ) -> (Tally, bool)
+    ) -> (CheckProgress, bool)
         requires in_force { is_inherit_only (E.ace entry.now) ≡ false }
         requires applies { let q = asking O.sid self.now in
             applies ≡ rules.applies q.token q.owner (E.ace entry.now).kind (E.ace entry.now).sid }
         requires limits { limits ≡ same_sid (E.ace entry.now).sid owner_rights }
-        ensures takes { TakesOn BOTH (asking O.sid self.now) (E.ace entry.now ∷ []) tally result.0 }
+        ensures takes { TakesOn BOTH (asking O.sid self.now) (E.ace entry.now ∷ []) progress result.0 }
         ensures first { result.1 ≡ true → IsSettled result.0.first result.0.kept }
         ensures second { result.1 ≡ true → BOTH ≡ true → IsSettled result.0.second result.0.kept }
     {
         let kind = entry.kind();
         let mask = self.map(entry.mask());
-        let first = tally.first.after(kind, mask.when(applies));
-        let kept = tally.kept.when(!limits);
+        let first = progress.first.after(kind, mask.only_if(applies));
+        let kept = progress.kept.only_if(!limits);
         let second = if BOTH {
             let applies_again = self.applies_again(entry);
-            tally.second.after(kind, mask.when(applies_again))
+            progress.second.after(kind, mask.only_if(applies_again))
         } else {
-            tally.second
+            progress.second
         };
-        let next = Tally {
+        let next = CheckProgress {
             first,
             second,
             kept,
@@ -135,8 +143,8 @@ impl<O: Trustee> Question<'_, O> {
     /// The entries from the first on that may change something.
     #[inline(always)]
     fn from_next<'e, E: Entry>(&self, entries: &'e [E]) -> &'e [E]
-        ensures same { let q = asking O.sid self.now in (both : Bool) (tally to : Tally)
-            → TakesOn both q (map E.ace result.now) tally to → TakesOn both q (map E.ace entries.now) tally to }
+        ensures same { let q = asking O.sid self.now in (both : Bool) (progress to : CheckProgress)
+            → TakesOn both q (map E.ace result.now) progress to → TakesOn both q (map E.ace entries.now) progress to }
         ensures few { length result.now ≤ length entries.now }
     {
         let mut rest = entries;
@@ -151,34 +159,38 @@ impl<O: Trustee> Question<'_, O> {
 
     /// What the entries so far come to with these. It ends as soon as what comes after can change nothing.
     #[inline(always)]
-    fn over<const BOTH: bool, E: Entry>(&self, before: Tally, entries: &[E]) -> Tally
+    fn over<const BOTH: bool, E: Entry>(
+        &self,
+        before: CheckProgress,
+        entries: &[E],
+    ) -> CheckProgress
         ensures { TakesOn BOTH (asking O.sid self.now) (map E.ace entries.now) before result }
     {
         if before.is_over::<BOTH>() {
             return before;
         }
-        let mut tally = before;
+        let mut progress = before;
         let mut rest = self.from_next(entries);
         'each: while let [entry, behind @ ..] = rest {
-            let (next, over) = self.deciding::<BOTH, E>(tally, entry);
+            let (next, over) = self.deciding::<BOTH, E>(progress, entry);
             if over {
                 return next;
             }
-            tally = next;
+            progress = next;
             rest = self.from_next(behind);
         }
-        tally
+        progress
     }
 
     /// The verdict, where no further entry comes ([MS-DTYP] 2.5.3.2).
     #[inline(always)]
-    pub fn verdict<const BOTH: bool>(&self, tally: Tally) -> Verdict
+    pub fn verdict<const BOTH: bool>(&self, progress: CheckProgress) -> Verdict
         requires { BOTH ≡ is_restricted self.now.token.now }
         ensures { let q = asking O.sid self.now in
-            (seen : List Ace) → IsTally BOTH q seen tally
+            (seen : List Ace) → IsCheckProgress BOTH q seen progress
             → result ≡ verdict q.owner (Some seen) q.mapping q.token q.asked }
     {
-        let granted = self.granted::<BOTH>(tally);
+        let granted = self.granted::<BOTH>(progress);
         if self.is_plain() {
             return plain_verdict(self.asked, self.asked.minus(granted));
         }
@@ -197,32 +209,32 @@ impl<O: Trustee> Question<'_, O> {
 
     /// Of the bits that are looked for, those that are granted.
     #[inline(always)]
-    fn granted<const BOTH: bool>(&self, tally: Tally) -> Mask
+    fn granted<const BOTH: bool>(&self, progress: CheckProgress) -> Mask
         requires { BOTH ≡ is_restricted self.now.token.now }
         ensures { let q = asking O.sid self.now in
-            (seen : List Ace) → IsTally BOTH q seen tally → result
+            (seen : List Ace) → IsCheckProgress BOTH q seen progress → result
             ≡ mask_of (λ b. holds (wanted_bits q.mapping q.asked) b
             && is_granted q.owner (Some seen) q.mapping q.token b) 32 }
     {
         let privileged = self
             .wanted_bits()
             .common(privileged(self.token.privileges()));
-        self.listed::<BOTH>(tally).union(privileged)
+        self.listed::<BOTH>(progress).union(privileged)
     }
 
     /// Of the bits that are looked for, what the entries grant, and the owner's unless an entry limits the owner.
     #[inline(always)]
-    fn listed<const BOTH: bool>(&self, tally: Tally) -> Mask
+    fn listed<const BOTH: bool>(&self, progress: CheckProgress) -> Mask
         requires { BOTH ≡ is_restricted self.now.token.now }
         ensures { let q = asking O.sid self.now in
-            (seen : List Ace) → IsTally BOTH q seen tally → result ≡ mask_of
+            (seen : List Ace) → IsCheckProgress BOTH q seen progress → result ≡ mask_of
             (λ b. holds (wanted_bits q.mapping q.asked) b && (is_listed q.owner (Some seen) q.mapping q.token b
             || is_implied (is_owner q.token q.owner && not (limits_owner (Some seen))) false false b))
             32 }
     {
-        let first = tally.first.allowed.union(tally.kept);
+        let first = progress.first.allowed.union(progress.kept);
         if BOTH {
-            first.common(tally.second.allowed.union(tally.kept))
+            first.common(progress.second.allowed.union(progress.kept))
         } else {
             first
         }
@@ -312,8 +324,8 @@ fn privileged(privileges: Privileges) -> Mask
     ensures { result ≡ mask_of (is_implied false privileges.take_ownership privileges.security) 32 }
 {
     WRITE_OWNER
-        .when(privileges.take_ownership)
-        .union(ACCESS_SYSTEM_SECURITY.when(privileges.security))
+        .only_if(privileges.take_ownership)
+        .union(ACCESS_SYSTEM_SECURITY.only_if(privileges.security))
 }
 
 /// The verdict on a request without MAXIMUM_ALLOWED.

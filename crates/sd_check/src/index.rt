@@ -121,7 +121,7 @@ impl Index {
     /// Whether the user has the SID, or a group that counts for an entry of the kind: where the SID's place has one
     /// group and isn't marked, as most places with a link; else `None`.
     #[inline(always)]
-    pub(crate) fn lone(
+    pub(crate) fn stands_for_in_one_look(
         &self,
         user: &Sid,
         groups: &[Group],

@@ -13,6 +13,7 @@
 //! ```
 #![tactic(auto)]
 
+mod check_progress;
 mod entry;
 mod fold;
 mod grounds;
@@ -20,10 +21,10 @@ mod index;
 mod laws;
 mod question;
 mod request;
-mod tally;
 mod token;
 mod verdict;
 
+pub use check_progress::{CheckProgress, PassProgress};
 pub use entry::{Entry, Trustee};
 pub use fold::RESERVED;
 pub use grounds::{Implied, Pass, subject_of};
@@ -34,6 +35,5 @@ pub use laws::{
 };
 pub use question::{MAXIMUM_ALLOWED, MAXIMUM_PLACE, Question};
 pub use request::{DaclRef, check, check_joined, check_parts};
-pub use tally::{Settled, Tally};
 pub use token::{GroupState, Privileges, Token};
 pub use verdict::Verdict;

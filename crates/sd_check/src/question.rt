@@ -53,7 +53,7 @@ impl<O: Trustee> Question<'_, O> {
             Pass::First => self.applies(entry),
             Pass::Second => self.applies_again(entry),
         };
-        self.map(entry.mask()).when(applies)
+        self.map(entry.mask()).only_if(applies)
     }
 
     /// Whether the entry applies in the first pass ([MS-DTYP] 2.5.3.1).
@@ -136,7 +136,7 @@ impl<O: Trustee> Question<'_, O> {
         if owners.is_empty() {
             return owners;
         }
-        owners.when(self.is_owner())
+        owners.only_if(self.is_owner())
     }
 
     /// The bits that are looked for: those of the request and, with MAXIMUM_ALLOWED, all rights.

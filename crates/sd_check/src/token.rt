@@ -162,11 +162,12 @@ impl Token {
     /// Whether the user has the SID, or a group that counts for an entry of the kind, if one look shows this, and that
     /// the SID is neither OWNER RIGHTS nor a restricting one; else `None`.
     #[inline(always)]
-    pub(crate) fn lone(&self, kind: AceKind, sid: &Sid) -> Option<bool>
+    pub(crate) fn has_in_one_look(&self, kind: AceKind, sid: &Sid) -> Option<bool>
         ensures { IfSome result (λ stands. (stands_for self.now kind sid.now ≡ stands)
             × (is_restricting self.now sid.now ≡ false) × (same_sid sid.now owner_rights ≡ false)) }
     {
-        self.index.lone(&self.user, &self.groups, kind, sid)
+        self.index
+            .stands_for_in_one_look(&self.user, &self.groups, kind, sid)
     }
 
     /// Whether the user has the SID, or a group that counts for an entry of the kind.

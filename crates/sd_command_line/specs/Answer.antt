@@ -2,22 +2,22 @@
 use Rattle.std.specs.Prelude.{◌≡◌, ℕ, Bool, ◌||◌, List, [], Option, MatchResult, Result}
 use Rattle.sd_script.specs.Output.{PrintsAndCounts}
 use Rattle.sd_lines.specs.Output.{IsOutput}
-use Rattle.sd_script.specs.declared.manner.Manner.{Manner}
-use Rattle.sd_script.specs.declared.tally.Tally.{Tally}
+use Rattle.sd_script.specs.declared.script_options.ScriptOptions.{ScriptOptions}
+use Rattle.sd_script.specs.declared.script_counts.ScriptCounts.{ScriptCounts}
 use Rattle.sd_script_audit.specs.Audit.{PrintsAuditAndCounts}
 use Rattle.sd_script.specs.Printed.{PrintsAndCountsServed, PrintsAs}
 use Rattle.sd_json.specs.Text.{printed_as}
 use Rattle.sd_json.specs.declared.tagging.Tagging.TheVariants.{Nothing}
 use Rattle.sd_usage.specs.declared.row.OptionName.TheVariants.{Json, Strict, StrictStatus}
 use Rattle.sd_arguments.specs.CommandLine.{CommandLineValue, Ask, Each, Help, Runs, Script, Version}
-use Rattle.sd_arguments.specs.Options.{OptionsValue, GivesManner, has}
+use Rattle.sd_arguments.specs.Options.{OptionsValue, GivesScriptOptions, has}
 use Rattle.sd_arguments.specs.Version.{version_line}
 use Rattle.sd_arguments.specs.declared.command_line.ScriptRun.{ScriptRun}
 use Rattle.sd_arguments.specs.declared.command_line.ScriptRun.TheVariants.{AtOnce, LineByLine, Audit}
 use Rattle.sd_arguments.specs.declared.options.BadValue.{BadValue}
-use Rattle.sd_questions.specs.Answer.{AnswersEach, AnswersOnce, IsBadValue}
-use Rattle.sd_commands.specs.Answer.{AnswerValue, IsDone}
-use Rattle.sd_commands.specs.declared.answer.Outcome.TheVariants.{Done}
+use Rattle.sd_questions.specs.TextAnswer.{AnswersEach, AnswersOnce, IsBadValue}
+use Rattle.sd_commands.specs.CommandAnswer.{AnswerValue, IsDone}
+use Rattle.sd_commands.specs.declared.command_answer.Outcome.TheVariants.{Done}
 use Rattle.sd_command_line.specs.Scripts.{IsToldOfScript, script_outcome}
 
 -- an answer, as it is printed
@@ -31,10 +31,10 @@ IsPrinted options Answers answer =
 -- ---- scripts
 
 -- what is printed and counted of a text that is a script
-abbrev pub PrintsRun : ScriptRun → Manner → List ℕ → List ℕ → Tally → Type 0
-PrintsRun AtOnce manner = PrintsAs manner.notation.is_json (PrintsAndCounts manner)
-PrintsRun (LineByLine has_ids) manner = PrintsAndCountsServed has_ids manner.notation.is_json manner
-PrintsRun (Audit workers) manner = PrintsAs manner.notation.is_json (PrintsAuditAndCounts manner workers)
+abbrev pub PrintsRun : ScriptRun → ScriptOptions → List ℕ → List ℕ → ScriptCounts → Type 0
+PrintsRun AtOnce run_options = PrintsAs run_options.notation.is_json (PrintsAndCounts run_options)
+PrintsRun (LineByLine has_ids) run_options = PrintsAndCountsServed has_ids run_options.notation.is_json run_options
+PrintsRun (Audit workers) run_options = PrintsAs run_options.notation.is_json (PrintsAuditAndCounts run_options workers)
 
 -- a fault of a line is told, and isn't success
 abbrev pub is_strict : OptionsValue → Bool
@@ -43,10 +43,11 @@ is_strict options = has options Strict || has options StrictStatus
 -- the output of the script on the input; or a value of an option isn't read
 abbrev pub AnswersScript : ScriptRun → Option (List ℕ) → OptionsValue → AnswerValue → Type 0
 AnswersScript run input options answer =
-    (said : Result Manner BadValue) × GivesManner options said × MatchResult said
-    (λ manner. (tally : Tally) × IsOutput (λ text printed. PrintsRun run manner text printed tally) input answer.printed
-    × IsToldOfScript (is_strict options) tally answer.told
-    × (answer.outcome ≡ script_outcome (is_strict options) tally))
+    (said : Result ScriptOptions BadValue) × GivesScriptOptions options said × MatchResult said
+    (λ run_options. (counts : ScriptCounts)
+    × IsOutput (λ text printed. PrintsRun run run_options text printed counts) input answer.printed
+    × IsToldOfScript (is_strict options) counts answer.told
+    × (answer.outcome ≡ script_outcome (is_strict options) counts))
     (λ bad. IsPrinted options (IsBadValue bad) answer)
 
 -- what is printed for a command line, with this input where it is known, and what came of it; the help's text is

@@ -5,14 +5,14 @@ use Rattle.std.specs.Borrow.{Bor}
 use Rattle.sd_lines.specs.Streams.{AppendsBeginning, ReadsPart, is_read_error, is_write_error}
 use Rattle.sd_lines.specs.declared.error.RunError.{RunError}
 use Rattle.sd_lines.specs.declared.error.RunError.TheVariants.{Read, TooLong, Write, Memory, Thread}
-use Rattle.sd_answer.specs.Answer.{line}
+use Rattle.sd_answer.specs.VerdictLine.{line}
 use Rattle.sd_script.specs.Printed.{PrintsServed}
-use Rattle.sd_script.specs.declared.manner.Manner.{Manner}
+use Rattle.sd_script.specs.declared.script_options.ScriptOptions.{ScriptOptions}
 use Rattle.sd_script.specs.declared.ids.TheConstants.{LINES}
 use Rattle.sd_lines.specs.Output.{LeavesAnswers}
-use Rattle.sd_commands.specs.Answer.{AnswerValue}
+use Rattle.sd_commands.specs.CommandAnswer.{AnswerValue}
 use Rattle.sd_arguments.specs.CommandLine.{CommandLineValue, Each, Runs, Script, reading, IsAudit, IsUnread}
-use Rattle.sd_arguments.specs.Options.{IsManner, has}
+use Rattle.sd_arguments.specs.Options.{AreScriptOptions, has}
 use Rattle.sd_arguments.specs.declared.command_line.ScriptRun.TheVariants.{LineByLine}
 use Rattle.sd_usage.specs.declared.row.OptionName.TheVariants.{StrictStatus}
 use Rattle.sd_questions.specs.Output.{AppendsWhole, LeavesEach}
@@ -40,8 +40,8 @@ pub record AppendsPartOfAnswerTo (line : CommandLineValue) (input old new : Opti
 abbrev pub LeavesLinesOf : CommandLineValue → Option (List ℕ) → Option (List ℕ) → Option (List ℕ) → Option (List ℕ)
     → RunError → Type 0
 LeavesLinesOf (Runs options (Script (LineByLine has_ids))) input left old new error =
-    (manner : Manner) × IsManner options manner
-    × LeavesAnswers LINES (PrintsServed has_ids manner.notation.is_json manner) input left old new error
+    (run_options : ScriptOptions) × AreScriptOptions options run_options
+    × LeavesAnswers LINES (PrintsServed has_ids run_options.notation.is_json run_options) input left old new error
 LeavesLinesOf (Runs options (Each given request)) input left old new error =
     LeavesEach options given request input left old new error
 LeavesLinesOf line input left old new error = ⊥

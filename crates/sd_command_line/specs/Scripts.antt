@@ -2,11 +2,11 @@
 use Rattle.std.specs.Prelude.{◌≡◌, ◌⊎◌, ℕ, ◌==◌, Bool, ◌&&◌, ◌||◌, is_some, List, [], ◌++◌, Option, Some, None}
 use Rattle.std.specs.Prelude.{if◌then◌else◌, codes}
 use Rattle.std.specs.Fmt.{decimal}
-use Rattle.sd_script.specs.declared.tally.Tally.{Tally}
+use Rattle.sd_script.specs.declared.script_counts.ScriptCounts.{ScriptCounts}
 use Rattle.sd_commands.specs.Diagnostic.{told_line}
 use Rattle.sd_questions.specs.Each.{no_line_note}
-use Rattle.sd_commands.specs.declared.answer.Outcome.{Outcome}
-use Rattle.sd_commands.specs.declared.answer.Outcome.TheVariants.{Done, Refused, Fault}
+use Rattle.sd_commands.specs.declared.command_answer.Outcome.{Outcome}
+use Rattle.sd_commands.specs.declared.command_answer.Outcome.TheVariants.{Done, Refused, Fault}
 
 -- what is told of a line, where there is one
 abbrev pub line_note : List ℕ → Option ℕ → List ℕ
@@ -25,29 +25,29 @@ expect_note expected unmet (Some number) = told_line (codes "expect") (decimal e
     ++ (decimal unmet ++ (codes " not met, the first in line " ++ decimal number))))
 
 -- a script without a line is none
-abbrev pub no_line_note_of : Tally → List ℕ
-no_line_note_of tally = if tally.lines == 0 then no_line_note else []
+abbrev pub no_line_note_of : ScriptCounts → List ℕ
+no_line_note_of counts = if counts.lines == 0 then no_line_note else []
 
-abbrev pub script_notes : Bool → Tally → List ℕ
-script_notes strict tally =
-    no_line_note_of tally
-    ++ (line_note (codes "it begins with a byte order mark") (line_if tally.begins_with_mark (Some 1))
-    ++ (line_note (codes "the node inherits otherwise than its descriptor says") tally.first_difference
-    ++ (line_note (codes "the node's own entries are in canonical order now") tally.first_reordered
-    ++ (line_note (codes "a fault or a refusal") (line_if strict tally.first_fault)
-    ++ expect_note tally.expected tally.unmet tally.first_unmet))))
+abbrev pub script_notes : Bool → ScriptCounts → List ℕ
+script_notes strict counts =
+    no_line_note_of counts
+    ++ (line_note (codes "it begins with a byte order mark") (line_if counts.begins_with_mark (Some 1))
+    ++ (line_note (codes "the node inherits otherwise than its descriptor says") counts.first_difference
+    ++ (line_note (codes "the node's own entries are in canonical order now") counts.first_reordered
+    ++ (line_note (codes "a fault or a refusal") (line_if strict counts.first_fault)
+    ++ expect_note counts.expected counts.unmet counts.first_unmet))))
 
 -- nothing is told where memory for it was refused
-abbrev pub IsToldOfScript : Bool → Tally → List ℕ → Type 0
-IsToldOfScript strict tally told = (told ≡ script_notes strict tally) ⊎ (told ≡ [])
+abbrev pub IsToldOfScript : Bool → ScriptCounts → List ℕ → Type 0
+IsToldOfScript strict counts told = (told ≡ script_notes strict counts) ⊎ (told ≡ [])
 
 -- some line imported a node whose entries aren't as they were elsewhere
-abbrev pub differs : Tally → Bool
-differs tally = is_some tally.first_difference || is_some tally.first_reordered
+abbrev pub differs : ScriptCounts → Bool
+differs counts = is_some counts.first_difference || is_some counts.first_reordered
 
 -- the worst of the lines: none at all, or a fault or a refusal where that is asked for; or else an expectation that
 -- wasn't met, or a difference where that is asked for
-unfoldable pub script_outcome : Bool → Tally → Outcome
-script_outcome strict tally =
-    if tally.lines == 0 || (strict && is_some tally.first_fault) then Fault
-    else (if is_some tally.first_unmet || (strict && differs tally) then Refused else Done)
+unfoldable pub script_outcome : Bool → ScriptCounts → Outcome
+script_outcome strict counts =
+    if counts.lines == 0 || (strict && is_some counts.first_fault) then Fault
+    else (if is_some counts.first_unmet || (strict && differs counts) then Refused else Done)

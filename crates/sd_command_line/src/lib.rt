@@ -18,7 +18,7 @@ mod scripts;
 pub use program::drive;
 pub use sd_arguments::{asks_help, is_command_line, reads_input};
 pub use sd_lines::{RunError, Watched};
-pub use sd_script::{Manner, Notation, PathSpelling, Tally, run};
+pub use sd_script::{Notation, PathSpelling, ScriptCounts, ScriptOptions, run};
 pub use sd_script_audit::run_audit;
 pub use sd_sid::GenericMapping;
 pub use sd_store::{Gate, OpenGate};

@@ -2,7 +2,7 @@
 ghost use Rattle.std.specs.Prelude.{◌≡◌, ◌≢◌, ◌||◌, ℕ, List, Option, false, Err, IfErr, IfOk, string_bytes};
 ghost use Rattle.sd_lines.specs.Watched.{has_failed, inner_of};
 ghost use Rattle.sd_lines.specs.Streams.{ReadsPart, is_read_error, is_write_error};
-ghost use Rattle.sd_commands.specs.Answer.{answer_of, outcome_status};
+ghost use Rattle.sd_commands.specs.CommandAnswer.{answer_of, outcome_status};
 ghost use Rattle.sd_command_line.specs.Answer.{Answers, printed_when};
 ghost use Rattle.sd_arguments.specs.CommandLine.{CommandLineValue, IsAudit, Runs, Script, command_line_of};
 ghost use Rattle.sd_arguments.specs.CommandLine.{uses_input};
@@ -10,7 +10,7 @@ ghost use Rattle.sd_arguments.specs.Options.{has, options_of};
 ghost use Rattle.sd_command_line.specs.Output.{AppendsAnswerTo, LeavesAfter, tells_faults};
 
 use crate::scripts::end_of_script;
-use sd_arguments::{Asked, CommandLine, Invocation, Options, ScriptRun, version_text};
+use sd_arguments::{CommandLine, Invocation, Options, ProgramRequest, ScriptRun, version_text};
 use sd_commands::Answer;
 use sd_json::{Tagging, printed_as};
 use sd_lines::{RunError, Watched, write_whole};
@@ -47,22 +47,22 @@ pub(crate) fn perform<T: Threads + Wait + Sync, R: Read, W: Write>(
 {
     let options = line.options;
     match line.asked {
-        Asked::Help { command } => {
+        ProgramRequest::Help { command } => {
             let answer = Answer::done(alloc, help(alloc, command)?);
             print(alloc, false, answer, writer)
         }
-        Asked::Version => {
+        ProgramRequest::Version => {
             let answer = Answer::done(alloc, version_text(alloc)?);
             print(alloc, false, answer, writer)
         }
-        Asked::Runs(Invocation::Ask { text, request }) => {
+        ProgramRequest::Runs(Invocation::Ask { text, request }) => {
             let answer = answer_to(alloc, options, text, request, reader)?;
             print(alloc, options.has(OptionName::Json), answer, writer)
         }
-        Asked::Runs(Invocation::Each { given, request }) => {
+        ProgramRequest::Runs(Invocation::Each { given, request }) => {
             answer_each(alloc, options, given, request, reader, writer)
         }
-        Asked::Runs(Invocation::Script(run)) => {
+        ProgramRequest::Runs(Invocation::Script(run)) => {
             perform_script(rt, alloc, options, run, reader, writer)
         }
     }
@@ -91,8 +91,8 @@ fn perform_script<T: Threads + Wait + Sync, R: Read, W: Write>(
     ensures thread { result ≡ Err RunError.Thread → IsAudit (Runs (options_of options.entry) (Script script_run)) }
 {
     let is_strict = options.has(OptionName::Strict) || options.has(OptionName::StrictStatus);
-    let manner = match options.manner() {
-        Ok(manner) => manner,
+    let run_options = match options.script_options() {
+        Ok(run_options) => run_options,
         Err(bad) => {
             let answer = bad_value(alloc, bad)?;
             return print(alloc, options.has(OptionName::Json), answer, writer);
@@ -100,16 +100,16 @@ fn perform_script<T: Threads + Wait + Sync, R: Read, W: Write>(
     };
     match script_run {
         ScriptRun::AtOnce => {
-            let tally = run(alloc, &manner, reader, writer)?;
-            Ok(end_of_script(alloc, is_strict, &tally))
+            let counts = run(alloc, &run_options, reader, writer)?;
+            Ok(end_of_script(alloc, is_strict, &counts))
         }
         ScriptRun::LineByLine { has_ids } => {
-            let tally = serve(alloc, &manner, has_ids, reader, writer)?;
-            Ok(end_of_script(alloc, is_strict, &tally))
+            let counts = serve(alloc, &run_options, has_ids, reader, writer)?;
+            Ok(end_of_script(alloc, is_strict, &counts))
         }
         ScriptRun::Audit { workers } => {
-            let tally = run_audit(rt, alloc, workers, &manner, reader, writer, &OpenGate)?;
-            Ok(end_of_script(alloc, is_strict, &tally))
+            let counts = run_audit(rt, alloc, workers, &run_options, reader, writer, &OpenGate)?;
+            Ok(end_of_script(alloc, is_strict, &counts))
         }
     }
 }

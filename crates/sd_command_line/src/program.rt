@@ -3,14 +3,14 @@ ghost use Rattle.std.specs.Prelude.{◌≡◌, ◌≤◌, ◌⊎◌, ℕ, List, 
 ghost use Rattle.std.specs.Io.KnownBytes.{Keeps};
 ghost use Rattle.sd_lines.specs.Watched.{has_failed, inner_of};
 ghost use Rattle.sd_lines.specs.Streams.{AppendsBeginning};
-ghost use Rattle.sd_commands.specs.Answer.{outcome_status};
+ghost use Rattle.sd_commands.specs.CommandAnswer.{outcome_status};
 ghost use Rattle.sd_arguments.specs.CommandLine.{IsUnread, asks_input, command_line_of};
-ghost use Rattle.sd_arguments.specs.Mistake.{IsMessage};
+ghost use Rattle.sd_arguments.specs.UsageError.{IsMessage};
 ghost use Rattle.sd_command_line.specs.Output.{AppendsAnswer, IsDue, LeavesOf, error_line};
 ghost use Rattle.sd_command_line.specs.Output.{tells_faults};
 
 use crate::perform::perform;
-use sd_arguments::{Asked, CommandLine, message, read_command_line};
+use sd_arguments::{CommandLine, ProgramRequest, message, read_command_line};
 use sd_commands::Outcome;
 use sd_lines::{RunError, Watched, write_whole};
 use sd_questions::Ended;
@@ -79,7 +79,7 @@ pub fn drive<T: Threads + Wait + Sync, R: Read, W: Write, E: Write>(
                 3
             }
         },
-        Err(mistake) => match message(alloc, words, mistake) {
+        Err(usage_error) => match message(alloc, words, usage_error) {
             Ok(text) => {
                 tell(errors, text.as_str());
                 2
@@ -98,7 +98,7 @@ fn status_of(line: CommandLine<'_>, outcome: Outcome) -> u8
     ensures within { (result ≤ 1) ⊎ (result ≡ 4) }
 {
     match line.asked {
-        Asked::Runs(_) => outcome.status(line.options.has(OptionName::StrictStatus)),
+        ProgramRequest::Runs(_) => outcome.status(line.options.has(OptionName::StrictStatus)),
         _ => outcome.status(false),
     }
 }

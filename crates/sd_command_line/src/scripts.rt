@@ -5,7 +5,7 @@ ghost use Rattle.sd_command_line.specs.Scripts.{script_notes, script_outcome};
 
 use sd_commands::{Outcome, told_line};
 use sd_questions::Ended;
-use sd_script::Tally;
+use sd_script::ScriptCounts;
 use std::alloc::{AllocError, Global};
 
 /// The outcome of a script, the worst of its lines: a fault where there is none, or with `strict` where one had a fault
@@ -15,15 +15,15 @@ use std::alloc::{AllocError, Global};
 /// own entries were put in order; with `strict` the first fault or refusal; how many answers were expected, and weren't
 /// given. No notes if out of memory: the output is there by then.
 #[tactic(auto, unfolding(crate::specs::Scripts::script_outcome))]
-pub(crate) fn end_of_script(alloc: Global, strict: bool, tally: &Tally) -> Ended
-    ensures told { IsToldOfScript strict tally.now (string_bytes result.told) }
-    ensures outcome { result.outcome ≡ script_outcome strict tally.now }
+pub(crate) fn end_of_script(alloc: Global, strict: bool, counts: &ScriptCounts) -> Ended
+    ensures told { IsToldOfScript strict counts.now (string_bytes result.told) }
+    ensures outcome { result.outcome ≡ script_outcome strict counts.now }
 {
-    let told = script_notes(alloc, strict, tally).unwrap_or(String::new(alloc));
-    let differs = tally.first_difference.is_some() || tally.first_reordered.is_some();
-    let outcome = if tally.lines == 0 || (strict && tally.first_fault.is_some()) {
+    let told = script_notes(alloc, strict, counts).unwrap_or(String::new(alloc));
+    let differs = counts.first_difference.is_some() || counts.first_reordered.is_some();
+    let outcome = if counts.lines == 0 || (strict && counts.first_fault.is_some()) {
         Outcome::Fault
-    } else if tally.first_unmet.is_some() || (strict && differs) {
+    } else if counts.first_unmet.is_some() || (strict && differs) {
         Outcome::Refused
     } else {
         Outcome::Done
@@ -31,27 +31,27 @@ pub(crate) fn end_of_script(alloc: Global, strict: bool, tally: &Tally) -> Ended
     Ended { told, outcome }
 }
 
-fn script_notes(alloc: Global, strict: bool, tally: &Tally) -> Result<String, AllocError>
-    ensures { IfOk result (λ text. string_bytes text ≡ script_notes strict tally.now) }
+fn script_notes(alloc: Global, strict: bool, counts: &ScriptCounts) -> Result<String, AllocError>
+    ensures { IfOk result (λ text. string_bytes text ≡ script_notes strict counts.now) }
 {
-    let none = no_line_note_of(alloc, tally)?;
-    let mark = line_if(tally.begins_with_mark, Some(1));
+    let none = no_line_note_of(alloc, counts)?;
+    let mark = line_if(counts.begins_with_mark, Some(1));
     let mark = line_note(alloc, "it begins with a byte order mark", mark)?;
     let what = "the node inherits otherwise than its descriptor says";
-    let difference = line_note(alloc, what, tally.first_difference)?;
+    let difference = line_note(alloc, what, counts.first_difference)?;
     let what = "the node's own entries are in canonical order now";
-    let order = line_note(alloc, what, tally.first_reordered)?;
-    let fault = line_if(strict, tally.first_fault);
+    let order = line_note(alloc, what, counts.first_reordered)?;
+    let fault = line_if(strict, counts.first_fault);
     let fault = line_note(alloc, "a fault or a refusal", fault)?;
-    let expectations = expect_note(alloc, tally.expected, tally.unmet, tally.first_unmet)?;
+    let expectations = expect_note(alloc, counts.expected, counts.unmet, counts.first_unmet)?;
     format!(in alloc; "{none}{mark}{difference}{order}{fault}{expectations}")
 }
 
 /// That there is no line, where there is none.
-fn no_line_note_of(alloc: Global, tally: &Tally) -> Result<String, AllocError>
-    ensures { IfOk result (λ text. string_bytes text ≡ no_line_note_of tally.now) }
+fn no_line_note_of(alloc: Global, counts: &ScriptCounts) -> Result<String, AllocError>
+    ensures { IfOk result (λ text. string_bytes text ≡ no_line_note_of counts.now) }
 {
-    if tally.lines == 0 {
+    if counts.lines == 0 {
         told_line(alloc, "standard input", "no line")
     } else {
         Ok(String::new(alloc))

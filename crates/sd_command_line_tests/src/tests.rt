@@ -4,8 +4,8 @@ mod each_call;
 mod streams;
 
 use sd_command_line::{
-    GenericMapping, Manner, Notation, OpenGate, PathSpelling, RunError, Tally, Watched, drive,
-    run_audit,
+    GenericMapping, Notation, OpenGate, PathSpelling, RunError, ScriptCounts, ScriptOptions,
+    Watched, drive, run_audit,
 };
 use sd_tree::Limits;
 use std::alloc::Global;

@@ -1,5 +1,5 @@
 pub mod Analysis
-pub mod Answer
+pub mod CommandAnswer
 pub mod Bytes
 pub mod Diagnostic
 pub mod Escaped

@@ -2,26 +2,26 @@
 ghost use Rattle.std.specs.Prelude.{◌<◌, IfOk, length, string_bytes};
 ghost use Rattle.sd_acl.specs.Descriptor.{descriptor_of};
 ghost use Rattle.sd_answer.specs.Word.{IsFirstNoGroup, texts};
-ghost use Rattle.sd_commands.specs.Answer.{AnswersOfBase, AnswersOn, AreDescendantLines, AreOwnChanges};
-ghost use Rattle.sd_commands.specs.Answer.{IsGroupFault, PrintsComparison};
-ghost use Rattle.sd_commands.specs.Answer.{PrintsWho, answer_of};
+ghost use Rattle.sd_commands.specs.CommandAnswer.{AnswersOfBase, AnswersOn, AreDescendantLines, AreOwnChanges};
+ghost use Rattle.sd_commands.specs.CommandAnswer.{IsGroupFault, PrintsComparison};
+ghost use Rattle.sd_commands.specs.CommandAnswer.{PrintsWho, answer_of};
 
-use crate::answer::{Answer, Answered, found};
-use crate::descriptor::{Given, noting};
-use crate::settings::Command;
+use crate::command_answer::{Answer, Answered, found};
+use crate::descriptor::{Given, note_left_out_sacl};
+use crate::settings::CommandContext;
 use crate::words::{argument, items_from};
 use sd_acl::Descriptor;
 use sd_analysis::{Base, compare, compare_descendants, who};
 use sd_answer::{
-    TokenError, borrowed, descendants_text, entries_in, gains_and_losses, inheritance_text,
-    looked_at, read_base, read_mask_in, rights_asked, who_text,
+    TokenError, dacl_ref, descendants_text, descriptor_ref, entries_in, gains_and_losses,
+    inheritance_text, read_base, read_mask_in, rights_asked, who_text,
 };
 use sd_check::GroupState;
 use sd_sid::{Mask, Sid};
 use sd_usage::DescriptorCommand;
 use std::alloc::AllocError;
 
-impl Command {
+impl CommandContext {
     /// Whom rights are granted to by a descriptor, where the mask and the base are the arguments; or the fault of the
     /// first from the left that is invalid.
     pub(crate) fn who(self, descriptor: &Descriptor, arguments: &[&str]) -> Answered
@@ -50,7 +50,7 @@ impl Command {
         ensures { IfOk result (λ answer. PrintsWho self.settings asked (descriptor_of descriptor.now) groups.now
             (answer_of answer)) }
     {
-        let (owner, dacl) = (descriptor.owner, borrowed(&descriptor.dacl));
+        let (owner, dacl) = (descriptor.owner, dacl_ref(&descriptor.dacl));
         let (base, mapping) = (Base { groups }, &self.settings.mapping);
         let rights = rights_asked(mapping, asked);
         let accesses = who(self.alloc, owner, dacl, mapping, &base, rights)?;
@@ -81,7 +81,7 @@ impl Command {
         };
         let words = items_from(arguments, 1);
         let answer = self.compare_with_base(old, &read.descriptor, words)?;
-        Ok(noting(self.alloc, "NEW", read.left_out, answer)?)
+        Ok(note_left_out_sacl(self.alloc, "NEW", read.left_out, answer)?)
     }
 
     fn compare_with_base(self, old: &Descriptor, new: &Descriptor, words: &[&str]) -> Answered
@@ -122,7 +122,7 @@ impl Command {
         ensures { IfOk result (λ text. AreOwnChanges self.now.settings (descriptor_of old.now) (descriptor_of new.now)
             base.now (string_bytes text)) }
     {
-        let (old, new) = (looked_at(old), looked_at(new));
+        let (old, new) = (descriptor_ref(old), descriptor_ref(new));
         let comparison = compare(self.alloc, &old, &new, &self.settings.mapping, base)?;
         gains_and_losses(
             self.alloc,

@@ -3,23 +3,23 @@ ghost use Rattle.std.specs.Prelude.{◌≡◌, IfOk, codes, string_bytes};
 ghost use Rattle.sd_acl.specs.Descriptor.{descriptor_of};
 ghost use Rattle.hex.specs.Hex.{encode_lower};
 ghost use Rattle.sd_wire.specs.Writing.{wire_of};
-ghost use Rattle.sd_answer.specs.Answer.{line};
+ghost use Rattle.sd_answer.specs.VerdictLine.{line};
 ghost use Rattle.sd_commands.specs.Diagnostic.{told_line, told_wire_fault};
-ghost use Rattle.sd_commands.specs.Answer.{AnswersBytes, AnswersFromBinary, AnswersHeld, AnswersSid};
-ghost use Rattle.sd_commands.specs.Answer.{IsDone, IsFault, answer_of, printed_line, wire_fault_line};
+ghost use Rattle.sd_commands.specs.CommandAnswer.{AnswersBytes, AnswersFromBinary, AnswersHeld, AnswersSid};
+ghost use Rattle.sd_commands.specs.CommandAnswer.{IsDone, IsFault, answer_of, printed_line, wire_fault_line};
 
-use crate::answer::{Answer, Answered, Outcome};
 use crate::bytes::{BytesError, leave_out_sacl, read_bytes};
-use crate::descriptor::{missing_dacl, noting};
+use crate::command_answer::{Answer, Answered, Outcome};
+use crate::descriptor::{missing_dacl, note_left_out_sacl};
 use crate::diagnostic::{text_at_byte, told_line};
 use crate::kinds::wire_kind_note;
-use crate::settings::Command;
+use crate::settings::CommandContext;
 use sd_acl::Descriptor;
 use sd_text::{print_full_sid, print_sddl_in, read_sid_text_in};
 use sd_wire::{WireError, WireFault, read_descriptor, write_descriptor};
 use std::alloc::{AllocError, Global};
 
-impl Command {
+impl CommandContext {
     /// A descriptor's text: the canonical one, or where masks are spelled by names, with those of their kind of object.
     pub(crate) fn print(self, descriptor: &Descriptor) -> Answered
         ensures { IfOk result (λ answer. IsDone (printed_line self.settings.spelling (descriptor_of descriptor.now))
@@ -61,7 +61,7 @@ impl Command {
         }
         let left_out = leave_out_sacl(&mut bytes);
         let answer = self.answer_held(&bytes)?;
-        Ok(noting(self.alloc, "BYTES", left_out, answer)?)
+        Ok(note_left_out_sacl(self.alloc, "BYTES", left_out, answer)?)
     }
 
     /// The printed text of what the bytes hold, if it has the list that is required.

@@ -1,10 +1,10 @@
 //! The descriptor that an argument's text is, with a SACL that is left out where that is asked for.
 ghost use Rattle.std.specs.Prelude.{◌≡◌, IfOk, option_map};
-ghost use Rattle.sd_commands.specs.Answer.{IsGiven, IsNoted, answer_of, missing_dacl};
+ghost use Rattle.sd_commands.specs.CommandAnswer.{IsGiven, IsNoted, answer_of, missing_dacl};
 
-use crate::answer::{Answer, Answered};
+use crate::command_answer::{Answer, Answered};
 use crate::diagnostic::told_line;
-use crate::settings::{Command, Settings};
+use crate::settings::{CommandContext, Settings};
 use sd_acl::Dacl;
 use sd_answer::read_sddl_argument;
 use sd_text::{TextError, WithoutSacl};
@@ -18,7 +18,7 @@ pub(crate) enum Given {
     Refused(Answer),
 }
 
-impl Command {
+impl CommandContext {
     /// What the argument of this name is ([MS-DTYP] 2.5.1.1).
     pub(crate) fn read_argument(self, name: &str, sddl: &str) -> Result<Given, AllocError>
         ensures { IfOk result (IsGiven name.now self.settings sddl.now) }
@@ -35,7 +35,7 @@ impl Command {
             None => Ok(Given::Descriptor(read)),
             Some(missing) => {
                 let answer = self.fault("nodacl", name, missing)?;
-                let answer = noting(self.alloc, name, read.left_out, answer)?;
+                let answer = note_left_out_sacl(self.alloc, name, read.left_out, answer)?;
                 Ok(Given::Refused(answer))
             }
         }
@@ -55,8 +55,13 @@ pub(crate) fn missing_dacl(settings: Settings, dacl: &Dacl) -> Option<&'static s
 }
 
 /// The answer, and before what is told beside it, that a SACL was left out of the argument, where one was.
-#[tactic(auto, unfolding(crate::specs::Answer::IsNoted))]
-pub(crate) fn noting(alloc: Global, name: &str, left_out: bool, mut answer: Answer) -> Answered
+#[tactic(auto, unfolding(crate::specs::CommandAnswer::IsNoted))]
+pub(crate) fn note_left_out_sacl(
+    alloc: Global,
+    name: &str,
+    left_out: bool,
+    mut answer: Answer,
+) -> Answered
     ensures { IfOk result (λ noted. IsNoted name.now left_out (answer_of answer) (answer_of noted)) }
 {
     if left_out {

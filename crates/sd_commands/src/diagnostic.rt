@@ -8,7 +8,7 @@ ghost use Rattle.sd_commands.specs.Diagnostic.{word_argument};
 use crate::escaped::escaped_word;
 use crate::kinds::kind_note;
 use crate::pointer::with_pointer;
-use crate::settings::Command;
+use crate::settings::CommandContext;
 use sd_text::{Aliases, TextError, TextFault, read_sid_text_in};
 use std::alloc::{AllocError, Global};
 
@@ -102,7 +102,7 @@ pub fn sid_reason(
     }
 }
 
-impl Command {
+impl CommandContext {
     /// Why a text is no word.
     pub(crate) fn word_reason(&self, word: &str) -> Result<String, AllocError>
         ensures { IfOk result (λ reason. IsWordReason self.now.settings.points self.now.settings.aliases word.now

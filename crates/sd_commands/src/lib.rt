@@ -13,8 +13,8 @@
 #![tactic(auto)]
 
 mod analysis;
-mod answer;
 mod bytes;
+mod command_answer;
 mod convert;
 mod descriptor;
 mod diagnostic;
@@ -33,7 +33,7 @@ mod value;
 mod verdict;
 mod words;
 
-pub use answer::{Answer, Outcome, answer_question, fault};
+pub use command_answer::{Answer, Outcome, answer_question, fault};
 pub use diagnostic::{sid_reason, told_line};
 pub use escaped::escaped_word;
 pub use laws::sorted_is_canonical;

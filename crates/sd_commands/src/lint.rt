@@ -1,11 +1,11 @@
 //! The answer to `lint`: what stands in a descriptor that its author may not have meant.
 ghost use Rattle.std.specs.Prelude.{IfOk};
 ghost use Rattle.sd_acl.specs.Descriptor.{descriptor_of};
-ghost use Rattle.sd_commands.specs.Answer.{AnswersOfBase, PrintsFindings, answer_of};
+ghost use Rattle.sd_commands.specs.CommandAnswer.{AnswersOfBase, PrintsFindings, answer_of};
 
-use crate::answer::{Answered, found};
+use crate::command_answer::{Answered, found};
 use crate::risks::risk_lines;
-use crate::settings::Command;
+use crate::settings::CommandContext;
 use sd_acl::Descriptor;
 use sd_analysis::Base;
 use sd_answer::{TokenError, lint_text, read_base};
@@ -13,7 +13,7 @@ use sd_check::GroupState;
 use sd_sid::Sid;
 use std::alloc::AllocError;
 
-impl Command {
+impl CommandContext {
     /// The findings in a descriptor, or `clean`, where each token has the base that the words are; or the fault of the
     /// first word that is invalid.
     pub(crate) fn lint(self, descriptor: &Descriptor, words: &[&str]) -> Answered

@@ -1,12 +1,12 @@
 //! The answer to `rights`: a mask by the names of its rights.
 ghost use Rattle.std.specs.Prelude.{IfOk};
-ghost use Rattle.sd_commands.specs.Answer.{AnswersRights, answer_of};
+ghost use Rattle.sd_commands.specs.CommandAnswer.{AnswersRights, answer_of};
 
-use crate::answer::{Answer, Answered};
-use crate::settings::Command;
+use crate::command_answer::{Answer, Answered};
+use crate::settings::CommandContext;
 use sd_answer::{read_mask_in, rights_line};
 
-impl Command {
+impl CommandContext {
     /// The mask, the permission that it is, and its rights by kind of object ([MS-DTYP] 2.4.3), as
     /// `0x10001: FILE_READ_DATA+DELETE`.
     pub(crate) fn rights(self, mask: &str) -> Answered

@@ -41,7 +41,7 @@ pub struct Settings {
 
 /// What a command works with: where it allocates, and what the options say.
 #[derive(Clone, Copy)]
-pub(crate) struct Command {
+pub(crate) struct CommandContext {
     pub(crate) alloc: Global,
     pub(crate) settings: Settings,
 }

@@ -2,18 +2,18 @@
 ghost use Rattle.std.specs.Prelude.{◌≡◌, ◌<◌, IfOk, length, string_bytes};
 ghost use Rattle.sd_acl.specs.Ace.{acl_size_of};
 ghost use Rattle.sd_acl.specs.Descriptor.{descriptor_of};
-ghost use Rattle.sd_commands.specs.Answer.{IsSorted, answer_of};
+ghost use Rattle.sd_commands.specs.CommandAnswer.{IsSorted, answer_of};
 ghost use Rattle.sd_commands.specs.Sort.{move_notes, note_of, notes_below, sorted, sorted_dacl};
 
-use crate::answer::{Answer, Answered, Outcome};
+use crate::command_answer::{Answer, Answered, Outcome};
 use crate::diagnostic::told_line;
-use crate::settings::Command;
+use crate::settings::CommandContext;
 use sd_acl::{Ace, AceList, Dacl, Descriptor, canonicalize};
 use sd_answer::{Spelling, first_misplaced};
 use sd_text::{print_entry_in, print_sddl_in};
 use std::alloc::{AllocError, Global};
 
-impl Command {
+impl CommandContext {
     /// The canonical text of a descriptor with its DACL in canonical order ([MS-DTYP] 2.4.5).
     pub(crate) fn sort(self, descriptor: &Descriptor) -> Answered
         ensures { IfOk result (λ answer. IsSorted self.settings (descriptor_of descriptor.now) (answer_of answer)) }

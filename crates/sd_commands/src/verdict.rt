@@ -2,11 +2,11 @@
 ghost use Rattle.std.specs.Prelude.{◌≡◌, ◌<◌, IfOk, length};
 ghost use Rattle.sd_acl.specs.Descriptor.{descriptor_of};
 ghost use Rattle.sd_answer.specs.Word.{IsFirstNoWord, texts};
-ghost use Rattle.sd_commands.specs.Answer.{AnswersUser, IsVerdict, IsWordFault, answer_of};
-ghost use Rattle.sd_commands.specs.Answer.{verdict_outcome};
+ghost use Rattle.sd_commands.specs.CommandAnswer.{AnswersUser, IsVerdict, IsWordFault, answer_of};
+ghost use Rattle.sd_commands.specs.CommandAnswer.{verdict_outcome};
 
-use crate::answer::{Answer, Answered, Outcome};
-use crate::settings::Command;
+use crate::command_answer::{Answer, Answered, Outcome};
+use crate::settings::CommandContext;
 use crate::words::{argument, items_from};
 use sd_acl::Descriptor;
 use sd_answer::{TokenError, read_mask_in, read_token, verdict_line, why_text};
@@ -24,7 +24,7 @@ pub(crate) enum Form {
     Explained,
 }
 
-impl Command {
+impl CommandContext {
     /// The verdict on a descriptor, where the user, the mask and words are the arguments; or the fault of the first
     /// from the left that is invalid.
     pub(crate) fn verdict(self, form: Form, descriptor: &Descriptor, arguments: &[&str]) -> Answered

@@ -1,6 +1,6 @@
 //! The arguments of a command.
 ghost use Rattle.std.specs.Prelude.{◌≡◌, ◌≤◌, drop, length};
-ghost use Rattle.sd_commands.specs.Answer.{argument};
+ghost use Rattle.sd_commands.specs.CommandAnswer.{argument};
 
 /// The argument at the place, empty where there is none.
 pub(crate) fn argument<'a>(arguments: &'a [&'a str], place: usize) -> &'a str

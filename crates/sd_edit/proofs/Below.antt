@@ -5,20 +5,20 @@ use Rattle.sd_path.specs.Names.{Names, up, is_within}
 use Rattle.sd_edit.specs.Plain.{PlainTree, row_at}
 use Rattle.sd_edit.specs.Closed.{IsClosed}
 use Rattle.sd_inheritance.specs.declared.kind.NodeKind.{NodeKind}
-use Rattle.sd_edit.specs.declared.node.Row.{Row}
+use Rattle.sd_edit.specs.declared.node.NodeRow.{NodeRow}
 use Rattle.sd_edit.proofs.Lists.{by_last}
 use Rattle.sd_path.proofs.Paths.{up-push, up_within}
 use Rattle.sd_edit.proofs.Rows.{same_or_other}
 
 -- the parent of a node is there
-pub parent_there : (t : PlainTree) → IsClosed t → (q : Names) (row : Row) → row_at t q ≡ Some row → IsSome (row_at t (up q))
+pub parent_there : (t : PlainTree) → IsClosed t → (q : Names) (row : NodeRow) → row_at t q ≡ Some row → IsSome (row_at t (up q))
 parent_there t closed q row there = some_of_kind (row_at t (up q)) _ (closed.parents q row there)
   where
-    some_of_kind : (o : Option Row) (k : NodeKind) → option_map (λ (r : Row). r.kind) o ≡ Some k → IsSome o
+    some_of_kind : (o : Option NodeRow) (k : NodeKind) → option_map (λ (r : NodeRow). r.kind) o ≡ Some k → IsSome o
     some_of_kind None k e = absurd cc
     some_of_kind (Some row) k e = refl
 
-pub some_row : (o : Option Row) → IsSome o → (row : Row) × (o ≡ Some row)
+pub some_row : (o : Option NodeRow) → IsSome o → (row : NodeRow) × (o ≡ Some row)
 some_row None h = absurd (false≢true h)
 some_row (Some row) h = (row, refl)
 
@@ -27,11 +27,11 @@ within_root [] h = refl
 within_root (n ∷ q) h = absurd (false≢true h)
 
 -- what stands on the way to a node is there
-pub tops_there : (t : PlainTree) → IsClosed t → (q path : Names) (row : Row) → row_at t path ≡ Some row → is_within q path ≡ true → IsSome (row_at t q)
+pub tops_there : (t : PlainTree) → IsClosed t → (q path : Names) (row : NodeRow) → row_at t path ≡ Some row → is_within q path ≡ true → IsSome (row_at t q)
 tops_there t closed q path = by_last P first step path
   where
     P : Names → Type 0
-    P p = (row : Row) → row_at t p ≡ Some row → is_within q p ≡ true → IsSome (row_at t q)
+    P p = (row : NodeRow) → row_at t p ≡ Some row → is_within q p ≡ true → IsSome (row_at t q)
 
     first : P []
     first row there inside = ap (λ p. is_some (row_at t p)) (within_root q inside) ∙ ap is_some there
@@ -46,7 +46,7 @@ tops_there t closed q path = by_last P first step path
     ]
 
 -- nothing stands below a free path
-pub nothing_below : (t : PlainTree) → IsClosed t → (q path : Names) (row : Row) → row_at t q ≡ None → row_at t path ≡ Some row → is_within q path ≡ false
+pub nothing_below : (t : PlainTree) → IsClosed t → (q path : Names) (row : NodeRow) → row_at t q ≡ None → row_at t path ≡ Some row → is_within q path ≡ false
 nothing_below t closed q path row free there = elim (cases_Bool (is_within q path)) [
   | inl inside ↦ absurd (false≢true (ap is_some (sym free) ∙ tops_there t closed q path row there inside))
   | inr outside ↦ outside

@@ -14,7 +14,7 @@ use Rattle.sd_edit.specs.Edits.{keeping, changed, edited}
 use Rattle.sd_edit.specs.Answers.{kind_at}
 use Rattle.sd_edit.specs.Journal.{opened, root_row, replay, IsLawful}
 use Rattle.sd_edit.specs.Refusals.{early_refusal, early_tests, first_fit, is_object, is_object_kind, has_child, addition_tests, move_tests}
-use Rattle.sd_edit.specs.declared.node.Row.{Row}
+use Rattle.sd_edit.specs.declared.node.NodeRow.{NodeRow}
 use Rattle.sd_inheritance.specs.declared.kind.NodeKind.{NodeKind}
 use Rattle.sd_inheritance.specs.declared.kind.NodeKind.TheVariants.{Container, Object}
 use Rattle.sd_edit.specs.declared.node.NodeDacl.{NodeDacl}
@@ -28,27 +28,27 @@ use Rattle.sd_edit.proofs.Journals.{holds_of_lawful}
 
 -- ---- kinds
 
-pub known_kind : (t : PlainTree) (path : Names) (row : Row) → row_at t path ≡ Some row → kind_at t path ≡ Some row.kind
-known_kind t path row e = ap (option_map (λ (r : Row). r.kind)) e
+pub known_kind : (t : PlainTree) (path : Names) (row : NodeRow) → row_at t path ≡ Some row → kind_at t path ≡ Some row.kind
+known_kind t path row e = ap (option_map (λ (r : NodeRow). r.kind)) e
 
-known_row : (o : Option Row) (k : NodeKind) → option_map (λ (r : Row). r.kind) o ≡ Some k → (row : Row) × (o ≡ Some row)
+known_row : (o : Option NodeRow) (k : NodeKind) → option_map (λ (r : NodeRow). r.kind) o ≡ Some k → (row : NodeRow) × (o ≡ Some row)
 known_row None k e = absurd cc
 known_row (Some row) k e = (row, refl)
 
-kept_kind : (change : Row → Row) → ((row : Row) → (change row).kind ≡ row.kind)
-    → (o : Option Row) → option_map (λ (r : Row). r.kind) (option_map change o) ≡ option_map (λ (r : Row). r.kind) o
+kept_kind : (change : NodeRow → NodeRow) → ((row : NodeRow) → (change row).kind ≡ row.kind)
+    → (o : Option NodeRow) → option_map (λ (r : NodeRow). r.kind) (option_map change o) ≡ option_map (λ (r : NodeRow). r.kind) o
 kept_kind change keeps None = refl
 kept_kind change keeps (Some row) = ap Some (keeps row)
 
-pub kind_at-changed : (t : PlainTree) (path q : Names) (change : Row → Row) → ((row : Row) → (change row).kind ≡ row.kind)
+pub kind_at-changed : (t : PlainTree) (path q : Names) (change : NodeRow → NodeRow) → ((row : NodeRow) → (change row).kind ≡ row.kind)
     → kind_at (changed t path change) q ≡ kind_at t q
 kind_at-changed t path q change keeps = elim (same_or_other q path) [
   | inl same ↦
       ap (kind_at (changed t path change)) same
-      ∙ ap (option_map (λ (r : Row). r.kind)) (row_at-changed_same t path change)
+      ∙ ap (option_map (λ (r : NodeRow). r.kind)) (row_at-changed_same t path change)
       ∙ kept_kind change keeps (row_at t path)
       ∙ ap (kind_at t) (sym same)
-  | inr other ↦ ap (option_map (λ (r : Row). r.kind)) (row_at-changed_other t path q change other)
+  | inr other ↦ ap (option_map (λ (r : NodeRow). r.kind)) (row_at-changed_other t path q change other)
 ]
 
 -- ---- the opening
@@ -58,7 +58,7 @@ closed_opened o =
     let root = known_kind (opened o) [] (root_row o.root) (row_at-insert_same map.empty [] (root_row o.root)) in
     record { root = root; parents = alone root }
   where
-    alone : kind_at (opened o) [] ≡ Some Container → (path : Names) (row : Row) → row_at (opened o) path ≡ Some row → kind_at (opened o) (up path) ≡ Some Container
+    alone : kind_at (opened o) [] ≡ Some Container → (path : Names) (row : NodeRow) → row_at (opened o) path ≡ Some row → kind_at (opened o) (up path) ≡ Some Container
     alone root [] row e = root
     alone root (n ∷ path) row e =
         let none : row_at (opened o) (n ∷ path) ≡ None = row_at-insert_other map.empty [] (n ∷ path) (root_row o.root) (λ same. absurd cc) ∙ row_at-empty (n ∷ path) in
@@ -66,7 +66,7 @@ closed_opened o =
 
 -- ---- a change of a node
 
-closed_changed : (t : PlainTree) (path : Names) (change : Row → Row) → ((row : Row) → (change row).kind ≡ row.kind) → IsClosed t → IsClosed (changed t path change)
+closed_changed : (t : PlainTree) (path : Names) (change : NodeRow → NodeRow) → ((row : NodeRow) → (change row).kind ≡ row.kind) → IsClosed t → IsClosed (changed t path change)
 closed_changed t path change keeps closed = record {
   root = kind_at-changed t path [] change keeps ∙ closed.root;
   parents = λ q row e.
@@ -77,7 +77,7 @@ closed_changed t path change keeps closed = record {
 
 -- ---- a node more
 
-container_from : (o : Option Row) → is_some o ≡ true → is_object o ≡ false → option_map (λ (r : Row). r.kind) o ≡ Some Container
+container_from : (o : Option NodeRow) → is_some o ≡ true → is_object o ≡ false → option_map (λ (r : NodeRow). r.kind) o ≡ Some Container
 container_from None h k = absurd (false≢true h)
 container_from (Some row) h k = ap Some (container row.kind k)
   where
@@ -85,19 +85,19 @@ container_from (Some row) h k = ap Some (container row.kind k)
     container Container e = refl
     container Object e = absurd cc
 
-none_from : (o : Option Row) → is_some o ≡ false → o ≡ None
+none_from : (o : Option NodeRow) → is_some o ≡ false → o ≡ None
 none_from None h = refl
 none_from (Some row) h = absurd cc
 
-closed_inserted : (t : PlainTree) (path : Names) (row : Row) → row_at t path ≡ None → kind_at t (up path) ≡ Some Container → IsClosed t → IsClosed (map.insert t path row)
+closed_inserted : (t : PlainTree) (path : Names) (row : NodeRow) → row_at t path ≡ None → kind_at t (up path) ≡ Some Container → IsClosed t → IsClosed (map.insert t path row)
 closed_inserted t path row free holder closed = record { root = still [] closed.root; parents = held }
   where
     still : (q : Names) → kind_at t q ≡ Some Container → kind_at (map.insert t path row) q ≡ Some Container
     still q e =
         let there = known_row (row_at t q) Container e in
-        ap (option_map (λ (r : Row). r.kind)) (row_at-insert_other t path q row (λ same. let none : row_at t q ≡ None = ap (row_at t) same ∙ free in absurd (let found = there.1 in cc))) ∙ e
+        ap (option_map (λ (r : NodeRow). r.kind)) (row_at-insert_other t path q row (λ same. let none : row_at t q ≡ None = ap (row_at t) same ∙ free in absurd (let found = there.1 in cc))) ∙ e
 
-    held : (q : Names) (r : Row) → row_at (map.insert t path row) q ≡ Some r → kind_at (map.insert t path row) (up q) ≡ Some Container
+    held : (q : Names) (r : NodeRow) → row_at (map.insert t path row) q ≡ Some r → kind_at (map.insert t path row) (up q) ≡ Some Container
     held q r e = still (up q) (elim (same_or_other q path) [
       | inl same ↦ ap (λ p. kind_at t (up p)) same ∙ holder
       | inr other ↦ closed.parents q r (sym (row_at-insert_other t path q row other) ∙ e)
@@ -160,7 +160,7 @@ unnamed p q (n ∷ names) h none =
     ]
 
 -- a node that another one stands right below has a child
-pub no_child : (t : PlainTree) (path q : Names) (row : Row) → has_child t path ≡ false → row_at t q ≡ Some row → is_root q ≡ false → up q ≢ path
+pub no_child : (t : PlainTree) (path q : Names) (row : NodeRow) → has_child t path ≡ false → row_at t q ≡ Some row → is_root q ≡ false → up q ≢ path
 no_child t path q row none there below same =
     let known : list_any (eq_by_cmp names_cmp q) (map.keys t) ≡ true = sym (contains_key-keys t q) ∙ ap is_some there in
     let apart = unnamed (λ child. not (is_root child) && is_eq (names_cmp (up child) path)) q (map.keys t) known none in
@@ -173,24 +173,24 @@ closed_removed t path below none closed = record { root = still [] root_stays cl
     root_stays e = false≢true (sym below ∙ ap is_root (sym e))
 
     still : (q : Names) → q ≢ path → kind_at t q ≡ Some Container → kind_at (map.remove t path) q ≡ Some Container
-    still q other e = ap (option_map (λ (r : Row). r.kind)) (row_at-remove_other t path q other) ∙ e
+    still q other e = ap (option_map (λ (r : NodeRow). r.kind)) (row_at-remove_other t path q other) ∙ e
 
-    there_before : (q : Names) (r : Row) → row_at (map.remove t path) q ≡ Some r → row_at t q ≡ Some r
+    there_before : (q : Names) (r : NodeRow) → row_at (map.remove t path) q ≡ Some r → row_at t q ≡ Some r
     there_before q r e = elim (same_or_other q path) [
       | inl same ↦ absurd (let gone : row_at (map.remove t path) q ≡ None = ap (row_at (map.remove t path)) same ∙ row_at-remove_same t path in cc)
       | inr other ↦ sym (row_at-remove_other t path q other) ∙ e
     ]
 
-    held_by : (q : Names) (r : Row) → row_at t q ≡ Some r → up q ≢ path
+    held_by : (q : Names) (r : NodeRow) → row_at t q ≡ Some r → up q ≢ path
     held_by [] r e = root_stays
     held_by (n ∷ q) r e = no_child t path (n ∷ q) r none e refl
 
-    held : (q : Names) (r : Row) → row_at (map.remove t path) q ≡ Some r → kind_at (map.remove t path) (up q) ≡ Some Container
+    held : (q : Names) (r : NodeRow) → row_at (map.remove t path) q ≡ Some r → kind_at (map.remove t path) (up q) ≡ Some Container
     held q r e = let before = there_before q r e in still (up q) (held_by q r before) (closed.parents q r before)
 
 -- ---- each edit
 
-pub kept_when_keeping : (dacl : Option (List Ace)) (row : Row) → (keeping dacl row).kind ≡ row.kind
+pub kept_when_keeping : (dacl : Option (List Ace)) (row : NodeRow) → (keeping dacl row).kind ≡ row.kind
 kept_when_keeping None row = refl
 kept_when_keeping (Some entries) row = refl
 

@@ -10,19 +10,19 @@ use Rattle.sd_edit.specs.Plain.{PlainTree, row_at, dacl_at, dacl_here}
 use Rattle.sd_edit.specs.Refusals.{dacl_size, own_entries}
 use Rattle.sd_edit.specs.declared.node.NodeDacl.{NodeDacl}
 use Rattle.sd_edit.specs.declared.node.NodeDacl.TheVariants.{Null, List as Entries}
-use Rattle.sd_edit.specs.declared.node.Row.{Row}
+use Rattle.sd_edit.specs.declared.node.NodeRow.{NodeRow}
 use Rattle.sd_edit.proofs.Dacls.{dacl_over, dacl_at_here}
 
 front_fits : (own behind : List Ace) → acl_size_of (own ++ behind) ≤ 65535 → acl_size_of own ≤ 65535
 front_fits own behind h = omega (arith, sum_by-append ace_size own behind)
 
-own_fits : (g : MappingValue) (row : Row) (dacl : NodeDacl) (above : Option (List Ace)) → dacl_size (dacl_under g row dacl above) ≤ 65535
+own_fits : (g : MappingValue) (row : NodeRow) (dacl : NodeDacl) (above : Option (List Ace)) → dacl_size (dacl_under g row dacl above) ≤ 65535
     → acl_size_of (own_entries dacl) ≤ 65535
 own_fits g row Null above h = omega arith
 own_fits g row (Entries protected own) above h = front_fits own _ h
 
 -- the own entries of what stands at a path
-pub given_fits : (g : MappingValue) (t : PlainTree) (path : Names) (row : Row) → row_at t path ≡ Some row → dacl_size (dacl_at g t path) ≤ 65535
+pub given_fits : (g : MappingValue) (t : PlainTree) (path : Names) (row : NodeRow) → row_at t path ≡ Some row → dacl_size (dacl_at g t path) ≤ 65535
     → acl_size_of (own_entries row.dacl) ≤ 65535
 given_fits g t path row is fits =
     let whole = dacl_at_here g t path ∙ ap (λ found. dacl_here g found (dacl_over g t path)) is in

@@ -13,7 +13,7 @@ use Rattle.sd_edit.specs.Closed.{IsClosed, IsMovable}
 use Rattle.sd_edit.specs.Edits.{moved_entry, moved}
 use Rattle.sd_edit.specs.Inheritance.{dacl_of_row}
 use Rattle.sd_edit.specs.Plain.{PlainTree, row_at, dacl_here, dacl_below, dacl_at}
-use Rattle.sd_edit.specs.declared.node.Row.{Row}
+use Rattle.sd_edit.specs.declared.node.NodeRow.{NodeRow}
 use Rattle.sd_inheritance.specs.declared.kind.NodeKind.TheVariants.{Container}
 use Rattle.sd_path.proofs.Paths.{names_cmp_total, names_cmp_prefix, within-append, within_rest, within_trans, within_up, moved_path-append, moved_path-outside, up-append}
 use Rattle.sd_edit.proofs.Below.{nothing_below}
@@ -24,19 +24,19 @@ use Rattle.sd_edit.proofs.NewRow.{up_outside, whole_below}
 
 -- ---- what is found once each key is another
 
-pub find_same : (f : Names → Names) (p q : Names) (es : List (Names × Row))
-    → ((k : ℕ) (d : Names × Row) → k < length es → eq_by_cmp names_cmp p (f (get_or es k d).0) ≡ eq_by_cmp names_cmp q (get_or es k d).0)
+pub find_same : (f : Names → Names) (p q : Names) (es : List (Names × NodeRow))
+    → ((k : ℕ) (d : Names × NodeRow) → k < length es → eq_by_cmp names_cmp p (f (get_or es k d).0) ≡ eq_by_cmp names_cmp q (get_or es k d).0)
     → find names_cmp p (map (λ e. (f e.0, e.1)) es) ≡ find names_cmp q es
 find_same f p q [] h = refl
 find_same f p q (e ∷ es) h = λ i. cond (h zero e (omega arith) i) (Some e.1) (find_same f p q es (λ k d lt. h (suc k) d (omega arith)) i)
 
-pub find_gone : (f : Names → Names) (p : Names) (es : List (Names × Row))
-    → ((k : ℕ) (d : Names × Row) → k < length es → eq_by_cmp names_cmp p (f (get_or es k d).0) ≡ false)
+pub find_gone : (f : Names → Names) (p : Names) (es : List (Names × NodeRow))
+    → ((k : ℕ) (d : Names × NodeRow) → k < length es → eq_by_cmp names_cmp p (f (get_or es k d).0) ≡ false)
     → find names_cmp p (map (λ e. (f e.0, e.1)) es) ≡ None
 find_gone f p [] h = refl
 find_gone f p (e ∷ es) h = λ i. cond (h zero e (omega arith) i) (Some e.1) (find_gone f p es (λ k d lt. h (suc k) d (omega arith)) i)
 
-pub entry_there : (t : PlainTree) (k : ℕ) (d : Names × Row) → k < length (finite.entries t) → row_at t (get_or (finite.entries t) k d).0 ≡ Some (get_or (finite.entries t) k d).1
+pub entry_there : (t : PlainTree) (k : ℕ) (d : Names × NodeRow) → k < length (finite.entries t) → row_at t (get_or (finite.entries t) k d).0 ≡ Some (get_or (finite.entries t) k d).1
 entry_there t k d lt = get-entries t (get_or (finite.entries t) k d).0 ∙ find_at names_cmp_total (finite.entries t) (entries_sorted t) k d lt
 
 pub row_at-moved : (t : PlainTree) (source target q : Names) → row_at (moved t source target) q ≡ find names_cmp q (map (moved_entry source target) (finite.entries t))
@@ -147,7 +147,7 @@ module _ (g : MappingValue) (t : PlainTree) (closed : IsClosed t) (source target
   up_out = way_outside source (up target) target (within_up target) can.apart
 
   -- the target's own, by the row that stood at the source
-  pub dacl_at-moved_top : (row : Row) → row_at t source ≡ Some row → dacl_at g (moved t source target) target ≡ dacl_at g (finite.insert t target row) target
+  pub dacl_at-moved_top : (row : NodeRow) → row_at t source ≡ Some row → dacl_at g (moved t source target) target ≡ dacl_at g (finite.insert t target row) target
   dacl_at-moved_top row there =
       let t' = moved t source target in
       let found : row_at t' target ≡ Some row =
@@ -166,20 +166,20 @@ closed_moved t source target can closed = record {
 }
   where
     kind_other : (q : Names) → is_within source q ≡ false → is_within target q ≡ false → kind_at (moved t source target) q ≡ kind_at t q
-    kind_other q out-s out-t = ap (option_map (λ (r : Row). r.kind)) (row_at-moved_other t source target q out-s out-t)
+    kind_other q out-s out-t = ap (option_map (λ (r : NodeRow). r.kind)) (row_at-moved_other t source target q out-s out-t)
 
-    below : (rest : Names) (row : Row) → row_at t (source ++ rest) ≡ Some row → kind_at (moved t source target) (up (target ++ rest)) ≡ Some Container
+    below : (rest : Names) (row : NodeRow) → row_at t (source ++ rest) ≡ Some row → kind_at (moved t source target) (up (target ++ rest)) ≡ Some Container
     below [] row there =
         ap (λ p. kind_at (moved t source target) (up p)) (append-nil target)
         ∙ kind_other (up target) (way_outside source (up target) target (within_up target) can.apart) (up_outside target can.place.below_root)
         ∙ can.place.held
     below (n ∷ rest) row there =
         ap (kind_at (moved t source target)) (up-append target (n ∷ rest) refl)
-        ∙ ap (option_map (λ (r : Row). r.kind)) (row_at-moved_there t closed source target can.place.free (up (n ∷ rest)))
+        ∙ ap (option_map (λ (r : NodeRow). r.kind)) (row_at-moved_there t closed source target can.place.free (up (n ∷ rest)))
         ∙ ap (kind_at t) (sym (up-append source (n ∷ rest) refl))
         ∙ closed.parents (source ++ n ∷ rest) row there
 
-    held : (q : Names) (row : Row) → row_at (moved t source target) q ≡ Some row → kind_at (moved t source target) (up q) ≡ Some Container
+    held : (q : Names) (row : NodeRow) → row_at (moved t source target) q ≡ Some row → kind_at (moved t source target) (up q) ≡ Some Container
     held q row there = elim (cases_Bool (is_within target q)) [
       | inl inside ↦
           let found = within_rest target q inside in

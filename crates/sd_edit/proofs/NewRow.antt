@@ -8,7 +8,7 @@ use Rattle.sd_sid.specs.Mapping.{MappingValue}
 use Rattle.sd_path.specs.Names.{Names, names_cmp, up, is_root, is_within}
 use Rattle.sd_edit.specs.Inheritance.{dacl_of_row}
 use Rattle.sd_edit.specs.Plain.{PlainTree, row_at, dacl_here, dacl_at}
-use Rattle.sd_edit.specs.declared.node.Row.{Row}
+use Rattle.sd_edit.specs.declared.node.NodeRow.{NodeRow}
 use Rattle.sd_path.proofs.Paths.{names_cmp_total, root_is_empty, within_before, up_before}
 use Rattle.sd_edit.proofs.Dacls.{dacl_at_root, dacl_at_up, dacl_at_outside}
 use Rattle.sd_edit.proofs.Rows.{row_at-insert_same, row_at-insert_other}
@@ -31,14 +31,14 @@ up_outside path h = elim (cases_Bool (is_within path (up path))) [
   | inr outside ↦ outside
 ]
 
-pub whole_at_root : (g : MappingValue) (t : PlainTree) (path : Names) (row : Row) → is_root path ≡ true → dacl_of_row g row None ≡ dacl_at g (insert t path row) path
+pub whole_at_root : (g : MappingValue) (t : PlainTree) (path : Names) (row : NodeRow) → is_root path ≡ true → dacl_of_row g row None ≡ dacl_at g (insert t path row) path
 whole_at_root g t path row h =
     let empty = root_is_empty path h in
     let t' = insert t path row in
     ap (λ found. dacl_here g found None) (sym (row_at-insert_same t path row)) ∙ ap (λ p. dacl_here g (row_at t' p) None) empty
     ∙ sym (dacl_at_root g t') ∙ ap (dacl_at g t') (sym empty)
 
-pub whole_below : (g : MappingValue) (t : PlainTree) (path : Names) (row : Row) → is_root path ≡ false → dacl_of_row g row (dacl_at g t (up path)) ≡ dacl_at g (insert t path row) path
+pub whole_below : (g : MappingValue) (t : PlainTree) (path : Names) (row : NodeRow) → is_root path ≡ false → dacl_of_row g row (dacl_at g t (up path)) ≡ dacl_at g (insert t path row) path
 whole_below g t path row h =
     let t' = insert t path row in
     let above : dacl_at g t' (up path) ≡ dacl_at g t (up path) =

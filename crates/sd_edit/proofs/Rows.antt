@@ -11,7 +11,7 @@ use Rattle.std.proofs.lemmas.Bool.{cases_Bool, false_from_ne_true, false≢true}
 use Rattle.sd_path.specs.Names.{Names, names_cmp}
 use Rattle.sd_edit.specs.Plain.{PlainTree, row_at}
 use Rattle.sd_edit.specs.Edits.{changed_where, changed}
-use Rattle.sd_edit.specs.declared.node.Row.{Row}
+use Rattle.sd_edit.specs.declared.node.NodeRow.{NodeRow}
 use Rattle.sd_path.proofs.Paths.{names_cmp_total, names_cmp_antisymmetric}
 
 -- ---- one path or two
@@ -47,10 +47,10 @@ same_or_other p q = elim (cases_Bool (eq_by_cmp names_cmp p q)) [
 pub row_at-empty : (q : Names) → row_at map.empty q ≡ None
 row_at-empty q = get-empty names_cmp q
 
-pub row_at-insert_same : (t : PlainTree) (path : Names) (row : Row) → row_at (map.insert t path row) path ≡ Some row
+pub row_at-insert_same : (t : PlainTree) (path : Names) (row : NodeRow) → row_at (map.insert t path row) path ≡ Some row
 row_at-insert_same t path row = get-insert names_cmp_total t path row path ∙ ap (λ b. cond b (Some row) (row_at t path)) (path_itself path)
 
-pub row_at-insert_other : (t : PlainTree) (path q : Names) (row : Row) → q ≢ path → row_at (map.insert t path row) q ≡ row_at t q
+pub row_at-insert_other : (t : PlainTree) (path q : Names) (row : NodeRow) → q ≢ path → row_at (map.insert t path row) q ≡ row_at t q
 row_at-insert_other t path q row other =
     get-insert names_cmp_total t path row q ∙ ap (λ b. cond b (Some row) (row_at t q)) (other_path q path other)
 
@@ -62,18 +62,18 @@ row_at-remove_other t path q other = get-remove names_cmp_total t path q ∙ ap 
 
 -- ---- a node changed
 
-changed_where_same : (t : PlainTree) (path : Names) (change : Row → Row) (o : Option Row) → row_at t path ≡ o
+changed_where_same : (t : PlainTree) (path : Names) (change : NodeRow → NodeRow) (o : Option NodeRow) → row_at t path ≡ o
     → row_at (changed_where t path change o) path ≡ option_map change o
 changed_where_same t path change None e = e
 changed_where_same t path change (Some row) e = row_at-insert_same t path (change row)
 
-changed_where_other : (t : PlainTree) (path q : Names) (change : Row → Row) (o : Option Row) → q ≢ path
+changed_where_other : (t : PlainTree) (path q : Names) (change : NodeRow → NodeRow) (o : Option NodeRow) → q ≢ path
     → row_at (changed_where t path change o) q ≡ row_at t q
 changed_where_other t path q change None other = refl
 changed_where_other t path q change (Some row) other = row_at-insert_other t path q (change row) other
 
-pub row_at-changed_same : (t : PlainTree) (path : Names) (change : Row → Row) → row_at (changed t path change) path ≡ option_map change (row_at t path)
+pub row_at-changed_same : (t : PlainTree) (path : Names) (change : NodeRow → NodeRow) → row_at (changed t path change) path ≡ option_map change (row_at t path)
 row_at-changed_same t path change = changed_where_same t path change (row_at t path) refl
 
-pub row_at-changed_other : (t : PlainTree) (path q : Names) (change : Row → Row) → q ≢ path → row_at (changed t path change) q ≡ row_at t q
+pub row_at-changed_other : (t : PlainTree) (path q : Names) (change : NodeRow → NodeRow) → q ≢ path → row_at (changed t path change) q ≡ row_at t q
 row_at-changed_other t path q change other = changed_where_other t path q change (row_at t path) other

@@ -13,7 +13,7 @@ use Rattle.sd_inheritance.specs.Inheritance.{object_inherit, container_inherit, 
 use Rattle.sd_edit.specs.Inheritance.{handed_on, dacl_under, dacl_of_row}
 use Rattle.sd_edit.specs.Plain.{PlainTree, row_at, dacl_at, dacl_here, dacl_below}
 use Rattle.sd_edit.specs.Edits.{changed, ChangesOneNode}
-use Rattle.sd_edit.specs.declared.node.Row.{Row}
+use Rattle.sd_edit.specs.declared.node.NodeRow.{NodeRow}
 use Rattle.sd_inheritance.specs.declared.kind.NodeKind.{NodeKind}
 use Rattle.sd_inheritance.specs.declared.kind.NodeKind.TheVariants.{Container, Object}
 use Rattle.sd_edit.specs.declared.node.NodeDacl.{NodeDacl}
@@ -32,7 +32,7 @@ two_levels h object true false true one other waiting whole e k = ap (λ xs. xs 
 two_levels h object true false false one other waiting whole e k = refl
 two_levels h object false stops split one other waiting whole e k = refl
 
-module _ (g : MappingValue) (r : Row) (owner group other_owner other_group : SidValue) where
+module _ (g : MappingValue) (r : NodeRow) (owner group other_owner other_group : SidValue) where
   abbrev h : Ace → List Ace
   h = pass_on g r.kind r.owner r.group
 
@@ -58,11 +58,11 @@ module _ (g : MappingValue) (r : Row) (owner group other_owner other_group : Sid
 
 -- ---- so what a node hands on doesn't depend on its own
 
-module _ (g : MappingValue) (r : Row) (kind : NodeKind) (owner group other_owner other_group : SidValue) where
-  abbrev one : NodeDacl → Row
+module _ (g : MappingValue) (r : NodeRow) (kind : NodeKind) (owner group other_owner other_group : SidValue) where
+  abbrev one : NodeDacl → NodeRow
   one d = record { kind = kind; owner = owner; group = group; dacl = d }
 
-  abbrev other : NodeDacl → Row
+  abbrev other : NodeDacl → NodeRow
   other d = record { kind = kind; owner = other_owner; group = other_group; dacl = d }
 
   inherited_alike : (es : List Ace) (above : Option (List Ace))
@@ -81,14 +81,14 @@ module _ (g : MappingValue) (r : Row) (kind : NodeKind) (owner group other_owner
 
 -- ---- what stands below two DACLs that hand on the same
 
-under_alike : (g : MappingValue) (row : Row) (d : NodeDacl) (one other : Option (List Ace))
+under_alike : (g : MappingValue) (row : NodeRow) (d : NodeDacl) (one other : Option (List Ace))
     → handed_on g row one ≡ handed_on g row other → dacl_under g row d one ≡ dacl_under g row d other
 under_alike g row Null one other h = refl
 under_alike g row (Entries true es) one other h = refl
 under_alike g row (Entries false es) one other h = ap (λ xs. Some (es ++ xs)) h
 
-here_alike : (g : MappingValue) (o : Option Row) (one other : Option (List Ace))
-    → ((row : Row) → handed_on g row one ≡ handed_on g row other) → dacl_here g o one ≡ dacl_here g o other
+here_alike : (g : MappingValue) (o : Option NodeRow) (one other : Option (List Ace))
+    → ((row : NodeRow) → handed_on g row one ≡ handed_on g row other) → dacl_here g o one ≡ dacl_here g o other
 here_alike g None one other h = refl
 here_alike g (Some row) one other h = under_alike g row row.dacl one other (h row)
 
@@ -105,8 +105,8 @@ not_within_up (n ∷ path) h = elim (cases_Bool (is_within (n ∷ path) (up (n �
   | inr not_within ↦ not_within
 ]
 
-module _ (g : MappingValue) (t : PlainTree) (path : Names) (change : Row → Row)
-    (alike : (row r : Row) (above : Option (List Ace)) → handed_on g r (dacl_of_row g (change row) above) ≡ handed_on g r (dacl_of_row g row above)) where
+module _ (g : MappingValue) (t : PlainTree) (path : Names) (change : NodeRow → NodeRow)
+    (alike : (row r : NodeRow) (above : Option (List Ace)) → handed_on g r (dacl_of_row g (change row) above) ≡ handed_on g r (dacl_of_row g row above)) where
   abbrev u : PlainTree
   u = changed t path change
 
@@ -120,12 +120,12 @@ module _ (g : MappingValue) (t : PlainTree) (path : Names) (change : Row → Row
       ∙ dacl_at_outside g u t path (up (n ∷ p)) other_row (ap (λ q. is_within q (up (n ∷ p))) (sym is) ∙ not_within_up (n ∷ p) refl)
       ∙ ap (dacl_over g t) is
 
-  row_hands : (o : Option Row) (above : Option (List Ace)) (r : Row)
+  row_hands : (o : Option NodeRow) (above : Option (List Ace)) (r : NodeRow)
       → handed_on g r (dacl_here g (option_map change o) above) ≡ handed_on g r (dacl_here g o above)
   row_hands None above r = refl
   row_hands (Some row) above r = alike row r above
 
-  node_hands : (r : Row) → handed_on g r (dacl_at g u path) ≡ handed_on g r (dacl_at g t path)
+  node_hands : (r : NodeRow) → handed_on g r (dacl_at g u path) ≡ handed_on g r (dacl_at g t path)
   node_hands r =
       ap (handed_on g r) (dacl_at_here g u path ∙ ap₂ (λ o above. dacl_here g o above) (row_at-changed_same t path change) (over_alike path refl))
       ∙ row_hands (row_at t path) (dacl_over g t path) r

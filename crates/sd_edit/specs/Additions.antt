@@ -2,7 +2,7 @@
 use Rattle.std.specs.Prelude.{Bool, true, false, []}
 use Rattle.sd_path.specs.Names.{Names}
 use Rattle.sd_sid.specs.Sid.{SidValue}
-use Rattle.sd_edit.specs.declared.node.Row.{Row}
+use Rattle.sd_edit.specs.declared.node.NodeRow.{NodeRow}
 use Rattle.sd_inheritance.specs.declared.kind.NodeKind.{NodeKind}
 use Rattle.sd_inheritance.specs.declared.kind.NodeKind.TheVariants.{Container, Object}
 use Rattle.sd_edit.specs.declared.node.NodeDacl.TheVariants.{Null}
@@ -12,22 +12,22 @@ use Rattle.sd_edit.specs.declared.edit.Edit.TheVariants.{ProtectKeeping, Move}
 use Rattle.sd_edit.specs.declared.opening.RootSpec.{RootSpec}
 
 -- the edit that adds a node, which isn't the root
-abbrev pub addition_of : NodeKind → Names → Row → Edit
+abbrev pub addition_of : NodeKind → Names → NodeRow → Edit
 addition_of Container path row = AddContainer path row.owner row.group row.dacl
 addition_of Object path row = AddObject path row.owner row.group row.dacl
 
 -- a node of this kind with what a root has
-abbrev pub row_of : NodeKind → RootSpec → Row
+abbrev pub row_of : NodeKind → RootSpec → NodeRow
 row_of kind node = record { kind = kind; owner = node.owner; group = node.group; dacl = node.dacl }
 
 -- a root with what a node has
-abbrev pub root_of : Row → RootSpec
+abbrev pub root_of : NodeRow → RootSpec
 root_of row = record { owner = row.owner; group = row.group; dacl = row.dacl }
 
 -- an edit that adds a node, as contracts see it: the node's path and its row
 pub record AdditionValue : Type 0 where
   pub path : Names
-  pub row : Row
+  pub row : NodeRow
 
 abbrev pub is_addition : Edit → Bool
 is_addition (AddContainer path owner group dacl) = true

@@ -10,7 +10,7 @@ use Rattle.sd_edit.specs.Plain.{PlainTree, row_at, dacl_at}
 use Rattle.sd_edit.specs.Descriptors.{descriptor_of_row, own_descriptor_of_row}
 use Rattle.sd_edit.specs.Journal.{replay}
 use Rattle.sd_edit.specs.Refusals.{is_early}
-use Rattle.sd_edit.specs.declared.node.Row.{Row}
+use Rattle.sd_edit.specs.declared.node.NodeRow.{NodeRow}
 use Rattle.sd_inheritance.specs.declared.kind.NodeKind.{NodeKind}
 use Rattle.sd_edit.specs.declared.opening.Opening.{Opening}
 use Rattle.sd_edit.specs.declared.edit.Edit.{Edit}
@@ -22,18 +22,18 @@ use Rattle.sd_edit.specs.declared.refusal.EditRefusal.{EditRefusal}
 
 -- the kind of the node at a path, if there is one
 abbrev pub kind_at : PlainTree → Names → Option NodeKind
-kind_at t path = option_map (λ (row : Row). row.kind) (row_at t path)
+kind_at t path = option_map (λ (row : NodeRow). row.kind) (row_at t path)
 
 -- the descriptor of the node at a path, if there is one
 abbrev pub descriptor_at : MappingValue → PlainTree → Names → Option DescriptorValue
-descriptor_at g t path = option_map (λ (row : Row). descriptor_of_row row (dacl_at g t path)) (row_at t path)
+descriptor_at g t path = option_map (λ (row : NodeRow). descriptor_of_row row (dacl_at g t path)) (row_at t path)
 
 -- the kind of the node at a path, if there is one, and its descriptor without what it inherits
 abbrev pub given_at : PlainTree → Names → Option (NodeKind × DescriptorValue)
-given_at t path = option_map (λ (row : Row). (row.kind, own_descriptor_of_row row)) (row_at t path)
+given_at t path = option_map (λ (row : NodeRow). (row.kind, own_descriptor_of_row row)) (row_at t path)
 
 -- the reply to a check: the verdict for the node's owner and DACL
-abbrev pub reply_for : MappingValue → Option (List Ace) → TokenValue → ℕ → Option Row → CheckReply
+abbrev pub reply_for : MappingValue → Option (List Ace) → TokenValue → ℕ → Option NodeRow → CheckReply
 reply_for g dacl token asked None = NoNode
 reply_for g dacl token asked (Some row) = Verdict (verdict (Some row.owner) dacl g token asked)
 

@@ -6,7 +6,7 @@ use Rattle.sd_acl.specs.Dacl.{Dacl}
 use Rattle.sd_acl.specs.declared.descriptor.DaclOf.TheVariants.{Absent, Null, List as Entries}
 use Rattle.sd_edit.specs.declared.node.NodeDacl.{NodeDacl}
 use Rattle.sd_edit.specs.declared.node.NodeDacl.TheVariants as own
-use Rattle.sd_edit.specs.declared.node.Row.{Row}
+use Rattle.sd_edit.specs.declared.node.NodeRow.{NodeRow}
 
 -- control bit PD
 abbrev pub is_protected : NodeDacl → Bool
@@ -14,7 +14,7 @@ is_protected own.Null = false
 is_protected (own.List protected entries) = protected
 
 -- the descriptor of a node with this DACL: a list has the flag of automatic inheritance, a null one no flag
-abbrev pub descriptor_of_row : Row → Option (List Ace) → DescriptorValue
+abbrev pub descriptor_of_row : NodeRow → Option (List Ace) → DescriptorValue
 descriptor_of_row row None = record {
   owner = Some row.owner;
   group = Some row.group;
@@ -44,7 +44,7 @@ own_dacl protected Null = own.Null
 own_dacl protected (Entries entries) = own.List protected entries
 
 -- what was given to a node: its descriptor without what it inherits
-abbrev pub own_descriptor_of_row : Row → DescriptorValue
+abbrev pub own_descriptor_of_row : NodeRow → DescriptorValue
 own_descriptor_of_row row = record {
   owner = Some row.owner;
   group = Some row.group;

@@ -6,7 +6,7 @@ use Rattle.sd_acl.specs.Canonical.{canonical_order, explicit_entries}
 use Rattle.sd_acl.specs.declared.ace.Ace.{Ace}
 use Rattle.sd_path.specs.Names.{Names, is_within, moved_path}
 use Rattle.sd_edit.specs.Plain.{PlainTree, row_at, dacl_at}
-use Rattle.sd_edit.specs.declared.node.Row.{Row}
+use Rattle.sd_edit.specs.declared.node.NodeRow.{NodeRow}
 use Rattle.sd_inheritance.specs.declared.kind.NodeKind.TheVariants.{Container, Object}
 use Rattle.sd_edit.specs.declared.node.NodeDacl.{NodeDacl}
 use Rattle.sd_edit.specs.declared.node.NodeDacl.TheVariants.{List as Entries}
@@ -19,20 +19,20 @@ abbrev pub kept_dacl : List Ace → NodeDacl
 kept_dacl entries = Entries true (canonical_order (explicit_entries entries))
 
 -- the node, protected, keeps what it had inherited; a null DACL stays
-abbrev pub keeping : Option (List Ace) → Row → Row
+abbrev pub keeping : Option (List Ace) → NodeRow → NodeRow
 keeping None row = row
 keeping (Some entries) row = record row { dacl = kept_dacl entries }
 
 -- the node at the path is changed, where there is one
-abbrev pub changed_where : PlainTree → Names → (Row → Row) → Option Row → PlainTree
+abbrev pub changed_where : PlainTree → Names → (NodeRow → NodeRow) → Option NodeRow → PlainTree
 changed_where t path change None = t
 changed_where t path change (Some row) = finite.insert t path (change row)
 
-abbrev pub changed : PlainTree → Names → (Row → Row) → PlainTree
+abbrev pub changed : PlainTree → Names → (NodeRow → NodeRow) → PlainTree
 changed t path change = changed_where t path change (row_at t path)
 
 -- what stands at the source and below it goes below the target, with its kind, its owner, its group and its own DACL
-abbrev pub moved_entry : Names → Names → Names × Row → Names × Row
+abbrev pub moved_entry : Names → Names → Names × NodeRow → Names × NodeRow
 moved_entry source target entry = (moved_path source target entry.0, entry.1)
 
 unfoldable pub moved : PlainTree → Names → Names → PlainTree

@@ -6,7 +6,7 @@ use Rattle.sd_edit.specs.Limits.{LimitsValue, standard_limits}
 use Rattle.sd_edit.specs.Plain.{PlainTree}
 use Rattle.sd_edit.specs.Edits.{edited}
 use Rattle.sd_edit.specs.Refusals.{first_fit, list_tests, has_large_dacl, refusal_in}
-use Rattle.sd_edit.specs.declared.node.Row.{Row}
+use Rattle.sd_edit.specs.declared.node.NodeRow.{NodeRow}
 use Rattle.sd_inheritance.specs.declared.kind.NodeKind.TheVariants.{Container}
 use Rattle.sd_edit.specs.declared.opening.Opening.{Opening}
 use Rattle.sd_edit.specs.declared.opening.RootSpec.{RootSpec}
@@ -23,7 +23,7 @@ abbrev pub opening_of : MappingValue → RootSpec → Opening
 opening_of mapping root = opening_within mapping root standard_limits
 
 -- the root is a container
-abbrev pub root_row : RootSpec → Row
+abbrev pub root_row : RootSpec → NodeRow
 root_row root = record { kind = Container; owner = root.owner; group = root.group; dacl = root.dacl }
 
 -- the tree of the root alone

@@ -6,16 +6,16 @@ use Rattle.sd_sid.specs.Mapping.{MappingValue}
 use Rattle.sd_acl.specs.declared.ace.Ace.{Ace}
 use Rattle.sd_path.specs.Names.{Names, names_cmp}
 use Rattle.sd_edit.specs.Inheritance.{dacl_of_row}
-use Rattle.sd_edit.specs.declared.node.Row.{Row}
+use Rattle.sd_edit.specs.declared.node.NodeRow.{NodeRow}
 
 abbrev pub PlainTree : Type 0
-PlainTree = FinMap names_cmp Row
+PlainTree = FinMap names_cmp NodeRow
 
-abbrev pub row_at : PlainTree → Names → Option Row
+abbrev pub row_at : PlainTree → Names → Option NodeRow
 row_at t path = map.get t path
 
 -- the DACL of what stands at a path, below a parent with this DACL; None where nothing stands there
-abbrev pub dacl_here : MappingValue → Option Row → Option (List Ace) → Option (List Ace)
+abbrev pub dacl_here : MappingValue → Option NodeRow → Option (List Ace) → Option (List Ace)
 dacl_here g None above = None
 dacl_here g (Some row) above = dacl_of_row g row above
 

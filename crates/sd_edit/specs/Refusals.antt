@@ -13,7 +13,7 @@ use Rattle.sd_path.specs.Names.{Names, names_cmp, up, is_root, is_within, moved_
 use Rattle.sd_edit.specs.Limits.{LimitsValue}
 use Rattle.sd_edit.specs.Plain.{PlainTree, row_at, dacl_at}
 use Rattle.sd_edit.specs.Edits.{edited}
-use Rattle.sd_edit.specs.declared.node.Row.{Row}
+use Rattle.sd_edit.specs.declared.node.NodeRow.{NodeRow}
 use Rattle.sd_inheritance.specs.declared.kind.NodeKind.{NodeKind}
 use Rattle.sd_inheritance.specs.declared.kind.NodeKind.TheVariants.{Container, Object}
 use Rattle.sd_edit.specs.declared.node.NodeDacl.{NodeDacl}
@@ -49,7 +49,7 @@ abbrev pub is_object_kind : NodeKind → Bool
 is_object_kind Container = false
 is_object_kind Object = true
 
-abbrev pub is_object : Option Row → Bool
+abbrev pub is_object : Option NodeRow → Bool
 is_object None = false
 is_object (Some row) = is_object_kind row.kind
 

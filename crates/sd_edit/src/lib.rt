@@ -21,7 +21,7 @@ mod start;
 pub use edit::Edit;
 pub use entries::{Entries, same_entries};
 pub use limits::{Limits, LimitsError};
-pub use node::{NodeDacl, Row};
+pub use node::{NodeDacl, NodeRow};
 pub use opening::{Opening, RootSpec};
 pub use refusal::{EditRefusal, TreeError};
 pub use reply::{Answer, CheckReply};

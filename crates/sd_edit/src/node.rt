@@ -52,7 +52,7 @@ impl NodeDacl {
 
 /// A node without its path and without what it inherits.
 #[derive(Debug, Drop)]
-pub struct Row {
+pub struct NodeRow {
     pub kind: NodeKind,
     pub owner: Sid,
     pub group: Sid,

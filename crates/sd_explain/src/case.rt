@@ -161,7 +161,7 @@ impl Case<'_> {
         let mut second = [Finding::NoEntry; 32];
         self.find(Pass::First, rights, &mut first);
         // (of no bit for a token that isn't restricted)
-        let again = rights.when(self.question.token.is_restricted());
+        let again = rights.only_if(self.question.token.is_restricted());
         self.find(Pass::Second, again, &mut second);
         let wanted = self.question.wanted();
         let given = self.question.implied(self.dacl);

@@ -122,7 +122,7 @@ impl Explanation {
     {
         let mut bits = Mask(0);
         for place in 0..end {
-            bits = bits.union(Mask(1 << place).when(self.is_of(share, place)));
+            bits = bits.union(Mask(1 << place).only_if(self.is_of(share, place)));
         }
         bits
     }
@@ -146,9 +146,9 @@ impl Explanation {
         for place in 0..PLACES {
             if let Some(reason) = self.reasons[place as usize] {
                 let bit = Mask(1 << place);
-                reserved = reserved.union(bit.when(reason.belongs(Share::Reserved)));
-                missing = missing.union(bit.when(reason.belongs(Share::Missing)));
-                granted = granted.union(bit.when(reason.belongs(Share::Granted)));
+                reserved = reserved.union(bit.only_if(reason.belongs(Share::Reserved)));
+                missing = missing.union(bit.only_if(reason.belongs(Share::Missing)));
+                granted = granted.union(bit.only_if(reason.belongs(Share::Granted)));
             }
         }
         if !reserved.is_empty() {

@@ -25,7 +25,7 @@ impl<T> Model for Front<T> {
 
 impl<T> Front<T> {
     /// A copy.
-    pub fn again(&self) -> Front<T>
+    pub fn copy(&self) -> Front<T>
         ensures { result ≡ self.now }
     {
         Front {

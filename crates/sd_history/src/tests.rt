@@ -71,7 +71,7 @@ fn is_shared<J: Chain + Send + Sync, R: Threads + Abort + Sync>(
             ensures { result.0 ≡ early }
         {
             let is_written = is_set_soon(&written);
-            (early.again(), is_written)
+            (early.copy(), is_written)
         },
     );
     late.meet(&copy.0);

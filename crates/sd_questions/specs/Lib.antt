@@ -1,4 +1,4 @@
-pub mod Answer
+pub mod TextAnswer
 pub mod Each
 pub mod Input
 pub mod Output

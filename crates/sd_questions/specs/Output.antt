@@ -5,14 +5,14 @@ use Rattle.sd_lines.specs.Answers.{Prints}
 use Rattle.sd_lines.specs.Output.{LeavesAnswers}
 use Rattle.sd_lines.specs.declared.error.RunError.{RunError}
 use Rattle.sd_usage.specs.declared.row.OptionName.TheVariants.{Json}
-use Rattle.sd_commands.specs.Answer.{AnswerValue, outcome_status}
-use Rattle.sd_commands.specs.declared.answer.Outcome.{Outcome}
+use Rattle.sd_commands.specs.CommandAnswer.{AnswerValue, outcome_status}
+use Rattle.sd_commands.specs.declared.command_answer.Outcome.{Outcome}
 use Rattle.sd_commands.specs.declared.settings.Settings.{Settings}
 use Rattle.sd_arguments.specs.CommandLine.{RequestValue}
 use Rattle.sd_arguments.specs.Options.{GivesSettings, OptionsValue, has}
 use Rattle.sd_arguments.specs.declared.flags.GivenFlags.{GivenFlags}
 use Rattle.sd_arguments.specs.declared.options.BadValue.{BadValue}
-use Rattle.sd_questions.specs.Answer.{AnswersNext, form_of}
+use Rattle.sd_questions.specs.TextAnswer.{AnswersNext, form_of}
 
 -- known bytes grow by a whole answer; this is told beside it, and it ends with this status: that of a fault is one of
 -- its own where `is_strict`

@@ -1,12 +1,12 @@
 //! An answer, and after what standard error is told otherwise the advice on it.
 ghost use Rattle.std.specs.Prelude.{◌≡◌, ◌++◌, IfOk, string_bytes};
-ghost use Rattle.sd_commands.specs.Answer.{answer_of};
-ghost use Rattle.sd_questions.specs.Answer.{Advising, AnswersText};
+ghost use Rattle.sd_commands.specs.CommandAnswer.{answer_of};
+ghost use Rattle.sd_questions.specs.TextAnswer.{Advising, AnswersText};
 ghost use Rattle.sd_arguments.specs.CommandLine.{request_of};
 
 use crate::found::{found_in_descriptor, found_in_mask, found_in_user, found_in_word};
 use crate::notes::notes_on;
-use crate::remedies::{CHILDREN, EACH, HEX, LABELS, Row, row_line};
+use crate::remedies::{CHILDREN, EACH, HEX, LABELS, RemedyRow, row_line};
 use crate::spoken::answer_text;
 use sd_answer::{TokenError, read_base, read_mask_in, read_sddl_argument, read_token};
 use sd_arguments::{Options, TextRequest};
@@ -130,7 +130,7 @@ fn remedy(
     }
 }
 
-fn descriptor_row(alloc: Global, settings: &Settings, text: &str) -> Option<Row> {
+fn descriptor_row(alloc: Global, settings: &Settings, text: &str) -> Option<RemedyRow> {
     match read_sddl_argument(alloc, settings.aliases, settings.without_sacl, text) {
         Err(TextError::Fault { fault, place }) => found_in_descriptor(text, fault, place),
         _ => None,
@@ -138,7 +138,7 @@ fn descriptor_row(alloc: Global, settings: &Settings, text: &str) -> Option<Row>
 }
 
 /// The row of advice for a text in which a byte is no hexadecimal digit.
-fn hex_row(form: ByteForm, text: &str) -> Option<Row> {
+fn hex_row(form: ByteForm, text: &str) -> Option<RemedyRow> {
     if form == ByteForm::Hex && text.bytes().any(|byte| !byte.is_ascii_hexdigit()) {
         Some(HEX)
     } else {
@@ -152,7 +152,7 @@ fn argument_row(
     settings: &Settings,
     question: DescriptorCommand,
     arguments: &[&str],
-) -> Option<Row> {
+) -> Option<RemedyRow> {
     match (question, arguments) {
         (DescriptorCommand::Verdict | DescriptorCommand::Why, [user, mask, words @ ..]) => {
             let Ok(sid) = read_sid_text_in(settings.aliases, user) else {
@@ -183,14 +183,14 @@ fn argument_row(
     }
 }
 
-fn group_row(alloc: Global, settings: &Settings, words: &[&str]) -> Option<Row> {
+fn group_row(alloc: Global, settings: &Settings, words: &[&str]) -> Option<RemedyRow> {
     match read_base(alloc, settings.aliases, words) {
         Err(TokenError::NoWord { place }) => word_row(settings, words, place),
         _ => None,
     }
 }
 
-fn word_row(settings: &Settings, words: &[&str], place: usize) -> Option<Row> {
+fn word_row(settings: &Settings, words: &[&str], place: usize) -> Option<RemedyRow> {
     let word = words.get(place)?;
     found_in_word(settings.aliases, word)
 }

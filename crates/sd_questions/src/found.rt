@@ -6,7 +6,7 @@ use sd_commands::Settings;
 use sd_text::{Aliases, TextError, TextFault, read_mask, read_sid_text_in};
 
 /// What was found in a descriptor's text whose first fault is at this byte.
-pub(crate) fn found_in_descriptor(text: &str, fault: TextFault, place: u64) -> Option<Row> {
+pub(crate) fn found_in_descriptor(text: &str, fault: TextFault, place: u64) -> Option<RemedyRow> {
     let bytes = text.as_bytes();
     let (before, after) = bytes.split_at(bytes.len().min(place as usize));
     match fault {
@@ -31,7 +31,7 @@ pub(crate) fn found_in_descriptor(text: &str, fault: TextFault, place: u64) -> O
 }
 
 /// The row of advice for an alias that is none, or a domain's.
-fn alias_row(fault: TextFault, after: &[u8]) -> Option<Row> {
+fn alias_row(fault: TextFault, after: &[u8]) -> Option<RemedyRow> {
     match (fault, after) {
         (TextFault::DomainAlias, _) => Some(DOMAIN_ALIAS),
         (TextFault::UnknownAlias, [first, second, ..]) => {
@@ -65,7 +65,7 @@ fn is_newer(alias: [u8; 2]) -> bool {
 }
 
 /// The row of advice for a sign that is part of nothing.
-fn sign_row(after: &[u8]) -> Option<Row> {
+fn sign_row(after: &[u8]) -> Option<RemedyRow> {
     match after {
         [b'"' | b'\'', ..] => Some(QUOTE),
         [b' ', ..] => Some(SPACE),
@@ -79,7 +79,7 @@ fn sign_row(after: &[u8]) -> Option<Row> {
 }
 
 /// The row of advice for a text that begins with no section.
-fn start_row(text: &[u8]) -> Row {
+fn start_row(text: &[u8]) -> RemedyRow {
     match text {
         [b'-', ..] => OPTION,
         [b'(', ..] => ENTRY,
@@ -91,7 +91,7 @@ fn start_row(text: &[u8]) -> Row {
 }
 
 /// The row of advice for an entry that goes on otherwise than entries do.
-fn entry_row(before: &[u8], after: &[u8]) -> Option<Row> {
+fn entry_row(before: &[u8], after: &[u8]) -> Option<RemedyRow> {
     match (fields_before(before), after) {
         (_, []) => Some(END),
         (1, _) => Some(FLAGS),
@@ -127,7 +127,7 @@ fn fields_after(after: &[u8]) -> usize {
 }
 
 /// What was found in place of USER.
-pub(crate) fn found_in_user(known: Aliases, text: &str) -> Option<Row> {
+pub(crate) fn found_in_user(known: Aliases, text: &str) -> Option<RemedyRow> {
     match (text.as_bytes(), read_mask(text)) {
         (
             [
@@ -143,7 +143,7 @@ pub(crate) fn found_in_user(known: Aliases, text: &str) -> Option<Row> {
 }
 
 /// What was found in place of a SID.
-fn found_in_sid(known: Aliases, text: &str) -> Option<Row> {
+fn found_in_sid(known: Aliases, text: &str) -> Option<RemedyRow> {
     let bytes = text.as_bytes();
     match read_sid_text_in(known, text) {
         Err(
@@ -169,7 +169,7 @@ fn found_in_sid(known: Aliases, text: &str) -> Option<Row> {
 }
 
 /// What was found in place of MASK.
-pub(crate) fn found_in_mask(settings: &Settings, text: &str) -> Option<Row> {
+pub(crate) fn found_in_mask(settings: &Settings, text: &str) -> Option<RemedyRow> {
     let is_sid = read_sid_text_in(settings.aliases, text).is_ok();
     match read_mask_in(settings.spelling, text) {
         Err(TextError::Fault { .. }) if is_sid => Some(SID_AS_MASK),
@@ -188,7 +188,7 @@ pub(crate) fn found_in_mask(settings: &Settings, text: &str) -> Option<Row> {
 }
 
 /// What was found in place of a WORD.
-pub(crate) fn found_in_word(known: Aliases, text: &str) -> Option<Row> {
+pub(crate) fn found_in_word(known: Aliases, text: &str) -> Option<RemedyRow> {
     let bytes = text.as_bytes();
     match bytes {
         [b'+', ..] => Some(PRIVILEGE),

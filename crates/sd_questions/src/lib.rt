@@ -11,13 +11,13 @@
 #![tactic(auto)]
 
 mod advised;
-mod answer;
 mod each;
 mod found;
 mod input;
 mod notes;
 mod remedies;
 mod spoken;
+mod text_answer;
 
-pub use answer::{answer_to, bad_value};
 pub use each::{Ended, answer_each};
+pub use text_answer::{answer_to, bad_value};

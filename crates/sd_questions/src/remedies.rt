@@ -4,167 +4,171 @@
 use std::alloc::{AllocError, Global};
 
 /// What was found, what was expected, and what mends it.
-pub(crate) type Row = (&'static str, &'static str, &'static str);
+pub(crate) type RemedyRow = (&'static str, &'static str, &'static str);
 
-pub(crate) const OPTION: Row = (
+pub(crate) const OPTION: RemedyRow = (
     "an option",
     "a descriptor",
     "options stand before the command",
 );
 
-pub(crate) const SID_FIRST: Row = (
+pub(crate) const SID_FIRST: RemedyRow = (
     "a SID",
     "a descriptor",
     "SDDL comes first, then USER and MASK",
 );
 
-pub(crate) const ENTRY: Row = ("an entry", "a section", "write D: before it");
+pub(crate) const ENTRY: RemedyRow = ("an entry", "a section", "write D: before it");
 
-pub(crate) const OPEN_ENTRY: Row = ("an entry without parentheses", "a section", "write D:(..)");
+pub(crate) const OPEN_ENTRY: RemedyRow = (
+    "an entry without parentheses",
+    "a section",
+    "write D:(..)",
+);
 
-pub(crate) const FILE: Row = (
+pub(crate) const FILE: RemedyRow = (
     "a file's name",
     "a descriptor",
     "write --stdin before the command, and <FILE at the end",
 );
 
-pub(crate) const NO_SECTION: Row = (
+pub(crate) const NO_SECTION: RemedyRow = (
     "another text",
     "a descriptor",
     "it begins with O:, G:, D: or S:",
 );
 
-pub(crate) const QUOTE: Row = (
+pub(crate) const QUOTE: RemedyRow = (
     "a quotation mark",
     "a descriptor",
     "quotation marks are part of the text: leave them out",
 );
 
-pub(crate) const SPACE: Row = ("a space", "none", "leave it out");
+pub(crate) const SPACE: RemedyRow = ("a space", "none", "leave it out");
 
-pub(crate) const TAB: Row = ("a tab", "none", "leave it out");
+pub(crate) const TAB: RemedyRow = ("a tab", "none", "leave it out");
 
-pub(crate) const FEED: Row = (
+pub(crate) const FEED: RemedyRow = (
     "a line feed",
     "none",
     "leave it out, or write --stdin before the command, which drops one at the end",
 );
 
-pub(crate) const RETURN: Row = (
+pub(crate) const RETURN: RemedyRow = (
     "a carriage return",
     "none",
     "leave it out, or write --stdin, which drops the line's end",
 );
 
-pub(crate) const COMMA: Row = ("a comma", "none", "leave it out");
+pub(crate) const COMMA: RemedyRow = ("a comma", "none", "leave it out");
 
-pub(crate) const JOINED: Row = (
+pub(crate) const JOINED: RemedyRow = (
     "a sign",
     "the next letters",
     "flags and rights are joined without a sign, as OICI and FRFW",
 );
 
-pub(crate) const END: Row = (
+pub(crate) const END: RemedyRow = (
     "the end",
     "the rest of an entry",
     "an entry ends with a parenthesis, as (A;;FR;;;WD)",
 );
 
-pub(crate) const FLAGS: Row = (
+pub(crate) const FLAGS: RemedyRow = (
     "another text",
     "flags",
     "flags are OI, CI, NP, IO and ID; rights are the third field, as (A;;FR;;;WD)",
 );
 
-pub(crate) const FIELDS: Row = (
+pub(crate) const FIELDS: RemedyRow = (
     "fewer fields",
     "six fields",
     "an entry is KIND;FLAGS;RIGHTS;;;SID, as (A;;FR;;;WD)",
 );
 
-pub(crate) const SACL: Row = (
+pub(crate) const SACL: RemedyRow = (
     "a SACL",
     "the end",
     "write --without-sacl before the command",
 );
 
-pub(crate) const OTHER_ENTRY: Row = (
+pub(crate) const OTHER_ENTRY: RemedyRow = (
     "another kind of entry",
     "A or D",
     "docs/FORMATS.md says what to write instead",
 );
 
-pub(crate) const DOMAIN_ALIAS: Row = (
+pub(crate) const DOMAIN_ALIAS: RemedyRow = (
     "a domain's alias",
     "a domain",
     "write --domain S-1-5-21-.. before the command",
 );
 
-pub(crate) const NEWER_ALIAS: Row = (
+pub(crate) const NEWER_ALIAS: RemedyRow = (
     "an alias of newer Windows versions",
     "another",
     "write --aliases before the command",
 );
 
-pub(crate) const NO_ALIAS: Row = ("no alias", "a SID", "docs/FORMATS.md lists the aliases");
+pub(crate) const NO_ALIAS: RemedyRow = ("no alias", "a SID", "docs/FORMATS.md lists the aliases");
 
-pub(crate) const RANGE: Row = (
+pub(crate) const RANGE: RemedyRow = (
     "too large a number",
     "32 bits",
     "a SID has at most 15 sub-authorities, and a mask is at most 0xffffffff",
 );
 
-pub(crate) const DESCRIPTOR: Row = (
+pub(crate) const DESCRIPTOR: RemedyRow = (
     "a descriptor",
     "a SID",
     "SDDL comes first, then USER and MASK",
 );
 
-pub(crate) const RIGHTS_AS_USER: Row = ("rights", "a SID", "USER comes before MASK");
+pub(crate) const RIGHTS_AS_USER: RemedyRow = ("rights", "a SID", "USER comes before MASK");
 
-pub(crate) const NAME: Row = (
+pub(crate) const NAME: RemedyRow = (
     "a name",
     "a SID",
     "write the SID, as whoami /user and whoami /groups print it",
 );
 
-pub(crate) const SID_AS_MASK: Row = (
+pub(crate) const SID_AS_MASK: RemedyRow = (
     "a SID",
     "rights",
     "USER comes before MASK, and groups come after it",
 );
 
-pub(crate) const NAMES: Row = (
+pub(crate) const NAMES: RemedyRow = (
     "a name",
     "a number or letters as FR",
     "write --names before the command for names, as Modify or MAXIMUM_ALLOWED",
 );
 
-pub(crate) const NO_NAME: Row = (
+pub(crate) const NO_NAME: RemedyRow = (
     "no name",
     "names of rights",
     "they are written as Modify, Read or FR+WD: sdstore --names rights 0x1f01ff",
 );
 
-pub(crate) const PRIVILEGE: Row = (
+pub(crate) const PRIVILEGE: RemedyRow = (
     "another privilege",
     "+security or +take",
     "other privileges grant nothing here",
 );
 
-pub(crate) const STATE: Row = (
+pub(crate) const STATE: RemedyRow = (
     "another state",
     "SID, SID=deny, SID=off or SID=restrict",
     "write one of these",
 );
 
-pub(crate) const HEX: Row = (
+pub(crate) const HEX: RemedyRow = (
     "no hexadecimal",
     "two digits a byte",
     "write --base64 or --loose before the command for other forms",
 );
 
-pub(crate) const EACH: Row = (
+pub(crate) const EACH: RemedyRow = (
     "a descriptor",
     "an argument after it",
     "each takes the descriptor from the line: leave it out",
@@ -178,7 +182,7 @@ pub(crate) const CHILDREN: &str =
     "what is made in a container isn't looked at: entries with OI or CI may count there (compare looks at it)";
 
 /// The line that says a row. The only error is out of memory.
-pub(crate) fn row_line(alloc: Global, row: Row) -> Result<String, AllocError> {
+pub(crate) fn row_line(alloc: Global, row: RemedyRow) -> Result<String, AllocError> {
     let (found, expected, remedy) = row;
     format!(in alloc; "found {found}, expected {expected}: {remedy}\n")
 }

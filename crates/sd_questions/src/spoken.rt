@@ -1,7 +1,7 @@
 //! The answer of a command to a text, where what is asked can be answered at all.
 ghost use Rattle.std.specs.Prelude.{◌≡◌, ◌==◌, ◌&&◌, IfOk, length, option_map};
-ghost use Rattle.sd_commands.specs.Answer.{answer_of, argument};
-ghost use Rattle.sd_questions.specs.Answer.{AnswersText, IsSaid, asks_who, blank_name};
+ghost use Rattle.sd_commands.specs.CommandAnswer.{answer_of, argument};
+ghost use Rattle.sd_questions.specs.TextAnswer.{AnswersText, IsSaid, asks_who, blank_name};
 ghost use Rattle.sd_arguments.specs.CommandLine.{request_of};
 
 use crate::input::is_blank;

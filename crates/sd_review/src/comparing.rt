@@ -13,7 +13,7 @@ use crate::compared::Compared;
 use crate::equality::is_alike;
 use sd_acl::Descriptor;
 use sd_analysis::{Base, Comparison, DescriptorRef, compare};
-use sd_answer::{Spelling, gains_and_losses, looked_at};
+use sd_answer::{Spelling, descriptor_ref, gains_and_losses};
 use sd_sid::GenericMapping;
 use std::alloc::{AllocError, Global};
 
@@ -84,8 +84,8 @@ fn comparison_of(
         });
     }
     let base = Base { groups: &[] };
-    let old = looked_at(before);
-    let new = looked_at(after);
+    let old = descriptor_ref(before);
+    let new = descriptor_ref(after);
     compare(alloc, &old, &new, mapping, &base)
 }
 
@@ -95,8 +95,8 @@ impl Compared {
     pub fn lines(&self, alloc: Global, spelling: Spelling, head: &str) -> Result<String, AllocError>
         ensures { IfOk result (λ text. string_bytes text ≡ lines spelling head.now self.now) }
     {
-        let old = looked_at(&self.before);
-        let new = looked_at(&self.after);
+        let old = descriptor_ref(&self.before);
+        let new = descriptor_ref(&self.after);
         let text = lines_between(alloc, spelling, head, &old, &new, &self.comparison)?;
         Ok(text)
     }

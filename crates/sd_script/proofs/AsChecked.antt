@@ -9,15 +9,15 @@ use Rattle.sd_edit.specs.Descriptors.{descriptor_of_row}
 use Rattle.sd_edit.specs.Journal.{replay}
 use Rattle.sd_path.specs.Names.{Names}
 use Rattle.sd_edit.specs.Plain.{dacl_at, row_at}
-use Rattle.sd_edit.specs.declared.node.Row.{Row}
+use Rattle.sd_edit.specs.declared.node.NodeRow.{NodeRow}
 use Rattle.sd_edit.specs.Machine.{Machine}
 use Rattle.sd_edit.specs.declared.request.Request.TheVariants as requests
-use Rattle.sd_answer.specs.Answer.{line, spelled}
+use Rattle.sd_answer.specs.VerdictLine.{line, spelled}
 use Rattle.sd_script.specs.Laws.{BeginsAsCheck, DeletesAsChecked, IsGranted, by_node_line}
 use Rattle.sd_script.specs.Question.{outcome_of}
 use Rattle.sd_script.specs.Reply.{check_line, node_why_text, seen_line}
-use Rattle.sd_answer.specs.declared.answer.Spelling.{Spelling}
-use Rattle.sd_script.specs.declared.manner.Notation.{Notation}
+use Rattle.sd_answer.specs.declared.verdict_line.Spelling.{Spelling}
+use Rattle.sd_script.specs.declared.script_options.Notation.{Notation}
 use Rattle.sd_script.specs.declared.question.NodeQuestion.TheVariants.{Why, Delete}
 use Rattle.sd_script.specs.declared.session.Session.TheVariants.{Opened}
 use Rattle.sd_script.proofs.OneOutput.{by_reader, one_step, outcome}
@@ -35,8 +35,8 @@ abbrev Begins : List ℕ → List ℕ → Type 0
 Begins text whole = (rest : List ℕ) × (whole ≡ text ++ rest)
 
 -- of a node, or of none
-node_begins : (spelling : Spelling) (g : MappingValue) (dacl : Option (List Ace)) (row : Option Row) (t : TokenValue) (asked : ℕ)
-    → Begins (check_line spelling (reply_for g dacl t asked row)) (node_why_text spelling g t asked (option_map (λ (r : Row). descriptor_of_row r dacl) row))
+node_begins : (spelling : Spelling) (g : MappingValue) (dacl : Option (List Ace)) (row : Option NodeRow) (t : TokenValue) (asked : ℕ)
+    → Begins (check_line spelling (reply_for g dacl t asked row)) (node_why_text spelling g t asked (option_map (λ (r : NodeRow). descriptor_of_row r dacl) row))
 node_begins spelling g dacl None t asked = ([], sym (append-nil (line (codes "nonode"))))
 node_begins spelling g None (Some row) t asked = (_, refl)
 node_begins spelling g (Some es) (Some row) t asked = (_, refl)

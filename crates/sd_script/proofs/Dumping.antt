@@ -15,14 +15,14 @@ use Rattle.std.proofs.lemmas.Bool.Decides.{nat_tests}
 use Rattle.std.proofs.lemmas.Option.{get_or_from_slice_get, slice_get_cases, slice_get_within}
 use Rattle.sd_path.specs.Names.{Names, names_cmp}
 use Rattle.sd_edit.specs.Plain.{PlainTree, row_at}
-use Rattle.sd_edit.specs.declared.node.Row.{Row}
+use Rattle.sd_edit.specs.declared.node.NodeRow.{NodeRow}
 use Rattle.sd_edit.proofs.Moved.{entry_there}
 use Rattle.sd_edit.proofs.Rows.{one_path, path_itself}
 use Rattle.sd_script.specs.Dump.{making, makings, wanted, IsAskedBy, AreAskedBy}
 use Rattle.sd_edit.specs.declared.request.Request.TheVariants.{Publish}
-use Rattle.sd_script.specs.declared.asked.Asked.{Asked}
-use Rattle.sd_script.specs.declared.asked.Asked.TheVariants.{Asking}
-use Rattle.sd_script.specs.declared.manner.Notation.{Notation}
+use Rattle.sd_script.specs.declared.line_request.LineRequest.{LineRequest}
+use Rattle.sd_script.specs.declared.line_request.LineRequest.TheVariants.{Asking}
+use Rattle.sd_script.specs.declared.script_options.Notation.{Notation}
 
 -- the order of paths tells whether they are one
 pub path_decides : (p q : Names) (r : Bool) → r ≡ eq_by_cmp names_cmp p q → Decides r (p ≡ q)
@@ -47,10 +47,10 @@ nothing_left t k n count past =
     let size = len-entries t in drop_of_length-le (entries t) (omega (arith, size, count, past))
 
 -- the node of an entry stands at its path
-pub stands_there : (t : PlainTree) (k : ℕ) (node : Names × Row) → Some node ≡ slice_get (entries t) k → row_at t node.0 ≡ Some node.1
+pub stands_there : (t : PlainTree) (k : ℕ) (node : Names × NodeRow) → Some node ≡ slice_get (entries t) k → row_at t node.0 ≡ Some node.1
 stands_there t k node is =
     let low = slice_get_within (entries t) k node (sym is) in
-    subst (λ (e : Names × Row). row_at t e.0 ≡ Some e.1) (get_or_from_slice_get (entries t) k node node (sym is)) (entry_there t k node low)
+    subst (λ (e : Names × NodeRow). row_at t e.0 ≡ Some e.1) (get_or_from_slice_get (entries t) k node node (sym is)) (entry_there t k node low)
 
 -- the piece of one more node
 pub piece_more : {A : Type 0} (f : A → List ℕ) (es : List A) (k : ℕ) (x : A) (text piece grown whole : List ℕ) → Some x ≡ slice_get es k
@@ -58,7 +58,7 @@ pub piece_more : {A : Type 0} (f : A → List ℕ) (es : List A) (k : ℕ) (x : 
 piece_more f es k x text piece grown whole at is more so_far =
     rw (more, is) (append_assoc text (f x) (flat_map f (drop (k + 1) es)) ∙ ap (λ xs. text ++ flat_map f xs) (sym (next_left es k x at)) ∙ so_far)
 
-pub none_left : (f : Names × Row → List ℕ) (t : PlainTree) (k n : ℕ) (text whole : List ℕ) → n ≡ len t → n ≤ k
+pub none_left : (f : Names × NodeRow → List ℕ) (t : PlainTree) (k n : ℕ) (text whole : List ℕ) → n ≡ len t → n ≤ k
     → text ++ flat_map f (drop k (entries t)) ≡ whole → text ≡ whole
 none_left f t k n text whole count past so_far =
     sym (append-nil text) ∙ ap (λ es. text ++ flat_map f es) (sym (nothing_left t k n count past)) ∙ so_far
@@ -75,18 +75,18 @@ no_lines : (text : List ℕ) → lines text ≡ [] → text ≡ []
 no_lines text none = sym (join_with_byte-slice_split 10 text) ∙ no_parts (slice_split (λ b. b == 10) text) none
 
 -- what is left to be asked for after so many lines: the nodes that are left, and the publish
-abbrev pub left : ℕ → List (Names × Row) → ℕ → List Asked
+abbrev pub left : ℕ → List (Names × NodeRow) → ℕ → List LineRequest
 left readers es k = drop k (makings readers es ++ Asking Publish ∷ [])
 
-next_wanted : (readers : ℕ) (es : List (Names × Row)) (k : ℕ) → k ≤ length es → left readers es k ≡ wanted readers (slice_get es k) ∷ left readers es (k + 1)
+next_wanted : (readers : ℕ) (es : List (Names × NodeRow)) (k : ℕ) → k ≤ length es → left readers es k ≡ wanted readers (slice_get es k) ∷ left readers es (k + 1)
 next_wanted readers [] zero low = refl
 next_wanted readers [] (suc k) low = absurd (omega (arith, low))
 next_wanted readers (e ∷ es) zero low = refl
 next_wanted readers (e ∷ es) (suc k) low = let next = next_wanted readers es k (omega (arith, low)) in simp add-one (simp add-one at next)
 
-none_wanted : (readers : ℕ) (es : List (Names × Row)) (k : ℕ) → k ≡ length es + 1 → left readers es k ≡ []
+none_wanted : (readers : ℕ) (es : List (Names × NodeRow)) (k : ℕ) → k ≡ length es + 1 → left readers es k ≡ []
 none_wanted readers es k is =
-    drop_of_length-le (makings readers es ++ Asking Publish ∷ []) (omega (arith, is, length-append (makings readers es) (Asking Publish ∷ []), length-map es (λ (node : Names × Row). making readers node.0 node.1)))
+    drop_of_length-le (makings readers es ++ Asking Publish ∷ []) (omega (arith, is, length-append (makings readers es) (Asking Publish ∷ []), length-map es (λ (node : Names × NodeRow). making readers node.0 node.1)))
 
 module _ (notation : Notation) (readers : ℕ) (t : PlainTree) where
   abbrev pub AreLeft : List (List ℕ) → ℕ → Type 0
@@ -100,13 +100,13 @@ module _ (notation : Notation) (readers : ℕ) (t : PlainTree) where
   nothing_asks k low = rw (next k low) (λ e. absurd (false≢true e), λ are. absurd are)
 
   -- the first line asks for something else
-  pub asks_otherwise : (texts : List (List ℕ)) (text rest : List ℕ) (k : ℕ) (node : Option (Names × Row)) → k ≤ len t → node ≡ slice_get (entries t) k
+  pub asks_otherwise : (texts : List (List ℕ)) (text rest : List ℕ) (k : ℕ) (node : Option (Names × NodeRow)) → k ≤ len t → node ≡ slice_get (entries t) k
       → texts ≡ text ∷ lines rest → Decides false (IsAskedBy notation (nat_lt 0 k) text (wanted readers node)) → Decides false (AreLeft texts k)
   asks_otherwise texts text rest k found low is cut other =
       rw (cut, next k low, ← is) (λ e. absurd (false≢true e), λ are. other.1 are.0)
 
   -- it asks for what is wanted
-  pub asks_this : (texts : List (List ℕ)) (text rest : List ℕ) (k : ℕ) (node : Option (Names × Row)) (r : Bool) → k ≤ len t → node ≡ slice_get (entries t) k
+  pub asks_this : (texts : List (List ℕ)) (text rest : List ℕ) (k : ℕ) (node : Option (Names × NodeRow)) (r : Bool) → k ≤ len t → node ≡ slice_get (entries t) k
       → texts ≡ text ∷ lines rest → Decides true (IsAskedBy notation (nat_lt 0 k) text (wanted readers node)) → Decides r (AreLeft (lines rest) (k + 1))
       → Decides r (AreLeft texts k)
   asks_this texts text rest k found r low is cut this more =

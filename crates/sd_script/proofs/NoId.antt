@@ -7,18 +7,18 @@ use Rattle.std.proofs.lemmas.List.{take_all}
 use Rattle.std.proofs.lemmas.List.Splits.{slice_split_first, slice_split_none}
 use Rattle.std.proofs.lemmas.List.Sums.{fails_before_first}
 use Rattle.std.proofs.lemmas.Slice.Eq.{bytes_eq-Decides}
-use Rattle.sd_script.specs.Command.{beside, command_named, command_of, is_empty, line_asks, names}
+use Rattle.sd_script.specs.Command.{value_named, command_named, command_of, is_empty, line_asks, names}
 use Rattle.sd_script.specs.Expect.{expects}
 use Rattle.sd_script.specs.Lines.{is_silent, word_len, words_of}
-use Rattle.sd_script.specs.Output.{IsAnswered, is_open, manner_of}
-use Rattle.sd_script.specs.declared.asked.Asked.{Asked}
-use Rattle.sd_script.specs.declared.manner.Notation.{Notation}
+use Rattle.sd_script.specs.Output.{IsAnswered, is_open, script_options_of}
+use Rattle.sd_script.specs.declared.line_request.LineRequest.{LineRequest}
+use Rattle.sd_script.specs.declared.script_options.Notation.{Notation}
 use Rattle.sd_script.specs.declared.session.Session.{Session}
 use Rattle.sd_script.specs.Ids.{NoCommandWithoutAnId, asked_of, is_id}
 
 -- a word that is no id is none of a table of ids
 beside_none : {A : Type 0} (word : List ℕ) (rows : List (List ℕ × A)) → list_all (λ (row : List ℕ × A). is_id row.0) rows ≡ true
-    → is_id word ≡ false → beside word rows ≡ None
+    → is_id word ≡ false → value_named word rows ≡ None
 beside_none word [] ids none = refl
 beside_none {A} word (row ∷ rows) ids none =
     let both = and_parts (is_id row.0) (list_all (λ (row : List ℕ × A). is_id row.0) rows) ids in
@@ -52,13 +52,13 @@ no_command line none =
     rw first (neither (list_any is_empty (take (word_len line) line ∷ words)) _ (ap (option_map (λ name. (name, words))) none))
 
 -- so it asks for nothing
-asks_nothing : (notation : Notation) (is_open : Bool) (line : List ℕ) (asked : Asked)
+asks_nothing : (notation : Notation) (is_open : Bool) (line : List ℕ) (asked : LineRequest)
     → NamesNothing line → line_asks notation is_open line (Ok asked) → ⊥
 asks_nothing notation is_open line asked none (inl (utf8, asks)) = absurd (cc (rw (no_command line none) at asks))
 asks_nothing notation is_open line asked none (inr (other, is)) = absurd (cc is)
 
 -- a line that expects an answer asks for nothing
-pub asks_and_expects_nothing : (notation : Notation) (is_open : Bool) (line : List ℕ) (asked : Asked)
+pub asks_and_expects_nothing : (notation : Notation) (is_open : Bool) (line : List ℕ) (asked : LineRequest)
     → line_asks notation is_open line (Ok asked) → expects line ≡ false
 asks_and_expects_nothing notation is_open line asked asks = false_from_ne_true (expects line) (λ is.
     let word = (bytes_eq-Decides (take (word_len line) line) (codes "expect")).0 is in
@@ -72,7 +72,7 @@ unchanged old new line answer none answered = elim (cases_Bool (is_silent line))
   | inl silent ↦ let said = rw silent at answered in said.1
   | inr loud ↦ let said = rw loud at answered in elim said.1 [
     | inl (asked, asks, done) ↦
-        absurd (asks_nothing (manner_of old).notation (is_open old) line asked (beside_none (take (word_len line) line) names refl none) asks)
+        absurd (asks_nothing (script_options_of old).notation (is_open old) line asked (beside_none (take (word_len line) line) names refl none) asks)
     | inr (fault, asks, is, same) ↦ same
   ]
 ]

@@ -22,28 +22,28 @@ use Rattle.sd_edit.specs.declared.request.Reply.TheVariants as replies
 use Rattle.sd_edit.specs.declared.request.Request.{Request}
 use Rattle.sd_edit.specs.declared.request.Request.TheVariants as requests
 use Rattle.sd_edit.specs.declared.start.StartError.{StartError}
-use Rattle.sd_answer.specs.Answer.{line}
+use Rattle.sd_answer.specs.VerdictLine.{line}
 use Rattle.sd_script.specs.Expect.{expect_line, expects, is_met, last_after}
 use Rattle.sd_script.specs.Fault.{line_of_fault}
 use Rattle.sd_script.specs.Laws.{AsksNoAnalysis, HasOneAnswer, HasOneOutput, is_analysis}
 use Rattle.sd_script.specs.Lines.{is_silent}
 use Rattle.sd_script.specs.Importing.{IsImported, imported_line}
 use Rattle.sd_lines.specs.Answers.{AreAnswered}
-use Rattle.sd_script.specs.Output.{is_open, manner_of, IsOpened, IsAnswered, IsDone, IsTold, IsNext, begun, closing_of}
+use Rattle.sd_script.specs.Output.{is_open, script_options_of, IsOpened, IsAnswered, IsDone, IsTold, IsNext, before_first_line, closing_of}
 use Rattle.sd_script.specs.Question.{for_reader}
 use Rattle.sd_script.specs.Reply.{check_line, counted_line, refused_line, reply_line, seen_line, shown_line, start_error_line}
-use Rattle.sd_script.specs.declared.asked.Asked.{Asked}
-use Rattle.sd_script.specs.declared.asked.Asked.TheVariants.{Opening, Asking, Viewing, Importing}
-use Rattle.sd_script.specs.declared.carried.Carried.{Carried}
-use Rattle.sd_script.specs.declared.manner.Manner.{Manner}
-use Rattle.sd_script.specs.declared.manner.Notation.{Notation}
+use Rattle.sd_script.specs.declared.line_request.LineRequest.{LineRequest}
+use Rattle.sd_script.specs.declared.line_request.LineRequest.TheVariants.{Opening, Asking, Viewing, Importing}
+use Rattle.sd_script.specs.declared.script_state.ScriptState.{ScriptState}
+use Rattle.sd_script.specs.declared.script_options.ScriptOptions.{ScriptOptions}
+use Rattle.sd_script.specs.declared.script_options.Notation.{Notation}
 use Rattle.sd_script.specs.declared.session.Session.{Session}
 use Rattle.sd_script.specs.declared.session.Session.TheVariants.{Opened}
-use Rattle.sd_script.specs.Tally.{tallied}
+use Rattle.sd_script.specs.ScriptCounts.{tallied}
 use Rattle.sd_script.specs.View.{IsViewed}
-use Rattle.sd_script.specs.declared.view.View.{View}
-use Rattle.sd_script.specs.declared.view.View.TheVariants.{List as Lists, Dump}
-use Rattle.sd_answer.specs.declared.answer.Spelling.{Spelling}
+use Rattle.sd_script.specs.declared.view.ViewRequest.{ViewRequest}
+use Rattle.sd_script.specs.declared.view.ViewRequest.TheVariants.{List as Lists, Dump}
+use Rattle.sd_answer.specs.declared.verdict_line.Spelling.{Spelling}
 use Rattle.sd_script.proofs.OneReading.{line-one}
 
 -- ---- requests
@@ -93,11 +93,11 @@ pub no_error : (e : StartError) (readers : ℕ) (refusal : Option EditRefusal) (
     → IsStartError e readers refusal → start_error_line e ≡ Some p → ⊥
 no_error e readers refusal p count none is text = grind arith
 
-opened-one : (manner : Manner) (readers : ℕ) (root : RootSpec) (p q : List ℕ) (x y : Session) → IsOpened manner readers root p x → IsOpened manner readers root q y → (p ≡ q) × (x ≡ y)
-opened-one manner readers root p q x y (inl one) (inl other) = (one.2 ∙ sym other.2, one.3 ∙ sym other.3)
-opened-one manner readers root p q x y (inl one) (inr other) = absurd (no_error other.0 readers _ q one.0 one.1 other.1 other.2)
-opened-one manner readers root p q x y (inr one) (inl other) = absurd (no_error one.0 readers _ p other.0 other.1 one.1 one.2)
-opened-one manner readers root p q x y (inr one) (inr other) =
+opened-one : (options : ScriptOptions) (readers : ℕ) (root : RootSpec) (p q : List ℕ) (x y : Session) → IsOpened options readers root p x → IsOpened options readers root q y → (p ≡ q) × (x ≡ y)
+opened-one options readers root p q x y (inl one) (inl other) = (one.2 ∙ sym other.2, one.3 ∙ sym other.3)
+opened-one options readers root p q x y (inl one) (inr other) = absurd (no_error other.0 readers _ q one.0 one.1 other.1 other.2)
+opened-one options readers root p q x y (inr one) (inl other) = absurd (no_error one.0 readers _ p other.0 other.1 one.1 one.2)
+opened-one options readers root p q x y (inr one) (inr other) =
     (one_error readers _ one.0 other.0 p q one.1 other.1 one.2 other.2, one.3 ∙ sym other.3)
 
 -- ---- imports
@@ -129,7 +129,7 @@ module _ (spelling : Spelling) (m : Machine) (x y : Machine) (p q : List ℕ) wh
 
 -- ---- views
 
-viewed-one : (notation : Notation) (m : Machine) (view : View) (p q : List ℕ) → is_analysis (Viewing view) ≡ false
+viewed-one : (notation : Notation) (m : Machine) (view : ViewRequest) (p q : List ℕ) → is_analysis (Viewing view) ≡ false
     → IsViewed notation m view p → IsViewed notation m view q → p ≡ q
 viewed-one notation m (Lists path) p q plain one other = one ∙ sym other
 viewed-one notation m Dump p q plain (inl one) (inl other) = one.1 ∙ sym other.1
@@ -141,10 +141,10 @@ viewed-one notation m view p q plain one other = absurd (cc (plain))
 -- ---- the whole output
 
 -- what is done leaves one store, and unless it is an analysis is told in one way
-done-one : (old : Session) (asked : Asked) (p q : List ℕ) (x y : Session) → IsDone old asked p x → IsDone old asked q y
+done-one : (old : Session) (asked : LineRequest) (p q : List ℕ) (x y : Session) → IsDone old asked p x → IsDone old asked q y
     → (is_analysis asked ≡ false → p ≡ q) × (x ≡ y)
 done-one old (Opening readers root) p q x y one other =
-    let same = opened-one (manner_of old) readers root p q x y one other in (λ plain. same.0, same.1)
+    let same = opened-one (script_options_of old) readers root p q x y one other in (λ plain. same.0, same.1)
 done-one (Opened notation m) (Asking r) p q x y one other =
     let same = requested-one notation.spelling m one.1 other.1 p q r one.0 other.0 one.2 other.2 one.3 other.3 in
     (λ plain. same.0, one.4 ∙ ap (Opened notation) same.1 ∙ sym other.4)
@@ -158,15 +158,15 @@ done-one old asked p q x y one other = absurd one
 told-one : (old : Session) (text p q : List ℕ) (x y : Session) → IsTold old text p x → IsTold old text q y
     → (AsksNoAnalysis text → p ≡ q) × (x ≡ y)
 told-one old text p q x y (inl one) (inl other) =
-    let asked : one.0 ≡ other.0 = cc (line-one (manner_of old).notation (is_open old) text (Ok one.0) (Ok other.0) one.1 other.1) in
+    let asked : one.0 ≡ other.0 = cc (line-one (script_options_of old).notation (is_open old) text (Ok one.0) (Ok other.0) one.1 other.1) in
     let done = done-one old other.0 p q x y (rw asked at one.2) other.2 in
-    (λ plain. done.0 (plain (manner_of old).notation (is_open old) other.0 other.1), done.1)
+    (λ plain. done.0 (plain (script_options_of old).notation (is_open old) other.0 other.1), done.1)
 told-one old text p q x y (inl one) (inr other) =
-    absurd (cc (line-one (manner_of old).notation (is_open old) text (Ok one.0) (Err other.0) one.1 other.1))
+    absurd (cc (line-one (script_options_of old).notation (is_open old) text (Ok one.0) (Err other.0) one.1 other.1))
 told-one old text p q x y (inr one) (inl other) =
-    absurd (cc (line-one (manner_of old).notation (is_open old) text (Err one.0) (Ok other.0) one.1 other.1))
+    absurd (cc (line-one (script_options_of old).notation (is_open old) text (Err one.0) (Ok other.0) one.1 other.1))
 told-one old text p q x y (inr one) (inr other) =
-    let fault : one.0 ≡ other.0 = cc (line-one (manner_of old).notation (is_open old) text (Err one.0) (Err other.0) one.1 other.1) in
+    let fault : one.0 ≡ other.0 = cc (line-one (script_options_of old).notation (is_open old) text (Err one.0) (Err other.0) one.1 other.1) in
     (λ plain. one.2 ∙ ap line_of_fault fault ∙ sym other.2, one.3 ∙ sym other.3)
 
 pub has_one_answer : HasOneAnswer
@@ -182,7 +182,7 @@ has_one_answer old line one other new next x y = elim (cases_Bool (is_silent lin
 ]
 
 -- a line that may expect an answer
-after-one : (test : Bool) (old : Carried) (text p q : List ℕ) (x y : Carried) → AsksNoAnalysis text
+after-one : (test : Bool) (old : ScriptState) (text p q : List ℕ) (x y : ScriptState) → AsksNoAnalysis text
     → MatchBool test ((p ≡ expect_line (is_met old.last text)) × (x.session ≡ old.session) × (x.last ≡ old.last))
     (IsAnswered old.session text p x.session × (x.last ≡ last_after text p old.last))
     → MatchBool test ((q ≡ expect_line (is_met old.last text)) × (y.session ≡ old.session) × (y.last ≡ old.last))
@@ -194,13 +194,13 @@ after-one false old text p q x y plain one other =
     (same.0 plain, same.1, one.1 ∙ ap (λ answer. last_after text answer old.last) (same.0 plain) ∙ sym other.1)
 
 -- and counted
-next-one : (old : Carried) (text p q : List ℕ) (x y : Carried) → AsksNoAnalysis text → IsNext old text p x → IsNext old text q y → (p ≡ q) × (x ≡ y)
+next-one : (old : ScriptState) (text p q : List ℕ) (x y : ScriptState) → AsksNoAnalysis text → IsNext old text p x → IsNext old text q y → (p ≡ q) × (x ≡ y)
 next-one old text p q x y plain one other =
     let same = after-one (expects text) old text p q x y plain one.answered other.answered in
-    let tally = one.counted ∙ ap (λ answer. tallied text answer old.tally) same.0 ∙ sym other.counted in
-    (same.0, λ i. record { session = same.1 i; last = same.2 i; tally = tally i })
+    let counts = one.counted ∙ ap (λ answer. tallied text answer old.counts) same.0 ∙ sym other.counted in
+    (same.0, λ i. record { session = same.1 i; last = same.2 i; counts = counts i })
 
-all-one : (old : Carried) (texts : List (List ℕ)) (p q : List ℕ) (x y : Carried) → All AsksNoAnalysis texts → AreAnswered IsNext old texts p x → AreAnswered IsNext old texts q y → p ≡ q
+all-one : (old : ScriptState) (texts : List (List ℕ)) (p q : List ℕ) (x y : ScriptState) → All AsksNoAnalysis texts → AreAnswered IsNext old texts p x → AreAnswered IsNext old texts q y → p ≡ q
 all-one old [] p q x y plain one other = one.0 ∙ sym other.0
 all-one old (text ∷ texts) p q x y plain one other =
     let first = next-one old text one.0 other.0 one.1 other.1 (All-head AsksNoAnalysis text texts plain) one.3 other.3 in
@@ -208,5 +208,5 @@ all-one old (text ∷ texts) p q x y plain one other =
     one.5 ∙ ap (λ xs. xs ++ one.2) first.0 ∙ ap (λ xs. other.0 ++ xs) rest ∙ sym other.5
 
 pub has_one_output : HasOneOutput
-has_one_output manner text one other plain prints other_prints =
-    all-one (begun manner) (lines text) one other prints.1.0 other_prints.1.0 plain prints.1.1 other_prints.1.1
+has_one_output options text one other plain prints other_prints =
+    all-one (before_first_line options) (lines text) one other prints.1.0 other_prints.1.0 plain prints.1.1 other_prints.1.1

@@ -3,20 +3,20 @@ use Rattle.std.proofs.Common.{◌≡◌, Option, Some, None, Result, Ok, Err, in
 use Rattle.std.specs.Prelude.{◌⊎◌, IsErrAnd}
 use Rattle.sd_script.specs.Command.{Arguments, Asks, ◌▸◌, Parses, Value, reading}
 use Rattle.sd_script.specs.Fault.{Reading, UnlessMemory}
-use Rattle.sd_script.specs.declared.asked.Asked.{Asked}
+use Rattle.sd_script.specs.declared.line_request.LineRequest.{LineRequest}
 use Rattle.sd_script.specs.declared.fault.LineFault.{LineFault}
 use Rattle.sd_script.specs.declared.fault.LineStop.{LineStop}
 use Rattle.sd_script.specs.declared.fault.LineStop.TheVariants.{Fault, Memory}
-use Rattle.sd_script.specs.declared.manner.Notation.{Notation}
+use Rattle.sd_script.specs.declared.script_options.Notation.{Notation}
 
 -- each argument is parsed to a value, up to the first that stops
-abbrev pub Takes : Notation → Arguments → Result (Option Asked) LineStop → Type 0
+abbrev pub Takes : Notation → Arguments → Result (Option LineRequest) LineStop → Type 0
 Takes notation (Asks asked) r = r ≡ Ok (Some asked)
 Takes notation (argument ▸ next) r =
     ((value : Value argument) × reading notation argument (Ok value) × Takes notation (next value) r)
     ⊎ ((stop : LineStop) × UnlessMemory (reading notation argument) (Err stop) × IsErrAnd r (λ told. told ≡ stop))
 
-pub takes : (notation : Notation) (arguments : Arguments) (r : Result (Option Asked) LineStop) → Takes notation arguments r → Parses notation (Some arguments) r
+pub takes : (notation : Notation) (arguments : Arguments) (r : Result (Option LineRequest) LineStop) → Takes notation arguments r → Parses notation (Some arguments) r
 takes notation (Asks asked) r is = rw is refl
 takes notation (argument ▸ next) (Ok (Some asked)) (inl (value, read, more)) = inl (value, read, takes notation (next value) (Ok (Some asked)) more)
 takes notation (argument ▸ next) (Ok None) (inl (value, read, more)) = takes notation (next value) (Ok None) more

@@ -19,14 +19,14 @@ use Rattle.sd_edit.specs.Answers.{kind_at, reply_in}
 use Rattle.sd_edit.specs.Descriptors.{descriptor_of_row}
 use Rattle.sd_path.specs.Names.{Names, is_within, names_cmp}
 use Rattle.sd_edit.specs.Plain.{dacl_at, row_at}
-use Rattle.sd_edit.specs.declared.node.Row.{Row}
+use Rattle.sd_edit.specs.declared.node.NodeRow.{NodeRow}
 use Rattle.sd_edit.specs.declared.reply.CheckReply.TheVariants.{Verdict}
 use Rattle.sd_edit.proofs.Rows.{one_path}
 use Rattle.sd_edit.specs.Machine.{accepted}
 use Rattle.sd_analysis.specs.Base.{HasBase}
 use Rattle.sd_analysis.specs.Compare.{AreGains}
 use Rattle.sd_analysis.specs.Sufficient.{Parts}
-use Rattle.sd_answer.specs.declared.answer.Spelling.{Spelling}
+use Rattle.sd_answer.specs.declared.verdict_line.Spelling.{Spelling}
 use Rattle.sd_answer.proofs.NoLines.{no_gain_no_loss, parts_empty}
 use Rattle.sd_script.specs.Laws.{SilentNodeIsUnchanged, SilentReviewChangesNothing}
 use Rattle.sd_script.specs.Paths.{path_word}
@@ -35,7 +35,7 @@ use Rattle.sd_review.specs.Review.{Trees, former, stands_in}
 use Rattle.sd_review.specs.declared.review.Former.{Former}
 use Rattle.sd_review.specs.declared.review.Former.TheVariants.{Same, Moved, New}
 use Rattle.sd_script.specs.Review.{ArePrinted, IsChangeText, IsCompared, IsNodeReview, IsNodeText, IsReviewOf, gone_line, has_no_words, reviewed_line, trees_in}
-use Rattle.sd_script.specs.declared.manner.Notation.{Notation}
+use Rattle.sd_script.specs.declared.script_options.Notation.{Notation}
 
 -- ---- verdicts
 
@@ -56,7 +56,7 @@ abbrev verdict_by : MappingValue → TokenValue → ℕ → Parts → CheckVerdi
 verdict_by g token asked p = verdict p.owner p.dacl g token asked
 
 -- by the descriptor of a row
-verdict_there : (g : MappingValue) (token : TokenValue) (asked : ℕ) (row : Row) (d : Option (List Ace))
+verdict_there : (g : MappingValue) (token : TokenValue) (asked : ℕ) (row : NodeRow) (d : Option (List Ace))
     → verdict (Some row.owner) d g token asked ≡ verdict_by g token asked (parts_in (descriptor_of_row row d))
 verdict_there g token asked row None = refl
 verdict_there g token asked row (Some es) = refl
@@ -84,7 +84,7 @@ was_there ts path same = grind arith
 abbrev Alike : Trees → Names → TokenValue → ℕ → Type 0
 Alike ts path token asked = reply_in ts.mapping ts.old path token asked ≡ reply_in ts.mapping ts.new path token asked
 
-compared_alike : (notation : Notation) (ts : Trees) (path : Names) (before : Option Row) (s : Row) (token : TokenValue) (asked : ℕ) → holds asked 25 ≡ false
+compared_alike : (notation : Notation) (ts : Trees) (path : Names) (before : Option NodeRow) (s : NodeRow) (token : TokenValue) (asked : ℕ) → holds asked 25 ≡ false
     → row_at ts.old path ≡ before → is_some (kind_at ts.old path) ≡ true → row_at ts.new path ≡ Some s → IsCompared notation ts path path [] → Alike ts path token asked
 compared_alike notation ts path None s token asked plain old there new is = absurd (cc (rw old at there))
 compared_alike notation ts path (Some r) s token asked plain old there new is =
@@ -103,7 +103,7 @@ silent_node_is_unchanged notation ts top path row token asked is within there pl
 
 -- ---- all nodes
 
-found_silent : (P : Names × Row → List ℕ → Type 0) (es : List (Names × Row)) (path : Names) (row : Row) → find names_cmp path es ≡ Some row
+found_silent : (P : Names × NodeRow → List ℕ → Type 0) (es : List (Names × NodeRow)) (path : Names) (row : NodeRow) → find names_cmp path es ≡ Some row
     → ArePrinted P es [] → P (path, row) []
 found_silent P [] path row found printed = absurd (cc (found))
 found_silent P (e ∷ es) path row found (one, rest, first, more, is) =
@@ -115,11 +115,11 @@ found_silent P (e ∷ es) path row found (one, rest, first, more, is) =
       | inr other ↦ found_silent P es path row (rw other at found) (rw parts.1 at more)
     ]
 
-pieces_printed : (f : Names × Row → List ℕ) (es : List (Names × Row)) → ArePrinted (λ e printed. printed ≡ f e) es (flat_map f es)
+pieces_printed : (f : Names × NodeRow → List ℕ) (es : List (Names × NodeRow)) → ArePrinted (λ e printed. printed ≡ f e) es (flat_map f es)
 pieces_printed f [] = refl
 pieces_printed f (e ∷ es) = (f e, flat_map f es, refl, pieces_printed f es, refl)
 
-found_none : (f : Names × Row → List ℕ) (es : List (Names × Row)) (path : Names) (row : Row) → find names_cmp path es ≡ Some row
+found_none : (f : Names × NodeRow → List ℕ) (es : List (Names × NodeRow)) (path : Names) (row : NodeRow) → find names_cmp path es ≡ Some row
     → flat_map f es ≡ [] → f (path, row) ≡ []
 found_none f es path row found none =
     sym (found_silent (λ e printed. printed ≡ f e) es path row found (rw none at (pieces_printed f es)))
@@ -127,7 +127,7 @@ found_none f es path row found none =
 module _ (notation : Notation) (ts : Trees) (top path : Names) (token : TokenValue) (asked : ℕ)
     (within : is_within top path ≡ true) (plain : holds asked 25 ≡ false) where
   each_alike : ArePrinted (IsNodeReview notation ts top) (entries ts.new) [] → flat_map (gone_line notation.paths ts top) (entries ts.old) ≡ []
-      → (old new : Option Row) → row_at ts.old path ≡ old → row_at ts.new path ≡ new → Alike ts path token asked
+      → (old new : Option NodeRow) → row_at ts.old path ≡ old → row_at ts.new path ≡ new → Alike ts path token asked
   each_alike changes gone old (Some row) was is =
       silent_node_is_unchanged notation ts top path row token asked
       (found_silent (IsNodeReview notation ts top) (entries ts.new) path row (sym (get-entries ts.new path) ∙ is) changes) within is plain

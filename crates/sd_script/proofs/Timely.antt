@@ -5,14 +5,14 @@ use Rattle.sd_script.specs.Command.{Arguments, Asks, Value, ◌▸◌, asks, ask
 use Rattle.sd_script.specs.Fault.{Reading}
 use Rattle.sd_script.specs.Lines.{words_of}
 use Rattle.sd_script.specs.Output.{opens}
-use Rattle.sd_script.specs.declared.asked.Asked.{Asked}
+use Rattle.sd_script.specs.declared.line_request.LineRequest.{LineRequest}
 use Rattle.sd_script.specs.declared.command.ScriptCommand.{ScriptCommand}
 use Rattle.sd_script.specs.declared.command.ScriptCommand.TheVariants.{Open}
-use Rattle.sd_script.specs.declared.manner.Notation.{Notation}
+use Rattle.sd_script.specs.declared.script_options.Notation.{Notation}
 
 -- all that a reading can give opens a store, or nothing that it can
-abbrev Gives : Bool → Reading Asked → Type 0
-Gives b reading = (asked : Asked) → reading (Ok asked) → opens asked ≡ b
+abbrev Gives : Bool → Reading LineRequest → Type 0
+Gives b reading = (asked : LineRequest) → reading (Ok asked) → opens asked ≡ b
 
 -- and of what arguments can come to
 abbrev Opens : Bool → Arguments → Type 0

@@ -24,7 +24,7 @@ use Rattle.sd_answer.specs.Mask.{IsMaskIn}
 use Rattle.sd_answer.specs.Word.{AreGroups, IsToken}
 use Rattle.sd_script.specs.declared.fault.LineFault.{LineFault}
 use Rattle.sd_script.specs.declared.fault.LineFault.TheVariants.{Number, Path, Sid, Sddl, Parts, Mask, Token}
-use Rattle.sd_script.specs.declared.manner.Notation.{Notation}
+use Rattle.sd_script.specs.declared.script_options.Notation.{Notation}
 use Rattle.sd_script.specs.declared.paths.PathSpelling.{PathSpelling}
 
 -- the decimal digits of this number, which has 64 bits

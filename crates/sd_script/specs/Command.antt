@@ -20,12 +20,12 @@ use Rattle.sd_script.specs.Argument.{number, path, sid, mask, token, base, node,
 use Rattle.sd_script.specs.Fault.{Reading, Just, Then, UnlessMemory}
 use Rattle.sd_script.specs.Lines.{words_of}
 use Rattle.sd_answer.specs.Word.{texts}
-use Rattle.sd_script.specs.declared.asked.Asked.{Asked}
-use Rattle.sd_script.specs.declared.asked.Asked.TheVariants.{Opening, Asking, Explaining, Finding, Deleting, Viewing}
-use Rattle.sd_script.specs.declared.asked.Asked.TheVariants.{Importing}
-use Rattle.sd_script.specs.declared.asked.TokenQuestion.{TokenQuestion}
-use Rattle.sd_script.specs.declared.asked.TokenQuestion.TheVariants as questions
-use Rattle.sd_script.specs.declared.command.Command.{Command}
+use Rattle.sd_script.specs.declared.line_request.LineRequest.{LineRequest}
+use Rattle.sd_script.specs.declared.line_request.LineRequest.TheVariants.{Opening, Asking, Explaining, Finding}
+use Rattle.sd_script.specs.declared.line_request.LineRequest.TheVariants.{Deleting, Viewing, Importing}
+use Rattle.sd_script.specs.declared.line_request.TokenQuestion.{TokenQuestion}
+use Rattle.sd_script.specs.declared.line_request.TokenQuestion.TheVariants as questions
+use Rattle.sd_script.specs.declared.command.CommandWithArguments.{CommandWithArguments}
 use Rattle.sd_script.specs.declared.command.ScriptCommand.{ScriptCommand}
 use Rattle.sd_script.specs.declared.command.ScriptCommand.TheVariants.{Open, AddContainer, AddObject, SetOwner}
 use Rattle.sd_script.specs.declared.command.ScriptCommand.TheVariants.{SetGroup, SetDacl, Remove, Protect, Move}
@@ -34,9 +34,9 @@ use Rattle.sd_script.specs.declared.command.ScriptCommand.TheVariants.{ListNodes
 use Rattle.sd_script.specs.declared.fault.LineFault.TheVariants as faults
 use Rattle.sd_script.specs.declared.fault.LineStop.{LineStop}
 use Rattle.sd_acl.specs.declared.ace.Ace.{Ace}
-use Rattle.sd_script.specs.declared.manner.Notation.{Notation}
-use Rattle.sd_script.specs.declared.view.View.{View}
-use Rattle.sd_script.specs.declared.view.View.TheVariants as views
+use Rattle.sd_script.specs.declared.script_options.Notation.{Notation}
+use Rattle.sd_script.specs.declared.view.ViewRequest.{ViewRequest}
+use Rattle.sd_script.specs.declared.view.ViewRequest.TheVariants as views
 
 -- ---- arguments by kind
 
@@ -72,11 +72,11 @@ reading notation (Groups words) = base notation words
 infixr 20 ◌▸◌
 -- what is left to be parsed of a command's arguments, and what they ask for
 pub data Arguments : Type 0 where
-  Asks : Asked → Arguments
+  Asks : LineRequest → Arguments
   ◌▸◌ : (argument : Argument) → (Value argument → Arguments) → Arguments
 
 -- they are parsed from the left, and the first fault is the answer
-abbrev pub reads : Notation → Arguments → Reading Asked
+abbrev pub reads : Notation → Arguments → Reading LineRequest
 reads notation (Asks asked) = Just asked
 reads notation (argument ▸ next) = Then (reading notation argument) (λ value. reads notation (next value))
 
@@ -104,11 +104,11 @@ edit e = Asks (Asking (requests.Edit e))
 abbrev pub request : Request → Arguments
 request r = Asks (Asking r)
 
-abbrev pub view : View → Arguments
+abbrev pub view : ViewRequest → Arguments
 view v = Asks (Viewing v)
 
 -- a question for a token, to a reader, of a path
-abbrev pub poses : TokenQuestion → ℕ → Names → TokenValue → ℕ → Asked
+abbrev pub poses : TokenQuestion → ℕ → Names → TokenValue → ℕ → LineRequest
 poses questions.Check reader p t asked = Asking (requests.Check reader p t asked)
 poses questions.Why reader p t asked = Explaining reader p t asked
 poses questions.Find reader p t asked = Finding reader p t asked
@@ -175,17 +175,17 @@ is_untimely is_open name = not is_open
 -- ---- what a line asks for
 
 -- what stands beside this word
-abbrev pub beside : {A : Type 0} → List ℕ → List (List ℕ × A) → Option A
-beside word [] = None
-beside word (row ∷ rows) = if bytes_eq word row.0 then Some row.1 else beside word rows
+abbrev pub value_named : {A : Type 0} → List ℕ → List (List ℕ × A) → Option A
+value_named word [] = None
+value_named word (row ∷ rows) = if bytes_eq word row.0 then Some row.1 else value_named word rows
 
 abbrev pub is_empty : List ℕ → Bool
 is_empty word = length word == 0
 
 abbrev pub command_named : List ℕ → Option ScriptCommand
-command_named word = beside word names
+command_named word = value_named word names
 
-abbrev pub command_value : Command → ScriptCommand × List (List ℕ)
+abbrev pub command_value : CommandWithArguments → ScriptCommand × List (List ℕ)
 command_value command = (command.name, texts command.arguments.now)
 
 -- the command that the words name, none of which is empty, and its arguments
@@ -194,23 +194,23 @@ command_of [] = None
 command_of (word ∷ words) =
     if list_any is_empty (word ∷ words) then None else option_map (λ name. (name, words)) (command_named word)
 
-abbrev pub reads_where : Notation → Bool → ScriptCommand → Option Arguments → Reading Asked
+abbrev pub reads_where : Notation → Bool → ScriptCommand → Option Arguments → Reading LineRequest
 reads_where notation is_open name None read = read ≡ Err faults.Words
 reads_where notation is_open name (Some arguments) read =
     MatchBool (is_untimely is_open name) (read ≡ Err faults.Open) (reads notation arguments read)
 
-abbrev pub asks_where : Notation → Bool → Option (ScriptCommand × List (List ℕ)) → Reading Asked
+abbrev pub asks_where : Notation → Bool → Option (ScriptCommand × List (List ℕ)) → Reading LineRequest
 asks_where notation is_open None read = read ≡ Err faults.Words
 asks_where notation is_open (Some command) read = reads_where notation is_open command.0 (asks command.0 command.1) read
 
-abbrev pub line_asks : Notation → Bool → List ℕ → Reading Asked
+abbrev pub line_asks : Notation → Bool → List ℕ → Reading LineRequest
 line_asks notation is_open line read =
     (IsUtf8 line × asks_where notation is_open (command_of (words_of line)) read)
     ⊎ ((IsUtf8 line → ⊥) × (read ≡ Err faults.Utf8))
 
 -- ---- what parses a command's arguments and may be out of memory; nothing, where they aren't as many as it takes
 
-abbrev pub Parses : Notation → Option Arguments → Result (Option Asked) LineStop → Type 0
+abbrev pub Parses : Notation → Option Arguments → Result (Option LineRequest) LineStop → Type 0
 Parses notation None parsed = parsed ≡ Ok None
 Parses notation (Some arguments) (Ok (Some asked)) = reads notation arguments (Ok asked)
 Parses notation (Some arguments) (Err stop) = UnlessMemory (reads notation arguments) (Err stop)

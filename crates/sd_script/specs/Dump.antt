@@ -13,22 +13,22 @@ use Rattle.sd_edit.specs.Descriptors.{own_descriptor_of_row}
 use Rattle.sd_edit.specs.Journal.{replay}
 use Rattle.sd_inheritance.specs.declared.kind.NodeKind.{NodeKind}
 use Rattle.sd_inheritance.specs.declared.kind.NodeKind.TheVariants.{Container, Object}
-use Rattle.sd_edit.specs.declared.node.Row.{Row}
+use Rattle.sd_edit.specs.declared.node.NodeRow.{NodeRow}
 use Rattle.sd_edit.specs.Machine.{Machine}
 use Rattle.sd_edit.specs.declared.request.Request.TheVariants as requests
-use Rattle.sd_answer.specs.Answer.{line, fault_line}
+use Rattle.sd_answer.specs.VerdictLine.{line, fault_line}
 use Rattle.sd_script.specs.Command.{line_asks}
 use Rattle.sd_script.specs.Lines.{is_silent}
 use Rattle.sd_script.specs.Paths.{path_word}
 use Rattle.sd_script.specs.Reply.{shown_sddl}
-use Rattle.sd_script.specs.declared.asked.Asked.{Asked}
-use Rattle.sd_script.specs.declared.asked.Asked.TheVariants.{Opening, Asking}
-use Rattle.sd_script.specs.declared.manner.Notation.{Notation}
+use Rattle.sd_script.specs.declared.line_request.LineRequest.{LineRequest}
+use Rattle.sd_script.specs.declared.line_request.LineRequest.TheVariants.{Opening, Asking}
+use Rattle.sd_script.specs.declared.script_options.Notation.{Notation}
 
 -- ---- what makes a node, and the line that asks for it
 
 -- the root is made by an opening, for so many readers
-abbrev pub making : ℕ → Names → Row → Asked
+abbrev pub making : ℕ → Names → NodeRow → LineRequest
 making readers [] row = Opening readers (root_of row)
 making readers (name ∷ names) row = Asking (requests.Edit (addition_of row.kind (name ∷ names) row))
 
@@ -36,7 +36,7 @@ abbrev pub adding_word : NodeKind → List ℕ
 adding_word Container = codes "addc"
 adding_word Object = codes "addo"
 
-abbrev pub making_line : Notation → ℕ → Names × Row → List ℕ
+abbrev pub making_line : Notation → ℕ → Names × NodeRow → List ℕ
 making_line notation readers node =
     let sddl = shown_sddl notation.spelling (own_descriptor_of_row node.1) in
     if is_root node.0 then line (codes "open " ++ decimal readers ++ codes " " ++ sddl)
@@ -44,20 +44,20 @@ making_line notation readers node =
 
 -- ---- the whole tree
 
-abbrev pub makings : ℕ → List (Names × Row) → List Asked
-makings readers nodes = map (λ (node : Names × Row). making readers node.0 node.1) nodes
+abbrev pub makings : ℕ → List (Names × NodeRow) → List LineRequest
+makings readers nodes = map (λ (node : Names × NodeRow). making readers node.0 node.1) nodes
 
 -- after the nodes' lines one asks for a publish
-abbrev pub wanted : ℕ → Option (Names × Row) → Asked
+abbrev pub wanted : ℕ → Option (Names × NodeRow) → LineRequest
 wanted readers None = Asking requests.Publish
 wanted readers (Some node) = making readers node.0 node.1
 
 -- a line asks for this, where a store is open or none is
-abbrev pub IsAskedBy : Notation → Bool → List ℕ → Asked → Type 0
+abbrev pub IsAskedBy : Notation → Bool → List ℕ → LineRequest → Type 0
 IsAskedBy notation is_open text asked = (is_silent text ≡ false) × line_asks notation is_open text (Ok asked)
 
 -- these lines ask for these, one for one, where the first opens the store
-abbrev pub AreAskedBy : Notation → Bool → List (List ℕ) → List Asked → Type 0
+abbrev pub AreAskedBy : Notation → Bool → List (List ℕ) → List LineRequest → Type 0
 AreAskedBy notation is_open [] [] = ⊤
 AreAskedBy notation is_open (text ∷ texts) (asked ∷ more) =
     IsAskedBy notation is_open text asked × AreAskedBy notation true texts more

@@ -6,7 +6,7 @@ use Rattle.std.specs.List.{list_all}
 use Rattle.sd_script.specs.Expect.{head_len}
 use Rattle.sd_script.specs.Lines.{is_silent, word_len}
 use Rattle.sd_script.specs.Output.{IsNext}
-use Rattle.sd_script.specs.declared.carried.Carried.{Carried}
+use Rattle.sd_script.specs.declared.script_state.ScriptState.{ScriptState}
 
 -- ---- of one line
 
@@ -37,7 +37,7 @@ tagged tag begins (b ∷ bs) = (if begins then tag else []) ++ b ∷ tagged tag 
 -- ---- of a script
 
 -- a line is answered, and counted: in a script; or with ids what it asks, with its tag
-abbrev pub IsNextIn : Bool → Carried → List ℕ → List ℕ → Carried → Type 0
+abbrev pub IsNextIn : Bool → ScriptState → List ℕ → List ℕ → ScriptState → Type 0
 IsNextIn false old line printed new = IsNext old line printed new
 IsNextIn true old line printed new =
     (answer : List ℕ) × IsNext old (asked_of line) answer new × (printed ≡ tagged (tag_of line) true answer)
@@ -46,5 +46,5 @@ IsNextIn true old line printed new =
 
 -- a line whose first word is no id changes nothing
 abbrev pub NoCommandWithoutAnId : Type 0
-NoCommandWithoutAnId = (old new : Carried) (line printed : List ℕ)
+NoCommandWithoutAnId = (old new : ScriptState) (line printed : List ℕ)
     → has_id line ≡ false → IsNextIn true old line printed new → new.session ≡ old.session

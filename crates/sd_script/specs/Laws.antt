@@ -7,28 +7,28 @@ use Rattle.sd_check.specs.Token.{TokenValue}
 use Rattle.sd_edit.specs.Answers.{answer, reply_in}
 use Rattle.sd_path.specs.Names.{Names, is_within}
 use Rattle.sd_edit.specs.Plain.{row_at}
-use Rattle.sd_edit.specs.declared.node.Row.{Row}
+use Rattle.sd_edit.specs.declared.node.NodeRow.{NodeRow}
 use Rattle.sd_edit.specs.Machine.{Machine, accepted}
 use Rattle.sd_edit.specs.declared.request.Request.TheVariants.{Check}
-use Rattle.sd_answer.specs.Answer.{line, spelled}
-use Rattle.sd_answer.specs.declared.answer.Spelling.{Spelling}
+use Rattle.sd_answer.specs.VerdictLine.{line, spelled}
+use Rattle.sd_answer.specs.declared.verdict_line.Spelling.{Spelling}
 use Rattle.sd_script.specs.Command.{line_asks}
 use Rattle.sd_script.specs.Deletion.{delete_right}
 use Rattle.sd_script.specs.Output.{IsAnswered, IsDone, Prints}
 use Rattle.sd_review.specs.Review.{Trees}
 use Rattle.sd_script.specs.Reply.{seen_line}
 use Rattle.sd_script.specs.Review.{IsNodeReview, IsReview, reviewed_line}
-use Rattle.sd_script.specs.declared.asked.Asked.{Asked}
-use Rattle.sd_script.specs.declared.asked.Asked.TheVariants.{Asking, Explaining, Deleting, Viewing}
-use Rattle.sd_script.specs.declared.manner.Manner.{Manner}
-use Rattle.sd_script.specs.declared.manner.Notation.{Notation}
+use Rattle.sd_script.specs.declared.line_request.LineRequest.{LineRequest}
+use Rattle.sd_script.specs.declared.line_request.LineRequest.TheVariants.{Asking, Explaining, Deleting, Viewing}
+use Rattle.sd_script.specs.declared.script_options.ScriptOptions.{ScriptOptions}
+use Rattle.sd_script.specs.declared.script_options.Notation.{Notation}
 use Rattle.sd_script.specs.declared.session.Session.{Session}
 use Rattle.sd_script.specs.declared.session.Session.TheVariants.{Opened}
-use Rattle.sd_script.specs.declared.view.View.TheVariants.{Who, Review}
+use Rattle.sd_script.specs.declared.view.ViewRequest.TheVariants.{Who, Review}
 
 -- what is asked is who is granted a right, or who is by the pending edits: the lines are exact in what they say of
 -- tokens, not in their letters
-abbrev pub is_analysis : Asked → Bool
+abbrev pub is_analysis : LineRequest → Bool
 is_analysis (Viewing (Who path groups asked)) = true
 is_analysis (Viewing (Review path)) = true
 is_analysis asked = false
@@ -36,7 +36,7 @@ is_analysis asked = false
 -- the line asks for no analysis, whatever stands before it
 abbrev pub AsksNoAnalysis : List ℕ → Type 0
 AsksNoAnalysis line =
-    (notation : Notation) (is_open : Bool) (asked : Asked) → line_asks notation is_open line (Ok asked)
+    (notation : Notation) (is_open : Bool) (asked : LineRequest) → line_asks notation is_open line (Ok asked)
     → is_analysis asked ≡ false
 
 -- a line leaves one store, and unless it asks for an analysis it has one answer
@@ -49,8 +49,8 @@ HasOneAnswer =
 -- a text whose lines ask for no analysis has one output in a manner
 abbrev pub HasOneOutput : Type 0
 HasOneOutput =
-    (manner : Manner) (text one other : List ℕ) → All AsksNoAnalysis (lines text)
-    → Prints manner text one → Prints manner text other → one ≡ other
+    (options : ScriptOptions) (text one other : List ℕ) → All AsksNoAnalysis (lines text)
+    → Prints options text one → Prints options text other → one ≡ other
 
 -- the answer to `why` begins with that to `check`, and after both the store is the same
 abbrev pub BeginsAsCheck : Type 0
@@ -84,7 +84,7 @@ DeletesAsChecked =
 -- is. Each bit of a request counts; MAXIMUM_ALLOWED, place 25, is none that is granted
 abbrev pub SilentNodeIsUnchanged : Type 0
 SilentNodeIsUnchanged =
-    (notation : Notation) (ts : Trees) (top path : Names) (row : Row) (token : TokenValue) (asked : ℕ)
+    (notation : Notation) (ts : Trees) (top path : Names) (row : NodeRow) (token : TokenValue) (asked : ℕ)
     → IsNodeReview notation ts top (path, row) [] → is_within top path ≡ true → row_at ts.new path ≡ Some row
     → holds asked 25 ≡ false
     → reply_in ts.mapping ts.old path token asked ≡ reply_in ts.mapping ts.new path token asked

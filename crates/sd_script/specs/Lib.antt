@@ -14,7 +14,7 @@ pub mod Dump
 pub mod Paths
 pub mod Printed
 pub mod Importing
-pub mod Tally
+pub mod ScriptCounts
 pub mod View
 pub mod Who
 pub mod Review

@@ -8,7 +8,7 @@ use Rattle.sd_sid.specs.Mapping.{MappingValue}
 use Rattle.sd_acl.specs.Descriptor.{DescriptorValue}
 use Rattle.sd_edit.specs.Answers.{descriptor_at, kind_at}
 use Rattle.sd_path.specs.Names.{Names, is_within}
-use Rattle.sd_edit.specs.declared.node.Row.{Row}
+use Rattle.sd_edit.specs.declared.node.NodeRow.{NodeRow}
 use Rattle.sd_edit.specs.Machine.{Machine, accepted}
 use Rattle.sd_analysis.specs.Compare.{AreGains}
 use Rattle.sd_analysis.specs.declared.compare_report.Change.{Change}
@@ -16,12 +16,12 @@ use Rattle.sd_answer.specs.Parts.{parts_in}
 use Rattle.sd_review.specs.Review.{Trees, former, stands_in, trees_after}
 use Rattle.sd_review.specs.declared.review.Former.{Former}
 use Rattle.sd_review.specs.declared.review.Former.TheVariants.{Same, Moved, New}
-use Rattle.sd_answer.specs.Answer.{line, fault_line}
+use Rattle.sd_answer.specs.VerdictLine.{line, fault_line}
 use Rattle.sd_answer.specs.Compare.{gains_and_losses}
-use Rattle.sd_answer.specs.declared.answer.Spelling.{Spelling}
+use Rattle.sd_answer.specs.declared.verdict_line.Spelling.{Spelling}
 use Rattle.sd_script.specs.Listing.{lacks_words}
 use Rattle.sd_script.specs.Paths.{path_word}
-use Rattle.sd_script.specs.declared.manner.Notation.{Notation}
+use Rattle.sd_script.specs.declared.script_options.Notation.{Notation}
 use Rattle.sd_script.specs.declared.paths.PathSpelling.{PathSpelling}
 
 abbrev pub trees_in : Machine → Trees
@@ -60,12 +60,12 @@ IsNodeText notation ts path (Moved before) printed =
 IsNodeText notation ts path New printed = printed ≡ new_line notation.paths path
 
 -- of one at or below the top
-abbrev pub IsNodeReview : Notation → Trees → Names → Names × Row → List ℕ → Type 0
+abbrev pub IsNodeReview : Notation → Trees → Names → Names × NodeRow → List ℕ → Type 0
 IsNodeReview notation ts top node printed =
     MatchBool (is_within top node.0) (IsNodeText notation ts node.0 (former ts node.0) printed) (printed ≡ [])
 
 -- the line of a node of the old tree, if no node stands at its path in the new one
-abbrev pub gone_line : PathSpelling → Trees → Names → Names × Row → List ℕ
+abbrev pub gone_line : PathSpelling → Trees → Names → Names × NodeRow → List ℕ
 gone_line paths ts top node =
     if is_within top node.0 && is_none (kind_at ts.new node.0) then line (codes "gone " ++ path_word paths node.0)
     else []

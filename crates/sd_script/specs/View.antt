@@ -7,12 +7,12 @@ use Rattle.sd_script.specs.Dump.{IsDump}
 use Rattle.sd_script.specs.Listing.{nodes_text}
 use Rattle.sd_script.specs.Review.{IsReview}
 use Rattle.sd_script.specs.Who.{IsWhoText}
-use Rattle.sd_script.specs.declared.listing.Which.TheVariants.{All}
-use Rattle.sd_script.specs.declared.manner.Notation.{Notation}
-use Rattle.sd_script.specs.declared.view.View.{View}
-use Rattle.sd_script.specs.declared.view.View.TheVariants.{List as Lists, Dump, Who, Review}
+use Rattle.sd_script.specs.declared.listing.NodeFilter.TheVariants.{All}
+use Rattle.sd_script.specs.declared.script_options.Notation.{Notation}
+use Rattle.sd_script.specs.declared.view.ViewRequest.{ViewRequest}
+use Rattle.sd_script.specs.declared.view.ViewRequest.TheVariants.{List as Lists, Dump, Who, Review}
 
-abbrev pub IsViewed : Notation → Machine → View → List ℕ → Type 0
+abbrev pub IsViewed : Notation → Machine → ViewRequest → List ℕ → Type 0
 IsViewed notation m (Lists path) printed = printed ≡ nodes_text notation m.opening m.published path All [] []
 IsViewed notation m Dump printed = IsDump notation m printed
 IsViewed notation m (Who path groups asked) printed =

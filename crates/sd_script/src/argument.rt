@@ -7,8 +7,8 @@ ghost use Rattle.sd_script.specs.Fault.{UnlessMemory};
 ghost use Rattle.sd_answer.specs.Word.{texts};
 
 use crate::fault::{LineFault, LineStop};
-use crate::manner::Notation;
 use crate::paths::path_in;
+use crate::script_options::Notation;
 use crate::view::Groups;
 use sd_acl::Descriptor;
 use sd_answer::{TokenError, read_base, read_mask_in, read_sddl_argument, read_token};

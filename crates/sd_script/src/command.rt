@@ -33,7 +33,7 @@ pub(crate) enum ScriptCommand {
 
 /// A command with its arguments.
 #[derive(Clone, Copy)]
-pub(crate) struct Command<'a> {
+pub(crate) struct CommandWithArguments<'a> {
     pub(crate) name: ScriptCommand,
     pub(crate) arguments: &'a [&'a str],
 }
@@ -81,7 +81,7 @@ impl ScriptCommand {
 }
 
 /// The command that the words are, none of which is empty.
-pub(crate) fn command_of<'a>(words: &'a [&'a str]) -> Option<Command<'a>>
+pub(crate) fn command_of<'a>(words: &'a [&'a str]) -> Option<CommandWithArguments<'a>>
     ensures { option_map command_value result ≡ command_of (texts words.entry.now) }
 {
     if has_empty(words) {
@@ -89,7 +89,7 @@ pub(crate) fn command_of<'a>(words: &'a [&'a str]) -> Option<Command<'a>>
     }
     let (word, arguments) = words.split_first()?;
     let name = ScriptCommand::named(word)?;
-    Some(Command { name, arguments })
+    Some(CommandWithArguments { name, arguments })
 }
 
 fn has_empty(words: &[&str]) -> bool

@@ -5,9 +5,9 @@ ghost use Rattle.std.specs.Prelude.{◌≡◌, ◌≤◌, true, length, IfOk, If
 ghost use Rattle.sd_script.specs.Ids.{IsNextIn, has_id, tag_len, tagged};
 ghost use Rattle.sd_script.specs.Printed.{IsNextServed, served_tagging};
 
-use crate::carried::Carried;
 use crate::lines::{head_len, is_silent, word_len};
 use crate::script::answer_line;
+use crate::script_state::ScriptState;
 use sd_json::{Tagging, printed_as};
 use sd_lines::{AnswersLines, Ending, Form};
 use std::alloc::{AllocError, Global};
@@ -30,7 +30,7 @@ pub(crate) struct Script {
 }
 
 impl AnswersLines for Script {
-    type State = Carried;
+    type State = ScriptState;
 
     ghost answers = { λ script old line printed new. IfSome line
         (λ text. IsNextServed script.has_ids script.is_json old text printed new) };
@@ -38,7 +38,7 @@ impl AnswersLines for Script {
     fn answer(
         &self,
         alloc: Global,
-        carried: &mut Carried,
+        state: &mut ScriptState,
         line: Option<&[u8]>,
         text: &mut Vec<u8>,
     ) -> Result<(), AllocError> {
@@ -46,7 +46,7 @@ impl AnswersLines for Script {
             // (a line that is too long has ended the script)
             return Ok(());
         };
-        let plain = answer_next(alloc, self.has_ids, carried, line)?;
+        let plain = answer_next(alloc, self.has_ids, state, line)?;
         let printed = printed_as(alloc, self.is_json, self.tagging(line), plain)?;
         text.extend_from_slice(&printed)
     }
@@ -70,17 +70,17 @@ impl Script {
 fn answer_next(
     alloc: Global,
     has_ids: bool,
-    carried: &mut Carried,
+    state: &mut ScriptState,
     line: &[u8],
 ) -> Result<Vec<u8>, AllocError>
-    ensures { IfOk result (λ printed. IsNextIn has_ids carried.old line.now printed.items carried.new) }
+    ensures { IfOk result (λ printed. IsNextIn has_ids state.old line.now printed.items state.new) }
 {
     if !has_ids {
-        let answer = answer_line(alloc, carried, line)?;
+        let answer = answer_line(alloc, state, line)?;
         return Ok(answer.into_bytes());
     }
     let (tag, asked) = line.split_at(tag_len(line));
-    let answer = answer_line(alloc, carried, asked)?;
+    let answer = answer_line(alloc, state, asked)?;
     let printed = tagged(alloc, tag, answer.as_bytes())?;
     Ok(printed)
 }

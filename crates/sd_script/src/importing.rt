@@ -10,8 +10,8 @@ ghost use Rattle.sd_edit.specs.Answers.{descriptor_at};
 ghost use Rattle.sd_edit.specs.Journal.{replay};
 
 use crate::argument::Parser;
-use crate::asked::{Asked, Parsed};
 use crate::fault::{LineFault, LineStop};
+use crate::line_request::{LineRequest, Parsed};
 use crate::reply::reply_line;
 use sd_acl::{Ace, Dacl, Descriptor, canonicalize};
 use sd_answer::Spelling;
@@ -27,7 +27,7 @@ impl Parser {
         let path = self.path(path)?;
         let imported = self.imported(sddl)?;
         let added = path.copy(self.alloc)?;
-        Ok(Some(Asked::Importing {
+        Ok(Some(LineRequest::Importing {
             edit: Edit::addition(kind, added, imported.0),
             path,
             given: imported.1,

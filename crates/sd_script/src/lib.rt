@@ -9,17 +9,15 @@
 //! let text = b"open 1 O:BAG:SYD:\naddo /a O:BAG:SYD:(A;;FR;;;SY)\npublish\ncheck 0 /a SY 0x1\n";
 //! let (mut reader, mut writer) = (Watched::new(text.as_slice()), Watched::new(Vec::new(alloc)));
 //! let (mapping, limits) = (GenericMapping::file(), Limits::standard());
-//! let manner = Manner { mapping, limits, notation: Notation::plain(PathSpelling::Plain) };
-//! let tally = run(alloc, &manner, &mut reader, &mut writer)?;
-//! // the writer holds "opened 1\nok\npublished 1\nseen 1 granted 0x1\n", and tally.first_fault is None
+//! let options = ScriptOptions { mapping, limits, notation: Notation::plain(PathSpelling::Plain) };
+//! let counts = run(alloc, &options, &mut reader, &mut writer)?;
+//! // the writer holds "opened 1\nok\npublished 1\nseen 1 granted 0x1\n", and counts.first_fault is None
 //! ```
 //!
 //! What parses a line and what prints a reply is public, for who carries out a script in another way.
 #![tactic(auto)]
 
 mod argument;
-mod asked;
-mod carried;
 mod command;
 mod deletion;
 mod dump;
@@ -29,24 +27,24 @@ mod ids;
 mod importing;
 mod laws;
 mod line;
+mod line_request;
 mod lines;
 mod listing;
-mod manner;
 mod paths;
 mod question;
 mod reply;
 mod review;
 mod same;
 mod script;
+mod script_counts;
+mod script_options;
+mod script_state;
 mod session;
 mod streams;
-mod tally;
 mod view;
 mod who;
 
 pub use argument::number_in;
-pub use asked::Asked;
-pub use carried::Carried;
 pub use expect::{LastAnswer, expects};
 pub use fault::{LineFault, LineStop, line_of_fault};
 pub use ids::{LINES, tagged};
@@ -56,12 +54,14 @@ pub use laws::{
     silent_review_changes_nothing, texts_have_one_output, why_begins_as_check,
 };
 pub use line::read_line;
+pub use line_request::LineRequest;
 pub use lines::is_silent;
-pub use manner::{Manner, Notation};
 pub use paths::PathSpelling;
 pub use reply::{counted_line, reply_line, start_error_line};
 pub use script::answer_line;
+pub use script_counts::ScriptCounts;
+pub use script_options::{Notation, ScriptOptions};
+pub use script_state::ScriptState;
 pub use session::Session;
 pub use streams::{run, serve};
-pub use tally::Tally;
-pub use view::{Groups, View};
+pub use view::{Groups, ViewRequest};

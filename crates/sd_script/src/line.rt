@@ -3,11 +3,11 @@ ghost use Rattle.sd_script.specs.Command.{line_asks};
 ghost use Rattle.sd_script.specs.Fault.{UnlessMemory};
 
 use crate::argument::Parser;
-use crate::asked::Asked;
 use crate::command::command_of;
 use crate::fault::{LineFault, LineStop};
+use crate::line_request::LineRequest;
 use crate::lines::words_of;
-use crate::manner::Notation;
+use crate::script_options::Notation;
 use std::alloc::Global;
 use std::str::from_utf8;
 
@@ -17,7 +17,7 @@ pub fn read_line(
     notation: Notation,
     is_open: bool,
     line: &[u8],
-) -> Result<Asked, LineStop>
+) -> Result<LineRequest, LineStop>
     ensures { UnlessMemory (line_asks notation is_open line.now) result }
 {
     let Ok(text) = from_utf8(line) else {

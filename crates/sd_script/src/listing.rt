@@ -6,13 +6,13 @@ ghost use Rattle.sd_edit.specs.Journal.{replay};
 ghost use Rattle.sd_tree.specs.Listing.{listed};
 ghost use Rattle.sd_path.specs.Names.{Names};
 ghost use Rattle.sd_edit.specs.Plain.{row_at};
-ghost use Rattle.sd_edit.specs.declared.node.Row.{Row};
+ghost use Rattle.sd_edit.specs.declared.node.NodeRow.{NodeRow};
 ghost use Rattle.sd_script.specs.Listing.{grants, is_split_below, kind_word, lacks_words, line_below};
 ghost use Rattle.sd_script.specs.Listing.{nodes_text};
 
-use crate::manner::Notation;
 use crate::paths::{PathSpelling, is_split, path_word};
 use crate::reply::shown_sddl;
+use crate::script_options::Notation;
 use sd_answer::fault_line;
 use sd_check::{Token, Verdict};
 use sd_sid::Mask;
@@ -21,7 +21,7 @@ use std::alloc::{AllocError, Global};
 
 /// Which nodes have a line.
 #[derive(Debug, Drop)]
-pub(crate) enum Which {
+pub(crate) enum NodeFilter {
     /// All nodes, each with its descriptor.
     All,
     /// The nodes that grant a token what is asked for ([MS-DTYP] 2.5.3.2), each by its path.
@@ -42,7 +42,7 @@ impl Printer<'_> {
     pub(crate) fn nodes_text(
         &self,
         top: &Path,
-        which: &Which,
+        which: &NodeFilter,
         begins: &str,
         title: &str,
     ) -> Result<String, AllocError>
@@ -68,7 +68,7 @@ impl Printer<'_> {
     fn line_below(
         &self,
         top: &Path,
-        which: &Which,
+        which: &NodeFilter,
         node: &NodeRef<'_>,
     ) -> Result<String, AllocError>
         ensures { IfOk result (λ text. string_bytes text
@@ -79,7 +79,7 @@ impl Printer<'_> {
             return Ok(String::new(self.alloc));
         }
         match which {
-            Which::All => {
+            NodeFilter::All => {
                 let Some(descriptor) = self.tree.descriptor(node.path)? else {
                     return Ok(String::new(self.alloc));
                 };
@@ -89,13 +89,13 @@ impl Printer<'_> {
                 let line = format!(in self.alloc; "{word} {path} {sddl}\n")?;
                 Ok(line)
             }
-            Which::Granting { token, asked } if grants(self.tree.check(node.path, token, *asked)) =>
-                {
-                    let mut line = path_word(self.alloc, self.notation.paths, node.path)?;
-                    line.push_str("\n")?;
-                    Ok(line)
-                }
-            Which::Granting { .. } => Ok(String::new(self.alloc)),
+            NodeFilter::Granting { token, asked }
+                if grants(self.tree.check(node.path, token, *asked)) => {
+                let mut line = path_word(self.alloc, self.notation.paths, node.path)?;
+                line.push_str("\n")?;
+                Ok(line)
+            }
+            NodeFilter::Granting { .. } => Ok(String::new(self.alloc)),
         }
     }
 }
@@ -108,7 +108,7 @@ pub(crate) fn push_lines<F: Fn(&NodeRef<'_>) -> Result<String, AllocError>>(
 ) -> Result<(), AllocError>
     requires { (node : _) → row_at (replay tree.now.opening tree.now.journal) (listed node.now).0
         ≡ Some (listed node.now).1 → F.pre line node }
-    ensures { OnOk result ((f : Names × Row → List ℕ)
+    ensures { OnOk result ((f : Names × NodeRow → List ℕ)
         → ((node : _) (text : _) → F.post line node (Ok text) → string_bytes text ≡ f (listed node.now))
         → string_bytes text.new ≡ string_bytes text.old
         ++ flat_map f (entries (replay tree.now.opening tree.now.journal))) }

@@ -7,9 +7,9 @@ ghost use Rattle.sd_script.specs.Question.{IsSeen, question_text};
 ghost use Rattle.sd_script.specs.declared.session.Session.TheVariants.{Opened};
 
 use crate::deletion::{DELETE, deletion_line, parent_grants};
-use crate::listing::{Printer, Which};
-use crate::manner::Notation;
+use crate::listing::{NodeFilter, Printer};
 use crate::reply::{reply_line, seen_line};
+use crate::script_options::Notation;
 use sd_acl::Descriptor;
 use sd_answer::why_text;
 use sd_check::Token;
@@ -24,7 +24,7 @@ pub(crate) enum NodeQuestion {
     /// Why a check is answered as it is ([MS-DTYP] 2.5.3.2).
     Why { token: Token, asked: Mask },
     /// Which nodes at and below the path there are.
-    Find(Which),
+    Find(NodeFilter),
     /// Whether the token's user may delete the node ([MS-FSA] 2.1.5.1.2.1).
     Delete { token: Token },
 }

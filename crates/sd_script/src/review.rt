@@ -9,8 +9,8 @@ ghost use Rattle.sd_script.specs.Review.{ArePrinted, IsCompared, IsNodeReview, I
 ghost use Rattle.sd_script.specs.Review.{has_no_words, reviewed_line};
 
 use crate::listing::{lacks_words, push_lines};
-use crate::manner::Notation;
 use crate::paths::path_word;
+use crate::script_options::Notation;
 use sd_answer::fault_line;
 use sd_review::{Compared, Former, Review};
 use sd_tree::{NodeRef, Path};

@@ -5,31 +5,31 @@ ghost use Rattle.sd_edit.specs.Additions.{addition_of, root_of};
 ghost use Rattle.sd_tree.specs.Listing.{listed};
 ghost use Rattle.sd_script.specs.Dump.{making, wanted};
 
-use crate::asked::Asked;
+use crate::line_request::LineRequest;
 use sd_tree::{Edit, NodeDacl, NodeKind, NodeRef, Path, RootSpec, same_entries};
 use sd_versions::Request;
 
 /// Whether this makes the node, whose tree is opened for so many readers; or is a publish, where there is none.
-pub(crate) fn is_wanted(asked: &Asked, readers: u64, node: &Option<NodeRef<'_>>) -> bool
+pub(crate) fn is_wanted(asked: &LineRequest, readers: u64, node: &Option<NodeRef<'_>>) -> bool
     ensures { Decides result (asked.now ≡ wanted readers (option_map listed node.now)) }
 {
     match node {
         Some(node) => is_making(asked, readers, node),
-        None => matches!(asked, Asked::Asking(Request::Publish)),
+        None => matches!(asked, LineRequest::Asking(Request::Publish)),
     }
 }
 
 /// Whether this makes the node.
-fn is_making(asked: &Asked, readers: u64, node: &NodeRef<'_>) -> bool
+fn is_making(asked: &LineRequest, readers: u64, node: &NodeRef<'_>) -> bool
     ensures { Decides result (asked.now ≡ making readers (listed node.now).0 (listed node.now).1) }
 {
     let is_root = node.path.as_path_ref().is_root();
     match asked {
-        Asked::Opening {
+        LineRequest::Opening {
             readers: some,
             root,
         } => { is_root && *some == readers && is_root_of(root, node) }
-        Asked::Asking(Request::Edit(edit)) => !is_root && is_addition(edit, node),
+        LineRequest::Asking(Request::Edit(edit)) => !is_root && is_addition(edit, node),
         _ => false,
     }
 }

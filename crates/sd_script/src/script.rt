@@ -4,20 +4,20 @@ ghost use Rattle.sd_script.specs.Output.{IsAnsweredAfter, IsDone, IsMade, IsNext
 ghost use Rattle.sd_script.specs.Output.{PrintsAndCounts, opens};
 ghost use Rattle.sd_script.specs.declared.session.Session.TheVariants.{Opened};
 
-use crate::asked::Asked;
-use crate::carried::Carried;
 use crate::expect::{LastAnswer, expects};
 use crate::fault::{LineStop, line_of_fault};
 use crate::ids::{LINES, Script};
 use crate::importing::import_line;
 use crate::line::read_line;
+use crate::line_request::LineRequest;
 use crate::lines::{is_silent, wants_lines};
-use crate::listing::Which;
-use crate::manner::{Manner, Notation};
+use crate::listing::NodeFilter;
 use crate::question::NodeQuestion;
 use crate::reply::{counted_line, reply_line, start_error_line};
+use crate::script_counts::ScriptCounts;
+use crate::script_options::{Notation, ScriptOptions};
+use crate::script_state::ScriptState;
 use crate::session::Session;
-use crate::tally::Tally;
 use crate::view::view_text;
 use sd_lines::answer_text;
 use sd_versions::{Desk, Request};
@@ -27,31 +27,35 @@ use std::alloc::{AllocError, Global};
 /// The only error is out of memory.
 pub(crate) fn script_output(
     alloc: Global,
-    manner: &Manner,
+    options: &ScriptOptions,
     text: &[u8],
-) -> Result<(Vec<u8>, Tally), AllocError>
-    ensures { IfOk result (λ output. PrintsAndCounts manner.now text.now output.0.items output.1) }
+) -> Result<(Vec<u8>, ScriptCounts), AllocError>
+    ensures { IfOk result (λ output. PrintsAndCounts options.now text.now output.0.items output.1) }
 {
-    let mut carried = Carried::begun(manner);
+    let mut state = ScriptState::before_first_line(options);
     let mut printed = Vec::new(alloc);
     let script = Script {
         has_ids: false,
         is_json: false,
     };
-    answer_text(alloc, &script, &mut carried, LINES, text, &mut printed)?;
-    Ok((printed, carried.tally))
+    answer_text(alloc, &script, &mut state, LINES, text, &mut printed)?;
+    Ok((printed, state.counts))
 }
 
 /// What a line, without its end, is answered by: a line, or several, an empty one the last, or nothing where it is
 /// empty or begins with `#`. A line that expects an answer is answered by `ok`, or by `fault expect` if the first line
 /// of the last answer is another. The line is counted. The only error is out of memory: then nothing has changed, or
 /// what the line asks for is done, without an answer.
-pub fn answer_line(alloc: Global, carried: &mut Carried, line: &[u8]) -> Result<String, AllocError>
-    ensures answered { IfOk result (λ text. IsNext carried.old line.now (string_bytes text) carried.new) }
-    ensures failed { OnErr result (IsUnanswered carried.old line.now carried.new) }
+pub fn answer_line(
+    alloc: Global,
+    state: &mut ScriptState,
+    line: &[u8],
+) -> Result<String, AllocError>
+    ensures answered { IfOk result (λ text. IsNext state.old line.now (string_bytes text) state.new) }
+    ensures failed { OnErr result (IsUnanswered state.old line.now state.new) }
 {
-    let answer = answer_after(alloc, &mut carried.session, &mut carried.last, line)?;
-    carried.tally = carried.tally.with(line, answer.as_bytes());
+    let answer = answer_after(alloc, &mut state.session, &mut state.last, line)?;
+    state.counts = state.counts.with(line, answer.as_bytes());
     Ok(answer)
 }
 
@@ -86,7 +90,7 @@ fn told(alloc: Global, session: &mut Session, line: &[u8]) -> Result<String, All
     ensures told { IfOk result (λ text. IsTold session.old line.now (string_bytes text) session.new) }
     ensures failed { OnErr result (IsUntold session.old line.now session.new) }
 {
-    match read_line(alloc, session.manner().notation, session.is_open(), line) {
+    match read_line(alloc, session.options().notation, session.is_open(), line) {
         Ok(asked) => match session {
             Session::Closed(_) => open_store(alloc, session, asked),
             Session::Opened(notation, desk) => done(alloc, *notation, desk, asked),
@@ -97,24 +101,28 @@ fn told(alloc: Global, session: &mut Session, line: &[u8]) -> Result<String, All
 }
 
 /// Opens a store, where none is open.
-fn open_store(alloc: Global, session: &mut Session, asked: Asked) -> Result<String, AllocError>
+fn open_store(
+    alloc: Global,
+    session: &mut Session,
+    asked: LineRequest,
+) -> Result<String, AllocError>
     requires { opens asked ≡ true }
     ensures done { IfOk result (λ text. IsDone session.old asked (string_bytes text) session.new) }
     ensures failed { OnErr result (session.new ≡ session.old) }
 {
-    let Asked::Opening { readers, root } = asked else {
+    let LineRequest::Opening { readers, root } = asked else {
         unreachable!()
     };
-    let manner = session.manner();
-    match Desk::start_within(alloc, &manner.mapping, &root, manner.limits, readers) {
+    let options = session.options();
+    match Desk::start_within(alloc, &options.mapping, &root, options.limits, readers) {
         Ok(desk) => {
             let text = counted_line(alloc, "opened", readers)?;
-            *session = Session::Opened(manner.notation, desk);
+            *session = Session::Opened(options.notation, desk);
             Ok(text)
         }
         Err(error) => {
             let text = start_error_line(alloc, error)?;
-            *session = Session::Closed(manner);
+            *session = Session::Closed(options);
             Ok(text)
         }
     }
@@ -126,7 +134,7 @@ fn done(
     alloc: Global,
     notation: Notation,
     desk: &mut Desk,
-    asked: Asked,
+    asked: LineRequest,
 ) -> Result<String, AllocError>
     requires { opens asked ≡ false }
     ensures done { IfOk result
@@ -135,33 +143,33 @@ fn done(
         ⊎ IsMade (Opened notation desk.old) asked (Opened notation desk.new)) }
 {
     match asked {
-        Asked::Opening { .. } => unreachable!(),
-        Asked::Asking(request) => {
+        LineRequest::Opening { .. } => unreachable!(),
+        LineRequest::Asking(request) => {
             let reply = desk.step(&request);
             reply_line(alloc, notation.spelling, &reply)
         }
-        Asked::Explaining {
+        LineRequest::Explaining {
             reader,
             path,
             token,
             asked,
         } => NodeQuestion::Why { token, asked }.answer(alloc, notation, desk, reader, &path),
-        Asked::Finding {
+        LineRequest::Finding {
             reader,
             path,
             token,
             asked,
         } => {
-            let which = Which::Granting { token, asked };
+            let which = NodeFilter::Granting { token, asked };
             NodeQuestion::Find(which).answer(alloc, notation, desk, reader, &path)
         }
-        Asked::Deleting {
+        LineRequest::Deleting {
             reader,
             path,
             token,
         } => NodeQuestion::Delete { token }.answer(alloc, notation, desk, reader, &path),
-        Asked::Viewing(view) => view_text(alloc, notation, desk, &view),
-        Asked::Importing { edit, path, given } => {
+        LineRequest::Viewing(view) => view_text(alloc, notation, desk, &view),
+        LineRequest::Importing { edit, path, given } => {
             let reply = desk.step(&Request::Edit(edit));
             import_line(
                 alloc,

@@ -1,15 +1,15 @@
 //! What stands between two lines of a script.
 ghost use Rattle.std.specs.Prelude.{◌≡◌};
-ghost use Rattle.sd_script.specs.Output.{is_open, manner_of};
+ghost use Rattle.sd_script.specs.Output.{is_open, script_options_of};
 
-use crate::manner::{Manner, Notation};
+use crate::script_options::{Notation, ScriptOptions};
 use sd_versions::Desk;
 
 /// What stands between two lines of a script.
 #[derive(Drop)]
 pub enum Session {
     /// No store is open. One that is opened is opened in this manner.
-    Closed(Manner),
+    Closed(ScriptOptions),
     /// This store is open, and lines are written in this notation.
     Opened(Notation, Desk),
 }
@@ -23,12 +23,12 @@ impl Session {
     }
 
     /// In which manner a store is opened, or is open.
-    pub(crate) fn manner(&self) -> Manner
-        ensures { result ≡ manner_of self.now }
+    pub(crate) fn options(&self) -> ScriptOptions
+        ensures { result ≡ script_options_of self.now }
     {
         match self {
-            Session::Closed(manner) => *manner,
-            Session::Opened(notation, desk) => Manner {
+            Session::Closed(options) => *options,
+            Session::Opened(notation, desk) => ScriptOptions {
                 mapping: *desk.published().mapping(),
                 limits: desk.published().limits(),
                 notation: *notation,

@@ -7,13 +7,13 @@ ghost use Rattle.sd_script.specs.Output.{PrintsAndCounts};
 ghost use Rattle.sd_script.specs.Printed.{PrintsAndCountsServed, PrintsAs, PrintsServed};
 ghost use Rattle.sd_lines.specs.Output.{AppendsOutput, LeavesAnswers, LeavesOutput};
 ghost use Rattle.sd_script.specs.declared.ids.TheConstants.{LINES};
-ghost use Rattle.sd_script.specs.declared.tally.Tally.{Tally};
+ghost use Rattle.sd_script.specs.declared.script_counts.ScriptCounts.{ScriptCounts};
 
-use crate::carried::Carried;
 use crate::ids::{LINES, Script};
-use crate::manner::Manner;
 use crate::script::script_output;
-use crate::tally::Tally;
+use crate::script_counts::ScriptCounts;
+use crate::script_options::ScriptOptions;
+use crate::script_state::ScriptState;
 use sd_json::{Tagging, printed_as};
 use sd_lines::{RunError, Watched, answer_lines, read_whole, write_whole};
 use std::alloc::Global;
@@ -32,16 +32,16 @@ use std::io::{Read, Write};
 /// - `Memory`: out of memory; nothing was written.
 pub fn run<R: Read, W: Write>(
     alloc: Global,
-    manner: &Manner,
+    options: &ScriptOptions,
     reader: &mut Watched<R>,
     writer: &mut Watched<W>,
-) -> Result<Tally, RunError>
-    ensures ok { IfOk result (λ tally. AppendsOutput
-        (λ text printed. PrintsAs manner.now.notation.is_json (PrintsAndCounts manner.now) text printed tally)
+) -> Result<ScriptCounts, RunError>
+    ensures ok { IfOk result (λ counts. AppendsOutput
+        (λ text printed. PrintsAs options.now.notation.is_json (PrintsAndCounts options.now) text printed counts)
         (R.remaining (inner_of reader.old))
         (W.contents (inner_of writer.old)) (W.contents (inner_of writer.new))) }
-    ensures err { IfErr result (LeavesOutput (λ text printed. (tally : Tally)
-        × PrintsAs manner.now.notation.is_json (PrintsAndCounts manner.now) text printed tally)
+    ensures err { IfErr result (LeavesOutput (λ text printed. (counts : ScriptCounts)
+        × PrintsAs options.now.notation.is_json (PrintsAndCounts options.now) text printed counts)
         (R.remaining (inner_of reader.old))
         (W.contents (inner_of writer.old)) (W.contents (inner_of writer.new))) }
     ensures too_long { result ≡ Err RunError.TooLong
@@ -51,10 +51,10 @@ pub fn run<R: Read, W: Write>(
     ensures write { has_failed writer.new ≡ (has_failed writer.old || is_write_error result) }
 {
     let text = read_whole(alloc, reader)?;
-    let (plain, tally) = script_output(alloc, manner, &text)?;
-    let printed = printed_as(alloc, manner.notation.is_json, Tagging::Nothing, plain)?;
+    let (plain, counts) = script_output(alloc, options, &text)?;
+    let printed = printed_as(alloc, options.notation.is_json, Tagging::Nothing, plain)?;
     write_whole(writer, &printed)?;
-    Ok(tally)
+    Ok(counts)
 }
 
 /// Reads a script line by line, and writes and flushes the answer to each in this manner before more is read; and
@@ -71,16 +71,16 @@ pub fn run<R: Read, W: Write>(
 /// - `Memory`: out of memory; the lines before one that had ended are answered.
 pub fn serve<R: Read, W: Write>(
     alloc: Global,
-    manner: &Manner,
+    options: &ScriptOptions,
     has_ids: bool,
     reader: &mut Watched<R>,
     writer: &mut Watched<W>,
-) -> Result<Tally, RunError>
-    ensures ok { IfOk result (λ tally. AppendsOutput
-        (λ text printed. PrintsAndCountsServed has_ids manner.now.notation.is_json manner.now text printed tally)
+) -> Result<ScriptCounts, RunError>
+    ensures ok { IfOk result (λ counts. AppendsOutput
+        (λ text printed. PrintsAndCountsServed has_ids options.now.notation.is_json options.now text printed counts)
         (R.remaining (inner_of reader.old))
         (W.contents (inner_of writer.old)) (W.contents (inner_of writer.new))) }
-    ensures err { IfErr result (LeavesAnswers LINES (PrintsServed has_ids manner.now.notation.is_json manner.now)
+    ensures err { IfErr result (LeavesAnswers LINES (PrintsServed has_ids options.now.notation.is_json options.now)
         (R.remaining (inner_of reader.old)) (R.remaining (inner_of reader.new))
         (W.contents (inner_of writer.old)) (W.contents (inner_of writer.new))) }
     ensures read { has_failed reader.new ≡ (has_failed reader.old || is_read_error result) }
@@ -88,9 +88,9 @@ pub fn serve<R: Read, W: Write>(
 {
     let script = Script {
         has_ids,
-        is_json: manner.notation.is_json,
+        is_json: options.notation.is_json,
     };
-    let mut carried = Carried::begun(manner);
-    answer_lines(alloc, &script, &mut carried, LINES, reader, writer)?;
-    Ok(carried.tally)
+    let mut state = ScriptState::before_first_line(options);
+    answer_lines(alloc, &script, &mut state, LINES, reader, writer)?;
+    Ok(state.counts)
 }

@@ -2,9 +2,9 @@
 ghost use Rattle.std.specs.Prelude.{◌≡◌, IfOk, string_bytes};
 ghost use Rattle.sd_script.specs.View.{IsViewed};
 
-use crate::listing::{Printer, Which};
-use crate::manner::Notation;
+use crate::listing::{NodeFilter, Printer};
 use crate::review::review_text;
+use crate::script_options::Notation;
 use crate::who::node_who_text;
 use sd_check::GroupState;
 use sd_sid::{Mask, Sid};
@@ -45,7 +45,7 @@ impl Groups {
 
 /// A view of the published tree, or of what the pending edits change of it. It changes nothing, and raises no floor.
 #[derive(Debug, Drop)]
-pub enum View {
+pub enum ViewRequest {
     /// The nodes at and below a path.
     List {
         path: Path,
@@ -69,7 +69,7 @@ pub(crate) fn view_text(
     alloc: Global,
     notation: Notation,
     desk: &Desk,
-    view: &View,
+    view: &ViewRequest,
 ) -> Result<String, AllocError>
     ensures { IfOk result (λ text. IsViewed notation desk.now view.now (string_bytes text)) }
 {
@@ -80,13 +80,13 @@ pub(crate) fn view_text(
         tree,
     };
     match view {
-        View::List { path } => printer.nodes_text(path, &Which::All, "", ""),
-        View::Dump => printer.dump_text(desk.readers()),
-        View::Who {
+        ViewRequest::List { path } => printer.nodes_text(path, &NodeFilter::All, "", ""),
+        ViewRequest::Dump => printer.dump_text(desk.readers()),
+        ViewRequest::Who {
             path,
             groups,
             asked,
         } => node_who_text(alloc, notation.spelling, tree, path, groups, *asked),
-        View::Review { path } => review_text(alloc, notation, desk, path),
+        ViewRequest::Review { path } => review_text(alloc, notation, desk, path),
     }
 }

@@ -6,7 +6,7 @@ ghost use Rattle.sd_script.specs.Who.{IsWhoText, or_empty};
 
 use crate::view::Groups;
 use sd_analysis::{Base, who};
-use sd_answer::{Spelling, borrowed, rights_asked, who_text};
+use sd_answer::{Spelling, dacl_ref, rights_asked, who_text};
 use sd_sid::Mask;
 use sd_tree::{Path, Tree};
 use std::alloc::{AllocError, Global};
@@ -31,7 +31,7 @@ pub(crate) fn node_who_text(
     let base = Base {
         groups: groups.as_slice(),
     };
-    let dacl = borrowed(&descriptor.dacl);
+    let dacl = dacl_ref(&descriptor.dacl);
     let rights = rights_asked(tree.mapping(), asked);
     let accesses = who(alloc, descriptor.owner, dacl, tree.mapping(), &base, rights)?;
     let text = who_text(alloc, spelling, &accesses)?;

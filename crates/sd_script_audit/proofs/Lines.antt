@@ -4,27 +4,27 @@ use Rattle.std.specs.Prelude.{IfErr, IfOk, IfSome, OnOk}
 use Rattle.std.specs.Result.{is_ok}
 use Rattle.sd_lines.specs.Answers.{AreAnswered}
 use Rattle.sd_lines.proofs.InOrder.{joined}
-use Rattle.sd_script.specs.Output.{is_open, manner_of}
-use Rattle.sd_script.specs.declared.asked.Asked.{Asked}
-use Rattle.sd_script.specs.declared.tally.Tally.{Tally}
+use Rattle.sd_script.specs.Output.{is_open, script_options_of}
+use Rattle.sd_script.specs.declared.line_request.LineRequest.{LineRequest}
+use Rattle.sd_script.specs.declared.script_counts.ScriptCounts.{ScriptCounts}
 use Rattle.sd_script_audit.specs.Audit.{AreAnsweredInAudit, AsksInAudit, Audited, IsAnsweredInAudit, IsNextInAudit, IsToldInAudit, Progress, end_of}
 use Rattle.sd_script_audit.specs.Parts.{IsDoneOrTold}
 
 -- a line is answered as what it asks for is done, or by what it is told
-pub answered : {X : Type 0} (bytes : X → List ℕ) (workers : ℕ) (old new : Progress) (line printed : List ℕ) (found : Result Asked (Option X))
-    → IfOk found (λ asked. AsksInAudit (manner_of old.store).notation (is_open old.store) line asked)
-    → IfErr found (λ told. IfSome told (λ text. IsToldInAudit (manner_of old.store).notation (is_open old.store) line (bytes text)))
+pub answered : {X : Type 0} (bytes : X → List ℕ) (workers : ℕ) (old new : Progress) (line printed : List ℕ) (found : Result LineRequest (Option X))
+    → IfOk found (λ asked. AsksInAudit (script_options_of old.store).notation (is_open old.store) line asked)
+    → IfErr found (λ told. IfSome told (λ text. IsToldInAudit (script_options_of old.store).notation (is_open old.store) line (bytes text)))
     → IsDoneOrTold bytes workers old found printed new → IsAnsweredInAudit workers old line printed new
 answered bytes workers old new line printed (Ok asked) asks told done = inr (asked, asks, done)
 answered bytes workers old new line printed (Err (Some text)) asks told done = inl (rw (done.0) told, done.1)
 answered bytes workers old new line printed (Err None) asks told done = absurd done
 
 -- lines, and those after them
-pub lines_before : (workers : ℕ) (old between : Audited) (lines front back : List (List ℕ)) (printed p q : List ℕ) (tally : Tally)
+pub lines_before : (workers : ℕ) (old between : Audited) (lines front back : List (List ℕ)) (printed p q : List ℕ) (counts : ScriptCounts)
     → lines ≡ front ++ back → printed ≡ p ++ q
-    → AreAnswered (IsNextInAudit workers) old front p between → AreAnsweredInAudit workers between back q tally
-    → AreAnsweredInAudit workers old lines printed tally
-lines_before workers old between lines front back printed p q tally all whole first (last, answers, second, is, counted) =
+    → AreAnswered (IsNextInAudit workers) old front p between → AreAnsweredInAudit workers between back q counts
+    → AreAnsweredInAudit workers old lines printed counts
+lines_before workers old between lines front back printed p q counts all whole first (last, answers, second, is, counted) =
     let end = end_of last.progress.store last.progress.queries in
     (last, p ++ answers, rw all (joined (IsNextInAudit workers) old between last front back p answers first second), whole ∙ ap (λ l. p ++ l) is ∙ sym (append_assoc p answers end), counted)
 

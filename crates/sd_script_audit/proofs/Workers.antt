@@ -16,23 +16,23 @@ use Rattle.sd_edit.specs.declared.request.Request.TheVariants as requests
 use Rattle.sd_edit.specs.declared.start.StartError.{StartError}
 use Rattle.sd_edit.specs.declared.start.StartError.TheVariants as starts
 use Rattle.sd_store.specs.declared.query.Query.{Query}
-use Rattle.sd_answer.specs.declared.answer.Spelling.{Spelling}
+use Rattle.sd_answer.specs.declared.verdict_line.Spelling.{Spelling}
 use Rattle.sd_script.specs.Expect.{expects}
 use Rattle.sd_script.specs.Fault.{line_of_fault}
 use Rattle.sd_script.specs.Importing.{IsImported}
 use Rattle.sd_script.specs.Lines.{is_silent}
 use Rattle.sd_script.specs.Output.{IsOpened, opening_in, opens}
 use Rattle.sd_script.specs.Reply.{counted_line, refused_line, start_error_line}
-use Rattle.sd_script.specs.declared.asked.Asked.{Asked}
-use Rattle.sd_script.specs.declared.asked.Asked.TheVariants.{Opening as Opens, Asking, Importing}
-use Rattle.sd_script.specs.declared.manner.Manner.{Manner}
-use Rattle.sd_script.specs.declared.manner.Notation.{Notation}
+use Rattle.sd_script.specs.declared.line_request.LineRequest.{LineRequest}
+use Rattle.sd_script.specs.declared.line_request.LineRequest.TheVariants.{Opening as Opens, Asking, Importing}
+use Rattle.sd_script.specs.declared.script_options.ScriptOptions.{ScriptOptions}
+use Rattle.sd_script.specs.declared.script_options.Notation.{Notation}
 use Rattle.sd_script.specs.declared.session.Session.TheVariants.{Opened}
-use Rattle.sd_script.specs.declared.tally.Tally.{Tally}
+use Rattle.sd_script.specs.declared.script_counts.ScriptCounts.{ScriptCounts}
 use Rattle.sd_script.proofs.OneOutput.{no_error, requested-one, step-one}
 use Rattle.sd_script.proofs.OneReading.{line-one}
 use Rattle.sd_script.proofs.Timely.{line_opens}
-use Rattle.sd_script_audit.specs.Audit.{AreAnsweredInAudit, AsksInAudit, Audited, IsAnsweredInAudit, IsDoneInAudit, IsNextInAudit, IsToldInAudit, Progress, begun, end_of, unopened}
+use Rattle.sd_script_audit.specs.Audit.{AreAnsweredInAudit, AsksInAudit, Audited, IsAnsweredInAudit, IsDoneInAudit, IsNextInAudit, IsToldInAudit, Progress, before_first_line, end_of, unopened}
 use Rattle.sd_script_audit.specs.Laws.{DifferInOpening, WorkersShowInTheOpening}
 
 -- ---- machines that differ in their readers alone
@@ -84,7 +84,7 @@ module _ (n m : ℕ) (notation : Notation) (x y : Machine) (queries : List Query
   are_alike v w more same first second =
       (same.0, record { notation = notation; one = v; other = w; queries = more; one_is = first; other_is = second; alike = same.1 })
 
-  done_alike : (asked : Asked) → opens asked ≡ false → IsDoneInAudit n (opened notation x queries) asked p c → IsDoneInAudit m (opened notation y queries) asked q d
+  done_alike : (asked : LineRequest) → opens asked ≡ false → IsDoneInAudit n (opened notation x queries) asked p c → IsDoneInAudit m (opened notation y queries) asked q d
       → (p ≡ q) × AreAlike c d
   done_alike (Opens readers root) timely one other = absurd (cc (timely))
   done_alike (Asking (requests.Edit e)) timely (one, kept) (other, left) =
@@ -123,14 +123,14 @@ module _ (notation : Notation) (is_open : Bool) (text : List ℕ) where
     ]
   ]
 
-  told_or_asked : (p : List ℕ) (asked : Asked) → IsToldInAudit notation is_open text p → AsksInAudit notation is_open text asked → ⊥
+  told_or_asked : (p : List ℕ) (asked : LineRequest) → IsToldInAudit notation is_open text p → AsksInAudit notation is_open text asked → ⊥
   told_or_asked p asked told asks =
       let fault = rw (asks.0, asks.1) at told in cc (line-one notation is_open text (Err fault.0) (Ok asked) fault.1 asks.2)
 
   -- a line that both are answered by asks both for the same
-  line_alike : (R A B : Type 0) (D E : Asked → Type 0) (p q : List ℕ) → (p ≡ q → A → B → R) → ((asked : Asked) → opens asked ≡ not is_open → D asked → E asked → R)
-      → (IsToldInAudit notation is_open text p × A) ⊎ ((asked : Asked) × AsksInAudit notation is_open text asked × D asked)
-      → (IsToldInAudit notation is_open text q × B) ⊎ ((asked : Asked) × AsksInAudit notation is_open text asked × E asked) → R
+  line_alike : (R A B : Type 0) (D E : LineRequest → Type 0) (p q : List ℕ) → (p ≡ q → A → B → R) → ((asked : LineRequest) → opens asked ≡ not is_open → D asked → E asked → R)
+      → (IsToldInAudit notation is_open text p × A) ⊎ ((asked : LineRequest) × AsksInAudit notation is_open text asked × D asked)
+      → (IsToldInAudit notation is_open text q × B) ⊎ ((asked : LineRequest) × AsksInAudit notation is_open text asked × E asked) → R
   line_alike R A B D E p q stay done (inl one) (inl other) = stay (told_one p q one.0 other.0) one.1 other.1
   line_alike R A B D E p q stay done (inl one) (inr other) = absurd (told_or_asked p other.0 one.0 other.1)
   line_alike R A B D E p q stay done (inr one) (inl other) = absurd (told_or_asked q one.0 other.0 one.1)
@@ -147,17 +147,17 @@ open_alike n m text a b p q c d both one other =
     (subst (λ e. IsAnsweredInAudit n e text p c) both.one_is one) (subst (λ e. IsAnsweredInAudit m e text q d) both.other_is other)
 
 -- the first line's answer, and what the others and the end print
-cut : (n : ℕ) (a : Audited) (text : List ℕ) (texts : List (List ℕ)) (p : List ℕ) (x : Tally) → AreAnsweredInAudit n a (text ∷ texts) p x
+cut : (n : ℕ) (a : Audited) (text : List ℕ) (texts : List (List ℕ)) (p : List ℕ) (x : ScriptCounts) → AreAnsweredInAudit n a (text ∷ texts) p x
     → (first : List ℕ) × (between : Audited) × (rest : List ℕ) × IsNextInAudit n a text first between × AreAnsweredInAudit n between texts rest x × (p ≡ first ++ rest)
-cut n a text texts p x (last, answers, (first, between, rest, next, more, whole), is, tally) =
+cut n a text texts p x (last, answers, (first, between, rest, next, more, whole), is, counts) =
     let end = end_of last.progress.store last.progress.queries in
-    (first, between, rest ++ end, next, (last, rest, more, refl, tally), is ∙ ap (λ xs. xs ++ end) whole ∙ append_assoc first rest end)
+    (first, between, rest ++ end, next, (last, rest, more, refl, counts), is ∙ ap (λ xs. xs ++ end) whole ∙ append_assoc first rest end)
 
-ended : (n : ℕ) (a : Audited) (p : List ℕ) (x : Tally) → AreAnsweredInAudit n a [] p x → p ≡ end_of a.progress.store a.progress.queries
-ended n a p x (last, answers, (none, same), is, tally) = is ∙ rw (none, same) refl
+ended : (n : ℕ) (a : Audited) (p : List ℕ) (x : ScriptCounts) → AreAnsweredInAudit n a [] p x → p ≡ end_of a.progress.store a.progress.queries
+ended n a p x (last, answers, (none, same), is, counts) = is ∙ rw (none, same) refl
 
 -- what is printed from an open store on
-all_alike : (n m : ℕ) (texts : List (List ℕ)) (a b : Audited) (p q : List ℕ) (x y : Tally) → AreAlike a.progress b.progress
+all_alike : (n m : ℕ) (texts : List (List ℕ)) (a b : Audited) (p q : List ℕ) (x y : ScriptCounts) → AreAlike a.progress b.progress
     → AreAnsweredInAudit n a texts p x → AreAnsweredInAudit m b texts q y → p ≡ q
 all_alike n m [] a b p q x y alike one other = ended n a p x one ∙ ends_alike a.progress b.progress alike ∙ sym (ended m b q y other)
 all_alike n m (text ∷ texts) a b p q x y alike one other =
@@ -178,15 +178,15 @@ root_error (starts.Root r) n due p count is text = (r, is.1, text)
 root_error starts.Memory n due p count is text = absurd (cc (text))
 root_error starts.Place n due p count is text = absurd is
 
-module _ (manner : Manner) (n m : ℕ) (some : IsReaderCount n) (others : IsReaderCount m) where
+module _ (options : ScriptOptions) (n m : ℕ) (some : IsReaderCount n) (others : IsReaderCount m) where
   -- no store is open afterwards, or both are
-  module _ (R : Type 0) (p q : List ℕ) (c d : Progress) (closed : p ≡ q → c ≡ unopened manner → d ≡ unopened manner → R)
+  module _ (R : Type 0) (p q : List ℕ) (c d : Progress) (closed : p ≡ q → c ≡ unopened options → d ≡ unopened options → R)
       (opened : p ≡ counted_line (codes "opened") n → q ≡ counted_line (codes "opened") m → AreAlike c d → R) where
-    opening : (root : RootSpec) → IsOpened manner n root p c.store × (c.queries ≡ []) → IsOpened manner m root q d.store × (d.queries ≡ []) → R
+    opening : (root : RootSpec) → IsOpened options n root p c.store × (c.queries ≡ []) → IsOpened options m root q d.store × (d.queries ≡ []) → R
     opening root (inl one, none) (inl other, nothing) = opened one.2 other.2 (record {
-      notation = manner.notation;
-      one = started (opening_in manner root) n;
-      other = started (opening_in manner root) m;
+      notation = options.notation;
+      one = started (opening_in options root) n;
+      other = started (opening_in options root) m;
       queries = [];
       one_is = λ i. record { store = one.3 i; queries = none i };
       other_is = λ i. record { store = other.3 i; queries = nothing i };
@@ -200,7 +200,7 @@ module _ (manner : Manner) (n m : ℕ) (some : IsReaderCount n) (others : IsRead
         let refusals : first.0 ≡ second.0 = cc (first.1, second.1) in
         closed (cc (refusals, first.2, second.2)) (λ i. record { store = one.3 i; queries = none i }) (λ i. record { store = other.3 i; queries = nothing i })
 
-    opening_asked : (asked : Asked) → opens asked ≡ true → IsDoneInAudit n (unopened manner) asked p c → IsDoneInAudit m (unopened manner) asked q d → R
+    opening_asked : (asked : LineRequest) → opens asked ≡ true → IsDoneInAudit n (unopened options) asked p c → IsDoneInAudit m (unopened options) asked q d → R
     opening_asked (Opens readers root) is one other = opening root one other
     opening_asked asked timely one other = absurd (cc (timely))
 
@@ -214,16 +214,16 @@ module _ (manner : Manner) (n m : ℕ) (some : IsReaderCount n) (others : IsRead
     other ∙ ap (λ zs. first ++ zs) differ.3 ∙ simp append_assoc,
   )
 
-  all_differ : (texts : List (List ℕ)) (a b : Audited) (p q : List ℕ) (x y : Tally) → a.progress ≡ unopened manner → b.progress ≡ unopened manner
+  all_differ : (texts : List (List ℕ)) (a b : Audited) (p q : List ℕ) (x y : ScriptCounts) → a.progress ≡ unopened options → b.progress ≡ unopened options
       → AreAnsweredInAudit n a texts p x → AreAnsweredInAudit m b texts q y → DifferInOpening n m p q
   all_differ [] a b p q x y closed shut one other = inl (ended n a p x one ∙ rw (closed, shut) refl ∙ sym (ended m b q y other))
   all_differ (text ∷ texts) a b p q x y closed shut one other =
       let first = cut n a text texts p x one in
       let second = cut m b text texts q y other in
-      let closing : first.0 ≡ second.0 → first.1.progress ≡ unopened manner → second.1.progress ≡ unopened manner → DifferInOpening n m p q =
+      let closing : first.0 ≡ second.0 → first.1.progress ≡ unopened options → second.1.progress ≡ unopened options → DifferInOpening n m p q =
       λ same still yet. after_line second.0 p q first.2 second.2 (first.5 ∙ ap (λ zs. zs ++ first.2) same) second.5
       (all_differ texts first.1 second.1 first.2 second.2 x y still yet first.4 second.4) in
-      line_alike manner.notation false text (DifferInOpening n m p q) _ _ _ _ first.0 second.0 closing
+      line_alike options.notation false text (DifferInOpening n m p q) _ _ _ _ first.0 second.0 closing
       (opening_asked (DifferInOpening n m p q) first.0 second.0 first.1.progress second.1.progress closing (λ front behind alike.
       let rest = all_alike n m texts first.1 second.1 first.2 second.2 x y alike first.4 second.4 in
       inr ([], second.2, first.5 ∙ ap (λ zs. zs ++ first.2) front ∙ ap (λ zs. counted_line (codes "opened") n ++ zs) rest, second.5 ∙ ap (λ zs. zs ++ second.2) behind)))
@@ -231,5 +231,5 @@ module _ (manner : Manner) (n m : ℕ) (some : IsReaderCount n) (others : IsRead
       (subst (λ e. IsAnsweredInAudit m e text second.0 second.1.progress) shut second.3.answered)
 
 pub workers_show_in_the_opening : WorkersShowInTheOpening
-workers_show_in_the_opening manner n m text one other some others prints other_prints =
-    all_differ manner n m some others (lines text) (begun manner) (begun manner) one other prints.0 other_prints.0 refl refl prints.1 other_prints.1
+workers_show_in_the_opening options n m text one other some others prints other_prints =
+    all_differ options n m some others (lines text) (before_first_line options) (before_first_line options) one other prints.0 other_prints.0 refl refl prints.1 other_prints.1

@@ -2,7 +2,7 @@
 use Rattle.std.specs.Prelude.{◌≡◌, ◌⊎◌, ℕ, List, ◌++◌, codes}
 use Rattle.sd_edit.specs.Starts.{IsReaderCount}
 use Rattle.sd_script.specs.Reply.{counted_line}
-use Rattle.sd_script.specs.declared.manner.Manner.{Manner}
+use Rattle.sd_script.specs.declared.script_options.ScriptOptions.{ScriptOptions}
 use Rattle.sd_script_audit.specs.Audit.{PrintsAudit}
 
 -- two outputs are equal, or differ in the line of an opening alone
@@ -16,5 +16,5 @@ DifferInOpening n m one other =
 -- audits of one text by n workers and by m differ in their opening alone; so by one number of workers it has one output
 abbrev pub WorkersShowInTheOpening : Type 0
 WorkersShowInTheOpening =
-    (manner : Manner) (n m : ℕ) (text one other : List ℕ) → IsReaderCount n → IsReaderCount m
-    → PrintsAudit manner n text one → PrintsAudit manner m text other → DifferInOpening n m one other
+    (options : ScriptOptions) (n m : ℕ) (text one other : List ℕ) → IsReaderCount n → IsReaderCount m
+    → PrintsAudit options n text one → PrintsAudit options m text other → DifferInOpening n m one other

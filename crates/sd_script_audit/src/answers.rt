@@ -9,13 +9,13 @@ ghost use Rattle.sd_script_audit.specs.Parts.{machine_of};
 use crate::queries::Queries;
 use sd_lines::RunError;
 use sd_script::{counted_line, reply_line};
-use sd_store::{AuditError, Checker, Gate, Naming, Notice, Query, StoreWriter, audit};
+use sd_store::{AuditError, Checker, Gate, Notice, Query, StoreId, StoreWriter, audit};
 use sd_versions::Reply;
 use std::alloc::{AllocError, Global};
 use std::sync::Wait;
 use std::thread::Threads;
 
-impl<J: Naming + Send + Sync, T: Threads + Wait + Sync> Queries<'_, J, T> {
+impl<J: StoreId + Send + Sync, T: Threads + Wait + Sync> Queries<'_, J, T> {
     /// Publishes the pending edits, prints the journal's length, and answers the queries by it.
     pub(crate) fn publish_and_answer<G: Gate + Sync>(
         &self,
@@ -50,7 +50,7 @@ impl<J: Naming + Send + Sync, T: Threads + Wait + Sync> Queries<'_, J, T> {
 }
 
 /// Publishes the pending edits, where there are some, and prints the journal's length.
-fn publish_and_tell<J: Naming, T: Wait>(
+fn publish_and_tell<J: StoreId, T: Wait>(
     rt: &T,
     alloc: Global,
     writer: &mut StoreWriter<J>,

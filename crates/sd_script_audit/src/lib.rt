@@ -9,9 +9,9 @@
 //! let mut reader = Watched::new(b"open 1 O:BAG:SYD:\ncheck 0 / S-1-5-18 0x1\n".as_slice());
 //! let mut writer = Watched::new(Vec::new(alloc));
 //! let notation = Notation::plain(PathSpelling::Plain);
-//! let manner = Manner { mapping: GenericMapping::file(), limits: Limits::standard(), notation };
-//! let tally = run_audit(&rt, alloc, 4, &manner, &mut reader, &mut writer, &OpenGate)?;
-//! // the writer holds "opened 4\ntold 0\nseen 0 denied 0x1\n", and tally.first_fault is None
+//! let options = ScriptOptions { mapping: GenericMapping::file(), limits: Limits::standard(), notation };
+//! let counts = run_audit(&rt, alloc, 4, &options, &mut reader, &mut writer, &OpenGate)?;
+//! // the writer holds "opened 4\ntold 0\nseen 0 denied 0x1\n", and counts.first_fault is None
 //! ```
 #![tactic(auto)]
 

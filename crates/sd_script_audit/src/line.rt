@@ -1,11 +1,11 @@
 //! What a line of an audit asks for.
 
 ghost use Rattle.std.specs.Prelude.{◌≡◌, IfErr, IfOk, IfSome, codes, string_bytes};
-ghost use Rattle.sd_answer.specs.Answer.{fault_line};
+ghost use Rattle.sd_answer.specs.VerdictLine.{fault_line};
 ghost use Rattle.sd_script_audit.specs.Audit.{AsksInAudit, IsToldInAudit};
 
 use sd_answer::fault_line;
-use sd_script::{Asked, LineStop, Notation, expects, is_silent, line_of_fault, read_line};
+use sd_script::{LineRequest, LineStop, Notation, expects, is_silent, line_of_fault, read_line};
 use std::alloc::{AllocError, Global};
 
 /// What a line asks for, or else what it is told: nothing if it is silent, and a fault if it expects an answer, which
@@ -17,7 +17,7 @@ pub(crate) fn asked_or_told(
     notation: Notation,
     is_open: bool,
     line: &[u8],
-) -> Result<Asked, Option<String>>
+) -> Result<LineRequest, Option<String>>
     ensures asks { IfOk result (λ asked. AsksInAudit notation is_open line.now asked) }
     ensures told { IfErr result (λ told. IfSome told
         (λ text. IsToldInAudit notation is_open line.now (string_bytes text))) }

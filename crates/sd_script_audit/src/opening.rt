@@ -7,7 +7,7 @@ ghost use Rattle.sd_script_audit.specs.Parts.{IsDoneOrTold, before_queries, with
 
 use crate::line::asked_or_told;
 use sd_lines::AnswersLines;
-use sd_script::{Asked, Manner, Tally, counted_line, start_error_line};
+use sd_script::{LineRequest, ScriptCounts, ScriptOptions, counted_line, start_error_line};
 use sd_tree::RootSpec;
 use sd_versions::Desk;
 use std::alloc::{AllocError, Global};
@@ -15,7 +15,7 @@ use std::alloc::{AllocError, Global};
 /// How the lines up to the one that opens the store are answered.
 #[derive(Clone, Copy)]
 pub(crate) struct Openings {
-    pub(crate) manner: Manner,
+    pub(crate) options: ScriptOptions,
     pub(crate) workers: u64,
 }
 
@@ -25,15 +25,15 @@ pub(crate) struct Unopened {
     /// The root of the store, where the last line opens it.
     pub(crate) root: Option<RootSpec>,
     /// What is counted of the lines so far.
-    pub(crate) tally: Tally,
+    pub(crate) counts: ScriptCounts,
 }
 
 impl AnswersLines for Openings {
     type State = Unopened;
 
     ghost answers = { λ by old line printed new. IfSome line (λ text. IsNextInAudit by.workers
-        (before_queries by.manner by.workers old.root old.tally) text printed
-        (before_queries by.manner by.workers new.root new.tally)) };
+        (before_queries by.options by.workers old.root old.counts) text printed
+        (before_queries by.options by.workers new.root new.counts)) };
 
     fn answer(
         &self,
@@ -46,9 +46,9 @@ impl AnswersLines for Openings {
             // (no line is too long, and those after the opening are left)
             return Err(AllocError);
         };
-        let found = asked_or_told(alloc, self.manner.notation, false, line);
+        let found = asked_or_told(alloc, self.options.notation, false, line);
         let answer = self.open(alloc, &mut unopened.root, found)?;
-        unopened.tally = unopened.tally.with(line, answer.as_bytes());
+        unopened.counts = unopened.counts.with(line, answer.as_bytes());
         text.extend_from_slice(answer.as_bytes())
     }
 }
@@ -60,23 +60,23 @@ impl Openings {
         &self,
         alloc: Global,
         opened: &mut Option<RootSpec>,
-        found: Result<Asked, Option<String>>,
+        found: Result<LineRequest, Option<String>>,
     ) -> Result<String, AllocError>
         requires opening { IfOk found (λ asked. opens asked ≡ true) }
         requires closed { opened.old ≡ None }
-        ensures { IfOk result (λ text. IsDoneOrTold string_bytes self.now.workers (unopened self.now.manner) found
-            (string_bytes text) (without_queries self.now.manner self.now.workers opened.new)) }
+        ensures { IfOk result (λ text. IsDoneOrTold string_bytes self.now.workers (unopened self.now.options) found
+            (string_bytes text) (without_queries self.now.options self.now.workers opened.new)) }
     {
         let root = match found {
-            Ok(Asked::Opening { readers: _, root }) => root,
+            Ok(LineRequest::Opening { readers: _, root }) => root,
             Ok(_) => unreachable!(),
             Err(told) => return told.ok_or(AllocError),
         };
-        let Manner {
+        let ScriptOptions {
             mapping,
             limits,
             ..
-        } = self.manner;
+        } = self.options;
         match Desk::start_within(alloc, &mapping, &root, limits, self.workers) {
             Ok(_) => {
                 *opened = Some(root);

@@ -10,8 +10,8 @@ use crate::opening::{Openings, Unopened};
 use crate::queries::{Open, Queries};
 use sd_history::Opened;
 use sd_lines::{RunError, answer_text, answer_until};
-use sd_script::{LINES, Manner, Tally};
-use sd_store::{Checker, Gate, Naming, start_within};
+use sd_script::{LINES, ScriptCounts, ScriptOptions};
+use sd_store::{Checker, Gate, StoreId, start_within};
 use sd_tree::{Edit, RootSpec};
 use sd_versions::StartError;
 use std::alloc::Global;
@@ -25,21 +25,22 @@ pub(crate) fn audit_output<T: Threads + Wait + Sync, G: Gate + Sync>(
     rt: &T,
     alloc: Global,
     workers: u64,
-    manner: &Manner,
+    options: &ScriptOptions,
     text: &[u8],
     gate: &G,
-) -> Result<(Vec<u8>, Tally), RunError>
-    ensures printed { IfOk result (λ output. PrintsAuditAndCounts manner.now workers text.now output.0.items output.1) }
+) -> Result<(Vec<u8>, ScriptCounts), RunError>
+    ensures printed { IfOk result
+        (λ output. PrintsAuditAndCounts options.now workers text.now output.0.items output.1) }
     ensures failed { IfErr result (λ e. (e ≡ RunError.Memory) ⊎ (e ≡ RunError.Thread)) }
 {
     let mut printed = Vec::new(alloc);
     let openings = Openings {
-        manner: *manner,
+        options: *options,
         workers,
     };
     let mut unopened = Unopened {
         root: None,
-        tally: Tally::of_no_lines(),
+        counts: ScriptCounts::of_no_lines(),
     };
     let after = answer_until(
         alloc,
@@ -52,50 +53,50 @@ pub(crate) fn audit_output<T: Threads + Wait + Sync, G: Gate + Sync>(
             ensures { result ≡ is_some unopened.now.root }
         { unopened.root.is_some() },
     )?;
-    let Unopened { root, tally } = unopened;
+    let Unopened { root, counts } = unopened;
     let Some(root) = root else {
-        return Ok((printed, tally));
+        return Ok((printed, counts));
     };
-    let tally = open_and_audit::<Brand, T, G>(
+    let counts = open_and_audit::<Brand, T, G>(
         rt,
         alloc,
         openings,
         Opened::new(),
         &root,
         after,
-        tally,
+        counts,
         gate,
         &mut printed,
     )?;
-    Ok((printed, tally))
+    Ok((printed, counts))
 }
 
 /// Opens a store of this history with this root, answers the lines after its opening, to the end of the audit, and
 /// returns what is then counted.
-fn open_and_audit<J: Naming + Send + Sync, T: Threads + Wait + Sync, G: Gate + Sync>(
+fn open_and_audit<J: StoreId + Send + Sync, T: Threads + Wait + Sync, G: Gate + Sync>(
     rt: &T,
     alloc: Global,
     openings: Openings,
     history: Opened<Edit>,
     root: &RootSpec,
     text: &[u8],
-    tally: Tally,
+    counts: ScriptCounts,
     gate: &G,
     printed: &mut Vec<u8>,
-) -> Result<Tally, RunError>
+) -> Result<ScriptCounts, RunError>
     requires history { (history.book ≡ J.book) × (history.first ≡ J.first) }
-    requires opening { opening_in openings.manner root.now ≡ J.opening }
+    requires opening { opening_in openings.options root.now ≡ J.opening }
     ensures audited { IfOk result (λ last. (added : List ℕ) × (printed.new.items ≡ printed.old.items ++ added)
         × AreAnsweredInAudit openings.workers
-        (before_queries openings.manner openings.workers (Some root.now) tally) (lines text.now) added last) }
+        (before_queries openings.options openings.workers (Some root.now) counts) (lines text.now) added last) }
     ensures failed { IfErr result (λ e. (e ≡ RunError.Memory) ⊎ (e ≡ RunError.Thread)) }
 {
-    let Openings { manner, workers } = openings;
-    let Manner {
+    let Openings { options, workers } = openings;
+    let ScriptOptions {
         mapping,
         limits,
         notation,
-    } = manner;
+    } = options;
     match start_within::<J, T>(rt, alloc, history, &mapping, root, limits, workers) {
         Ok((writer, mut checkers)) => {
             let queries = Queries {
@@ -107,24 +108,24 @@ fn open_and_audit<J: Naming + Send + Sync, T: Threads + Wait + Sync, G: Gate + S
             let mut open = Open {
                 writer,
                 queries: Vec::new(alloc),
-                tally,
+                counts,
             };
             let answered = queries.answered(alloc, &mut open, text, &mut checkers, gate, printed);
             let Open {
                 writer,
                 queries: _,
-                tally,
+                counts,
             } = open;
             writer.end(rt);
             answered?;
-            Ok(tally)
+            Ok(counts)
         }
         Err(StartError::Memory) => Err(RunError::Memory),
         Err(_) => Err(RunError::Thread),
     }
 }
 
-impl<J: Naming + Send + Sync, T: Threads + Wait + Sync> Queries<'_, J, T> {
+impl<J: StoreId + Send + Sync, T: Threads + Wait + Sync> Queries<'_, J, T> {
     /// Answers the lines after an opening and the end of the audit.
     fn answered<G: Gate + Sync>(
         &self,
@@ -139,7 +140,7 @@ impl<J: Naming + Send + Sync, T: Threads + Wait + Sync> Queries<'_, J, T> {
         requires some { (0 < length checkers.old) × (length checkers.old ≤ 64) }
         ensures audited { OnOk result ((added : List ℕ) × (printed.new.items ≡ printed.old.items ++ added)
             × AreAnsweredInAudit self.now.workers (audited self.now.notation J.opening self.now.workers
-            open.old.writer open.old.queries.items open.old.tally) (lines text.now) added open.new.tally) }
+            open.old.writer open.old.queries.items open.old.counts) (lines text.now) added open.new.counts) }
         ensures failed { IfErr result (λ e. (e ≡ RunError.Memory) ⊎ (e ≡ RunError.Thread)) }
     {
         answer_text(alloc, self, open, LINES, text, printed)?;

@@ -9,8 +9,8 @@ ghost use Rattle.sd_script_audit.specs.Parts.{IsDoneOrTold, audited, machine_of,
 
 use crate::line::{asked_or_told, only_in_scripts};
 use sd_lines::AnswersLines;
-use sd_script::{Asked, Notation, Tally, import_line, reply_line};
-use sd_store::{EditError, Naming, PublishError, Query, StoreWriter};
+use sd_script::{LineRequest, Notation, ScriptCounts, import_line, reply_line};
+use sd_store::{EditError, PublishError, Query, StoreId, StoreWriter};
 use sd_tree::Edit;
 use sd_versions::{Reply, Request};
 use std::alloc::{AllocError, Global};
@@ -27,21 +27,21 @@ pub(crate) struct Queries<'a, J, T> {
 }
 
 /// What is kept between two lines once the store is open.
-pub(crate) struct Open<J: Naming> {
+pub(crate) struct Open<J: StoreId> {
     /// The writer of the store.
     pub(crate) writer: StoreWriter<J>,
     /// What is asked at the end.
     pub(crate) queries: Vec<Query>,
     /// What is counted of the lines before.
-    pub(crate) tally: Tally,
+    pub(crate) counts: ScriptCounts,
 }
 
-impl<J: Naming, T: Wait> AnswersLines for Queries<'_, J, T> {
+impl<J: StoreId, T: Wait> AnswersLines for Queries<'_, J, T> {
     type State = Open<J>;
 
     ghost answers = { λ by old line printed new. IfSome line (λ text. IsNextInAudit by.workers
-        (audited by.notation J.opening by.workers old.writer old.queries.items old.tally) text printed
-        (audited by.notation J.opening by.workers new.writer new.queries.items new.tally)) };
+        (audited by.notation J.opening by.workers old.writer old.queries.items old.counts) text printed
+        (audited by.notation J.opening by.workers new.writer new.queries.items new.counts)) };
 
     fn answer(
         &self,
@@ -56,12 +56,12 @@ impl<J: Naming, T: Wait> AnswersLines for Queries<'_, J, T> {
         };
         let found = asked_or_told(alloc, self.notation, true, line);
         let answer = self.done(alloc, &mut open.writer, &mut open.queries, found)?;
-        open.tally = open.tally.with(line, answer.as_bytes());
+        open.counts = open.counts.with(line, answer.as_bytes());
         text.extend_from_slice(answer.as_bytes())
     }
 }
 
-impl<J: Naming, T: Wait> Queries<'_, J, T> {
+impl<J: StoreId, T: Wait> Queries<'_, J, T> {
     /// What is asked is done, and answered by this; what a line is told is its answer. A check is kept, and what only a
     /// script does is a fault. After an import the node is compared in the tree of all accepted edits.
     fn done(
@@ -69,7 +69,7 @@ impl<J: Naming, T: Wait> Queries<'_, J, T> {
         alloc: Global,
         writer: &mut StoreWriter<J>,
         queries: &mut Vec<Query>,
-        found: Result<Asked, Option<String>>,
+        found: Result<LineRequest, Option<String>>,
     ) -> Result<String, AllocError>
         requires { IfOk found (λ asked. opens asked ≡ false) }
         ensures { IfOk result (λ text. IsDoneOrTold string_bytes self.now.workers
@@ -79,14 +79,14 @@ impl<J: Naming, T: Wait> Queries<'_, J, T> {
     {
         let spelling = self.notation.spelling;
         match found {
-            Ok(Asked::Asking(Request::Edit(edit))) => {
+            Ok(LineRequest::Asking(Request::Edit(edit))) => {
                 reply_line(alloc, spelling, &edit_reply(writer, &edit))
             }
-            Ok(Asked::Asking(Request::Publish)) => {
+            Ok(LineRequest::Asking(Request::Publish)) => {
                 reply_line(alloc, spelling, &publish_reply(self.rt, writer))
             }
             Ok(
-                Asked::Asking(
+                LineRequest::Asking(
                     Request::Check {
                         reader: _,
                         path,
@@ -98,11 +98,11 @@ impl<J: Naming, T: Wait> Queries<'_, J, T> {
                 queries.push(Query { path, token, asked })?;
                 Ok(String::new(alloc))
             }
-            Ok(Asked::Importing { edit, path, given }) => {
+            Ok(LineRequest::Importing { edit, path, given }) => {
                 let reply = edit_reply(writer, &edit);
                 import_line(alloc, spelling, writer.draft(), &path, &given, &reply)
             }
-            Ok(Asked::Opening { .. }) => unreachable!(),
+            Ok(LineRequest::Opening { .. }) => unreachable!(),
             Ok(_) => only_in_scripts(alloc),
             Err(told) => told.ok_or(AllocError),
         }
@@ -110,7 +110,7 @@ impl<J: Naming, T: Wait> Queries<'_, J, T> {
 }
 
 /// The reply to an edit.
-fn edit_reply<J: Naming>(writer: &mut StoreWriter<J>, edit: &Edit) -> Reply
+fn edit_reply<J: StoreId>(writer: &mut StoreWriter<J>, edit: &Edit) -> Reply
     ensures { (readers : ℕ) → Steps (machine_of J.opening readers writer.old) (asked.Edit edit.now) result
         (machine_of J.opening readers writer.new) }
 {
@@ -122,7 +122,7 @@ fn edit_reply<J: Naming>(writer: &mut StoreWriter<J>, edit: &Edit) -> Reply
 }
 
 /// The reply to a publish.
-fn publish_reply<J: Naming, T: Wait>(rt: &T, writer: &mut StoreWriter<J>) -> Reply
+fn publish_reply<J: StoreId, T: Wait>(rt: &T, writer: &mut StoreWriter<J>) -> Reply
     ensures { (readers : ℕ) → Steps (machine_of J.opening readers writer.old) asked.Publish result
         (machine_of J.opening readers writer.new) }
 {

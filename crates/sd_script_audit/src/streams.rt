@@ -5,13 +5,13 @@ ghost use Rattle.sd_lines.specs.Watched.{inner_of, has_failed};
 ghost use Rattle.sd_lines.specs.Streams.{is_read_error, is_write_error, ReadsPart};
 ghost use Rattle.sd_script_audit.specs.Audit.{PrintsAuditAndCounts};
 ghost use Rattle.sd_script.specs.Printed.{PrintsAs};
-ghost use Rattle.sd_script.specs.declared.tally.Tally.{Tally};
+ghost use Rattle.sd_script.specs.declared.script_counts.ScriptCounts.{ScriptCounts};
 ghost use Rattle.sd_lines.specs.Output.{AppendsOutput, LeavesOutput};
 
 use crate::output::audit_output;
 use sd_json::{Tagging, printed_as};
 use sd_lines::{RunError, Watched, read_whole, write_whole};
-use sd_script::{Manner, Tally};
+use sd_script::{ScriptCounts, ScriptOptions};
 use sd_store::Gate;
 use std::alloc::Global;
 use std::io::{Read, Write};
@@ -32,17 +32,17 @@ pub fn run_audit<T: Threads + Wait + Sync, R: Read, W: Write, G: Gate + Sync>(
     rt: &T,
     alloc: Global,
     workers: u64,
-    manner: &Manner,
+    options: &ScriptOptions,
     reader: &mut Watched<R>,
     writer: &mut Watched<W>,
     gate: &G,
-) -> Result<Tally, RunError>
-    ensures ok { IfOk result (λ tally. AppendsOutput (λ text printed.
-        PrintsAs manner.now.notation.is_json (PrintsAuditAndCounts manner.now workers) text printed tally)
+) -> Result<ScriptCounts, RunError>
+    ensures ok { IfOk result (λ counts. AppendsOutput (λ text printed.
+        PrintsAs options.now.notation.is_json (PrintsAuditAndCounts options.now workers) text printed counts)
         (R.remaining (inner_of reader.old))
         (W.contents (inner_of writer.old)) (W.contents (inner_of writer.new))) }
-    ensures err { IfErr result (LeavesOutput (λ text printed. (tally : Tally)
-        × PrintsAs manner.now.notation.is_json (PrintsAuditAndCounts manner.now workers) text printed tally)
+    ensures err { IfErr result (LeavesOutput (λ text printed. (counts : ScriptCounts)
+        × PrintsAs options.now.notation.is_json (PrintsAuditAndCounts options.now workers) text printed counts)
         (R.remaining (inner_of reader.old))
         (W.contents (inner_of writer.old)) (W.contents (inner_of writer.new))) }
     ensures too_long { result ≡ Err RunError.TooLong
@@ -51,8 +51,8 @@ pub fn run_audit<T: Threads + Wait + Sync, R: Read, W: Write, G: Gate + Sync>(
     ensures write { has_failed writer.new ≡ (has_failed writer.old || is_write_error result) }
 {
     let text = read_whole(alloc, reader)?;
-    let (plain, tally) = audit_output(rt, alloc, workers, manner, &text, gate)?;
-    let printed = printed_as(alloc, manner.notation.is_json, Tagging::Nothing, plain)?;
+    let (plain, counts) = audit_output(rt, alloc, workers, options, &text, gate)?;
+    let printed = printed_as(alloc, options.notation.is_json, Tagging::Nothing, plain)?;
     write_whole(writer, &printed)?;
-    Ok(tally)
+    Ok(counts)
 }

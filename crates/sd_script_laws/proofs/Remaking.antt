@@ -8,7 +8,7 @@ use Rattle.sd_path.specs.Names.{Names}
 use Rattle.sd_edit.specs.Plain.{row_at}
 use Rattle.sd_edit.specs.Journal.{replay, refusal, root_refusal, IsLawful}
 use Rattle.sd_edit.specs.declared.edit.Edit.{Edit}
-use Rattle.sd_edit.specs.declared.node.Row.{Row}
+use Rattle.sd_edit.specs.declared.node.NodeRow.{NodeRow}
 use Rattle.sd_edit.specs.declared.opening.Opening.{Opening}
 use Rattle.sd_edit.proofs.Closed.{closed_replay}
 use Rattle.sd_tree_laws.proofs.Remade.{addition as added, a_container, first_entry, remade as made_again}
@@ -16,25 +16,25 @@ use Rattle.sd_edit.specs.Machine.{Machine}
 use Rattle.sd_edit.specs.Starts.{IsReaderCount}
 use Rattle.sd_edit.specs.declared.request.Request.TheVariants as requests
 use Rattle.sd_edit.specs.declared.request.Reply.TheVariants as replies
-use Rattle.sd_answer.specs.Answer.{line}
+use Rattle.sd_answer.specs.VerdictLine.{line}
 use Rattle.sd_script.specs.Dump.{makings, dump_text, IsAskedBy, AreAskedBy, IsReadBack}
-use Rattle.sd_script.specs.Output.{is_open, manner_of, opening_in, IsAnswered, IsDone, IsTold, closing_of}
+use Rattle.sd_script.specs.Output.{is_open, script_options_of, opening_in, IsAnswered, IsDone, IsTold, closing_of}
 use Rattle.sd_script.specs.Reply.{counted_line}
-use Rattle.sd_script.specs.declared.asked.Asked.{Asked}
-use Rattle.sd_script.specs.declared.asked.Asked.TheVariants.{Opening as Opens, Asking}
-use Rattle.sd_script.specs.declared.manner.Manner.{Manner}
-use Rattle.sd_script.specs.declared.manner.Notation.{Notation}
+use Rattle.sd_script.specs.declared.line_request.LineRequest.{LineRequest}
+use Rattle.sd_script.specs.declared.line_request.LineRequest.TheVariants.{Opening as Opens, Asking}
+use Rattle.sd_script.specs.declared.script_options.ScriptOptions.{ScriptOptions}
+use Rattle.sd_script.specs.declared.script_options.Notation.{Notation}
 use Rattle.sd_script.specs.declared.session.Session.{Session}
 use Rattle.sd_script.specs.declared.session.Session.TheVariants.{Closed, Opened}
 use Rattle.sd_script.proofs.NoId.{asks_and_expects_nothing}
 use Rattle.sd_script.proofs.OneOutput.{has_one_answer}
 use Rattle.sd_script.proofs.Timely.{line_opens}
-use Rattle.sd_script_laws.specs.Laws.{Reaches, same_manner, IsSound, IsSameAgain, DumpMakesTheTreeAgain}
+use Rattle.sd_script_laws.specs.Laws.{Reaches, same_script_options, IsSound, IsSameAgain, DumpMakesTheTreeAgain}
 
 -- ---- one line
 
 -- what a line asks for is done
-answers : (old new : Session) (text told : List ℕ) (asked : Asked) → IsAskedBy (manner_of old).notation (is_open old) text asked → IsDone old asked told new
+answers : (old new : Session) (text told : List ℕ) (asked : LineRequest) → IsAskedBy (script_options_of old).notation (is_open old) text asked → IsDone old asked told new
     → IsAnswered old text (told ++ closing_of text) new
 answers old new text told asked is done =
     let P : Bool → Type 0 = λ silent. MatchBool silent
@@ -43,12 +43,12 @@ answers old new text told asked is done =
     subst P (sym is.0) (told, inl (asked, is.1, done), refl)
 
 -- and the rest of the lines behind it
-goes_on : (old between new : Session) (text told : List ℕ) (texts : List (List ℕ)) (asked : Asked) → IsAskedBy (manner_of old).notation (is_open old) text asked → IsDone old asked told between
+goes_on : (old between new : Session) (text told : List ℕ) (texts : List (List ℕ)) (asked : LineRequest) → IsAskedBy (script_options_of old).notation (is_open old) text asked → IsDone old asked told between
     → Reaches between texts new → Reaches old (text ∷ texts) new
 goes_on old between new text told texts asked is done rest = (
   told ++ closing_of text,
   between,
-  asks_and_expects_nothing (manner_of old).notation (is_open old) text asked is.1,
+  asks_and_expects_nothing (script_options_of old).notation (is_open old) text asked is.1,
   answers old between text told asked is done,
   rest,
 )
@@ -83,7 +83,7 @@ module _ (notation : Notation) (o : Opening) (n : ℕ) where
   publishes : (front : List Edit) → IsDone (Opened notation (waiting o n front)) (Asking requests.Publish) (counted_line (codes "published") (length front)) (Opened notation (shown o n front))
   publishes front = (replies.Published (length front), shown o n front, (refl, refl), refl, refl)
 
-  nodes_reach : (front : List Edit) (nodes : List (Names × Row)) (texts : List (List ℕ)) → IsLawful o (front ++ map added nodes)
+  nodes_reach : (front : List Edit) (nodes : List (Names × NodeRow)) (texts : List (List ℕ)) → IsLawful o (front ++ map added nodes)
       → AreAskedBy notation true texts (makings n nodes ++ Asking requests.Publish ∷ []) → Reaches (Opened notation (waiting o n front)) texts (Opened notation (shown o n (front ++ map added nodes)))
   nodes_reach front [] [] lawful are = absurd are
   nodes_reach front [] (text ∷ []) lawful are =
@@ -104,19 +104,19 @@ module _ (notation : Notation) (o : Opening) (n : ℕ) where
 
 -- ---- the whole tree
 
-opens : (manner : Manner) (n : ℕ) (row : Row) → IsReaderCount n → root_refusal (opening_in manner (root_of row)) ≡ None
-    → IsDone (Closed manner) (Opens n (root_of row)) (counted_line (codes "opened") n) (Opened manner.notation (waiting (opening_in manner (root_of row)) n []))
-opens manner n row count fits = inl (count, fits, refl, refl)
+opens : (options : ScriptOptions) (n : ℕ) (row : NodeRow) → IsReaderCount n → root_refusal (opening_in options (root_of row)) ≡ None
+    → IsDone (Closed options) (Opens n (root_of row)) (counted_line (codes "opened") n) (Opened options.notation (waiting (opening_in options (root_of row)) n []))
+opens options n row count fits = inl (count, fits, refl, refl)
 
-lines_reach : (manner : Manner) (n : ℕ) (row : Row) (nodes : List (Names × Row)) (texts : List (List ℕ)) → IsReaderCount n
-    → root_refusal (opening_in manner (root_of row)) ≡ None → IsLawful (opening_in manner (root_of row)) (map added nodes)
-    → AreAskedBy manner.notation false texts (makings n (([], row) ∷ nodes) ++ Asking requests.Publish ∷ [])
-    → Reaches (Closed manner) texts (Opened manner.notation (shown (opening_in manner (root_of row)) n (map added nodes)))
-lines_reach manner n row nodes [] count fits lawful are = absurd are
-lines_reach manner n row nodes (text ∷ texts) count fits lawful are =
-    let o = opening_in manner (root_of row) in
-    goes_on (Closed manner) (Opened manner.notation (waiting o n [])) (Opened manner.notation (shown o n (map added nodes))) text _ texts (Opens n (root_of row)) are.0 (opens manner n row count fits)
-    (nodes_reach manner.notation o n [] nodes texts lawful are.1)
+lines_reach : (options : ScriptOptions) (n : ℕ) (row : NodeRow) (nodes : List (Names × NodeRow)) (texts : List (List ℕ)) → IsReaderCount n
+    → root_refusal (opening_in options (root_of row)) ≡ None → IsLawful (opening_in options (root_of row)) (map added nodes)
+    → AreAskedBy options.notation false texts (makings n (([], row) ∷ nodes) ++ Asking requests.Publish ∷ [])
+    → Reaches (Closed options) texts (Opened options.notation (shown (opening_in options (root_of row)) n (map added nodes)))
+lines_reach options n row nodes [] count fits lawful are = absurd are
+lines_reach options n row nodes (text ∷ texts) count fits lawful are =
+    let o = opening_in options (root_of row) in
+    goes_on (Closed options) (Opened options.notation (waiting o n [])) (Opened options.notation (shown o n (map added nodes))) text _ texts (Opens n (root_of row)) are.0 (opens options n row count fits)
+    (nodes_reach options.notation o n [] nodes texts lawful are.1)
 
 -- ---- every run
 
@@ -129,29 +129,29 @@ one_end old (text ∷ texts) one other first second =
 -- ---- the law
 
 remade : (notation : Notation) (m : Machine) (text : List ℕ) → IsSound m → IsReadBack notation (length m.floors) (replay m.opening m.published) text
-    → (again : Machine) × IsSameAgain m again × Reaches (Closed (same_manner notation m)) (lines text) (Opened notation again)
-    × ((other : Session) → Reaches (Closed (same_manner notation m)) (lines text) other → other ≡ Opened notation again)
+    → (again : Machine) × IsSameAgain m again × Reaches (Closed (same_script_options notation m)) (lines text) (Opened notation again)
+    × ((other : Session) → Reaches (Closed (same_script_options notation m)) (lines text) other → other ≡ Opened notation again)
 remade notation m text sound back =
     let t = replay m.opening m.published in
     let n = length m.floors in
     let held = a_container (row_at t []) (closed_replay m.opening m.published sound.lawful).root in
     let row = held.0 in
     let first = first_entry t row held.1 in
-    let o = opening_in (same_manner notation m) (root_of row) in
+    let o = opening_in (same_script_options notation m) (root_of row) in
     let edits = map added first.0 in
     let makes = made_again m.opening m.published sound.accepted sound.lawful row held.2 held.1 first.0 first.1 in
-    let are = subst (λ (es : List (Names × Row)). AreAskedBy notation false (lines text) (makings n es ++ Asking requests.Publish ∷ [])) (sym first.1) back in
-    let reach = lines_reach (same_manner notation m) n row first.0 (lines text) sound.readers makes.accepted makes.lawful are in (
+    let are = subst (λ (es : List (Names × NodeRow)). AreAskedBy notation false (lines text) (makings n es ++ Asking requests.Publish ∷ [])) (sym first.1) back in
+    let reach = lines_reach (same_script_options notation m) n row first.0 (lines text) sound.readers makes.accepted makes.lawful are in (
       shown o n edits,
       record { mapping = refl; limits = refl; tree = makes.made; nothing_waits = refl; readers = length-replicate n [] },
       reach,
-      λ other reaches. one_end (Closed (same_manner notation m)) (lines text) other (Opened notation (shown o n edits)) reaches reach,
+      λ other reaches. one_end (Closed (same_script_options notation m)) (lines text) other (Opened notation (shown o n edits)) reaches reach,
     )
 
 pub dump_makes_the_tree_again : DumpMakesTheTreeAgain
 dump_makes_the_tree_again notation m printed new sound (inl told, same) fault =
     let again = remade notation m (dump_text notation (length m.floors) (replay m.opening m.published)) sound told.0 in
-    let P : List ℕ → Type 0 = λ text. (again : Machine) × IsSameAgain m again × Reaches (Closed (same_manner notation m)) (lines text) (Opened notation again)
-    × ((other : Session) → Reaches (Closed (same_manner notation m)) (lines text) other → other ≡ Opened notation again) in
+    let P : List ℕ → Type 0 = λ text. (again : Machine) × IsSameAgain m again × Reaches (Closed (same_script_options notation m)) (lines text) (Opened notation again)
+    × ((other : Session) → Reaches (Closed (same_script_options notation m)) (lines text) other → other ≡ Opened notation again) in
     subst P (sym told.1) again
 dump_makes_the_tree_again notation m printed new sound (inr refused, same) fault = absurd (fault refused.1)

@@ -4,15 +4,15 @@ use Rattle.std.specs.Str.Lines.{lines}
 use Rattle.sd_edit.specs.Journal.{replay, root_refusal, IsLawful}
 use Rattle.sd_edit.specs.Machine.{Machine}
 use Rattle.sd_edit.specs.Starts.{IsReaderCount}
-use Rattle.sd_answer.specs.Answer.{fault_line}
+use Rattle.sd_answer.specs.VerdictLine.{fault_line}
 use Rattle.sd_script.specs.Expect.{expects}
 use Rattle.sd_script.specs.Output.{IsAnswered, IsDone}
-use Rattle.sd_script.specs.declared.asked.Asked.TheVariants.{Viewing}
-use Rattle.sd_script.specs.declared.manner.Manner.{Manner}
-use Rattle.sd_script.specs.declared.manner.Notation.{Notation}
+use Rattle.sd_script.specs.declared.line_request.LineRequest.TheVariants.{Viewing}
+use Rattle.sd_script.specs.declared.script_options.ScriptOptions.{ScriptOptions}
+use Rattle.sd_script.specs.declared.script_options.Notation.{Notation}
 use Rattle.sd_script.specs.declared.session.Session.{Session}
 use Rattle.sd_script.specs.declared.session.Session.TheVariants.{Closed, Opened}
-use Rattle.sd_script.specs.declared.view.View.TheVariants.{Dump}
+use Rattle.sd_script.specs.declared.view.ViewRequest.TheVariants.{Dump}
 
 -- the lines, which expect no answer, are answered one after the other, and the session is then `new`
 abbrev pub Reaches : Session → List (List ℕ) → Session → Type 0
@@ -36,8 +36,8 @@ pub record IsSameAgain (m again : Machine) : Type 0 where
   pub readers : length again.floors ≡ length m.floors
 
 -- no store is open yet. One that is opened has the same mapping and limits, and lines are written as in the dump
-abbrev pub same_manner : Notation → Machine → Manner
-same_manner notation m = record { mapping = m.opening.mapping; limits = m.opening.limits; notation = notation }
+abbrev pub same_script_options : Notation → Machine → ScriptOptions
+same_script_options notation m = record { mapping = m.opening.mapping; limits = m.opening.limits; notation = notation }
 
 -- unless the fault is what is printed
 abbrev pub DumpMakesTheTreeAgain : Type 0
@@ -45,6 +45,6 @@ DumpMakesTheTreeAgain =
     (notation : Notation) (m : Machine) (printed : List ℕ) (new : Session) → IsSound m
     → IsDone (Opened notation m) (Viewing Dump) printed new → printed ≢ fault_line (codes "name")
     → (again : Machine) × IsSameAgain m again
-    × Reaches (Closed (same_manner notation m)) (lines printed) (Opened notation again)
-    × ((other : Session) → Reaches (Closed (same_manner notation m)) (lines printed) other
+    × Reaches (Closed (same_script_options notation m)) (lines printed) (Opened notation again)
+    × ((other : Session) → Reaches (Closed (same_script_options notation m)) (lines printed) other
     → other ≡ Opened notation again)

@@ -10,13 +10,13 @@ mod serving;
 mod streams;
 mod trees;
 
-use sd_script::{Manner, Notation, PathSpelling};
+use sd_script::{Notation, PathSpelling, ScriptOptions};
 use sd_sid::GenericMapping;
 use sd_tree::Limits;
 
 /// With the generic rights of files, the standard limits, and lines as they are.
-fn plain() -> Manner {
-    Manner {
+fn plain() -> ScriptOptions {
+    ScriptOptions {
         mapping: GenericMapping::file(),
         limits: Limits::standard(),
         notation: Notation::plain(PathSpelling::Plain),

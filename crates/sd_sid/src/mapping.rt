@@ -105,9 +105,9 @@ impl GenericMapping {
         ensures { result ≡ mapped self.now mask }
     {
         mask.common(Mask(0x0FFF_FFFF))
-            .union(self.read.when(mask.holds(31)))
-            .union(self.write.when(mask.holds(30)))
-            .union(self.execute.when(mask.holds(29)))
-            .union(self.all.when(mask.holds(28)))
+            .union(self.read.only_if(mask.holds(31)))
+            .union(self.write.only_if(mask.holds(30)))
+            .union(self.execute.only_if(mask.holds(29)))
+            .union(self.all.only_if(mask.holds(28)))
     }
 }

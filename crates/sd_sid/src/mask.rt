@@ -69,7 +69,7 @@ impl Mask {
     }
 
     /// The mask if the test holds, else the empty one.
-    pub fn when(self, test: bool) -> Mask
+    pub fn only_if(self, test: bool) -> Mask
         ensures { result ≡ cond test self 0 }
     {
         if test { self } else { Mask(0) }

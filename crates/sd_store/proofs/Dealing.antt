@@ -13,7 +13,7 @@ use Rattle.sd_store.specs.Sights.{Sight}
 use Rattle.sd_store.specs.Workers.{IsDrawn, IsDrawnAt, IsFurther, IsWorked, IsDone, AreDone, IsInformed, AreInformed, IsDealt}
 use Rattle.sd_store.specs.declared.error.AuditError.TheVariants as failed
 use Rattle.sd_store.specs.declared.query.Query.{Query}
-use Rattle.sd_store.specs.declared.rule.View.{View}
+use Rattle.sd_store.specs.declared.rule.KnownJournal.{KnownJournal}
 use Rattle.sd_store.specs.Rules.{newcomer}
 use Rattle.sd_store.proofs.Answering.{answer_stays}
 use Rattle.sd_store.proofs.Prefixes.{prefix_self, prefix_trans}
@@ -87,7 +87,7 @@ gate_failed o always queries step worker old new is done = subst (IsWorked o alw
 kept_answer : (o : Opening) (now new : Sight) (q : Query) (a : Answer) → new.view ≡ now.view → new.floor ≡ now.floor → IsAnswer o now q a → IsAnswer o new q a
 kept_answer o now new q a view floor is = answer_stays o now new q a
     (subst (IsPrefix now.floor) (sym floor) (prefix_self now.floor))
-    (subst (IsPrefix now.view.marks) (sym (ap (λ (v : View). v.marks) view)) (prefix_self now.view.marks))
+    (subst (IsPrefix now.view.marks) (sym (ap (λ (v : KnownJournal). v.marks) view)) (prefix_self now.view.marks))
     is
 
 kept_drawn : (o : Opening) (now new : Sight) (least worker step : ℕ) (queries : List Query) (answers : List Answer) → new.view ≡ now.view → new.floor ≡ now.floor

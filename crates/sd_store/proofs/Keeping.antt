@@ -5,34 +5,34 @@ use mathlib.Core.List.{IsPrefix}
 use lib.ListN.{get_elem?}
 use Rattle.left_right.specs.Register.{Admits, TurnsAt, Turns}
 use Rattle.atomic_table.proofs.Lists.{at_set, at_snoc}
-use Rattle.sd_store.specs.Rules.{Named, Fits, Kept, Shows, IsSound, newcomer, whole_of}
+use Rattle.sd_store.specs.Rules.{StoreIdValue, Fits, Kept, Shows, IsSound, newcomer, whole_of}
 use Rattle.sd_store.specs.declared.published.Published.{Published}
-use Rattle.sd_store.specs.declared.rule.View.{View}
+use Rattle.sd_store.specs.declared.rule.KnownJournal.{KnownJournal}
 use Rattle.sd_store.proofs.Prefixes.{prefix_self, prefix_trans}
 
 -- a reader that comes knows the empty journal
-newcomer_fits : (n : Named) (x : Published) → IsSound n x → Fits x newcomer
+newcomer_fits : (n : StoreIdValue) (x : Published) → IsSound n x → Fits x newcomer
 newcomer_fits n x sound = ((x.tree.journal, refl), sound.begins, refl)
 
-pub admits : (n : Named) → Admits (Kept n) newcomer
+pub admits : (n : StoreIdValue) → Admits (Kept n) newcomer
 admits n x views kept = (
   kept.0,
   λ seat v at. ⊎_elim (λ (e : get_elem? views seat ≡ some v). kept.1 seat v e) (λ (e : newcomer ≡ v). subst (Fits x) e (newcomer_fits n x kept.0)) (at_snoc views newcomer v seat at),
 )
 
 -- what fitted still fits when journal and marks have gone on
-fits_on : (x y : Published) (v : View) → IsPrefix x.tree.journal y.tree.journal → IsPrefix x.marks.items y.marks.items → Fits x v → Fits y v
+fits_on : (x y : Published) (v : KnownJournal) → IsPrefix x.tree.journal y.tree.journal → IsPrefix x.marks.items y.marks.items → Fits x v → Fits y v
 fits_on x y v journal marks fits = (
   prefix_trans v.journal x.tree.journal y.tree.journal fits.0 journal,
   prefix_trans v.marks x.marks.items y.marks.items fits.1 marks,
   fits.2,
 )
 
-whole_fits : (n : Named) (y : Published) → IsSound n y → Fits y (whole_of y)
+whole_fits : (n : StoreIdValue) (y : Published) → IsSound n y → Fits y (whole_of y)
 whole_fits n y sound = (prefix_self y.tree.journal, prefix_self y.marks.items, sound.ends)
 
 -- a step to a value that goes on shows the whole of it
-pub turns : (n : Named) (seat : ℕ) (v : View) (x y : Published) → (IsSound n x → IsSound n y)
+pub turns : (n : StoreIdValue) (seat : ℕ) (v : KnownJournal) (x y : Published) → (IsSound n x → IsSound n y)
     → IsPrefix x.tree.journal y.tree.journal → IsPrefix x.marks.items y.marks.items
     → TurnsAt (Kept n) seat v x y (Shows n)
 turns n seat v x y sound journal marks views kept at =
@@ -47,11 +47,11 @@ turns n seat v x y sound journal marks views kept at =
     )
 
 -- a look changes nothing, and shows the whole
-pub looks : (n : Named) (seat : ℕ) (v : View) → Turns (Kept n) seat v (λ x. x) (Shows n)
+pub looks : (n : StoreIdValue) (seat : ℕ) (v : KnownJournal) → Turns (Kept n) seat v (λ x. x) (Shows n)
 looks n seat v x = turns n seat v x x (λ sound. sound) (prefix_self x.tree.journal) (prefix_self x.marks.items)
 
 -- what is shown goes on from the view before
-pub goes_on : (n : Named) (v : View) (x y : Published) (w : View) → Shows n v x y w → IsPrefix v.journal w.journal × IsPrefix v.marks w.marks
+pub goes_on : (n : StoreIdValue) (v : KnownJournal) (x y : Published) (w : KnownJournal) → Shows n v x y w → IsPrefix v.journal w.journal × IsPrefix v.marks w.marks
 goes_on n v x y w shows = rw (shows.0) (shows.2.0, shows.2.1)
 
 pub on_ok : {T E : Type 0} {P : Type 0} (result : Result T E) → P → OnOk result P

@@ -8,9 +8,9 @@ use Rattle.sd_history.specs.Chains.{Sighting, items_from}
 use Rattle.sd_store.specs.declared.operation.Facts.{Facts}
 use Rattle.sd_store.specs.declared.operation.Operation.{Operation}
 use Rattle.sd_store.specs.declared.published.Published.{Published}
-use Rattle.sd_store.specs.declared.rule.View.{View}
+use Rattle.sd_store.specs.declared.rule.KnownJournal.{KnownJournal}
 use Rattle.sd_store.specs.Marks.{marked, last_of, with_shown, ShowTree}
-use Rattle.sd_store.specs.Rules.{Named, Kept, Shows, IsSound, IsFrontOf}
+use Rattle.sd_store.specs.Rules.{StoreIdValue, Kept, Shows, IsSound, IsFrontOf}
 use Rattle.sd_store.proofs.Keeping.{turns}
 use Rattle.sd_store.proofs.Marking.{last_push}
 use Rattle.sd_store.proofs.Prefixes.{prefix_append, prefix_trans}
@@ -33,7 +33,7 @@ module _ (x y : Published) (ops : List Operation) (tree : TreeValue) (front : Si
   marks_next = ap (λ (s : Facts). s.marks) whole ∙ ap (λ j. x.marks.items ++ length j ∷ []) (sym journal_next)
 
   -- what is then published is sound
-  sound_next : (n : Named) → tree.opening ≡ n.opening → IsLawful n.opening tree.journal → IsFrontOf n front tree.journal
+  sound_next : (n : StoreIdValue) → tree.opening ≡ n.opening → IsLawful n.opening tree.journal → IsFrontOf n front tree.journal
       → IsSound n x → IsSound n y
   sound_next n opening lawful of sound = record {
     opening = ap (λ (s : Facts). s.opening) whole ∙ opening;
@@ -46,7 +46,7 @@ module _ (x y : Published) (ops : List Operation) (tree : TreeValue) (front : Si
     };
   }
 
-  pub publishes : (n : Named) (seat : ℕ) (v : View) → tree.opening ≡ n.opening → IsLawful n.opening tree.journal → IsFrontOf n front tree.journal
+  pub publishes : (n : StoreIdValue) (seat : ℕ) (v : KnownJournal) → tree.opening ≡ n.opening → IsLawful n.opening tree.journal → IsFrontOf n front tree.journal
       → IsPrefix x.tree.journal tree.journal → TurnsAt (Kept n) seat v x y (Shows n)
   publishes n seat v opening lawful of onwards = turns n seat v x y
       (sound_next n opening lawful of)

@@ -3,12 +3,12 @@ use Rattle.std.specs.Prelude.{◌≡◌, ℕ, ◌<◌, ◌⊎◌, List, [], leng
 use Rattle.sd_edit.specs.declared.edit.Edit.{Edit}
 use Rattle.sd_edit.specs.declared.reply.Answer.{Answer}
 use Rattle.sd_store.specs.declared.error.AuditError.{AuditError}
-use Rattle.sd_store.specs.declared.rule.View.{View}
+use Rattle.sd_store.specs.declared.rule.KnownJournal.{KnownJournal}
 
 -- a checker: its view in the shared store; its floor, the journal that it has seen or learned of; and its part of the
 -- last audit, of which no public clause speaks
 pub record Sight : Type 0 where
-  pub view : View
+  pub view : KnownJournal
   pub floor : List Edit
   pub drawn : List Answer
   pub failed : Option AuditError
@@ -25,7 +25,7 @@ pub record StoreState : Type 0 where
   pub pending : List Edit
 
 -- by the writer's view and the pending edits
-abbrev pub state_of : View → List Edit → StoreState
+abbrev pub state_of : KnownJournal → List Edit → StoreState
 state_of v pending = record { journal = v.journal; marks = v.marks; pending = pending }
 
 abbrev pub blank : StoreState

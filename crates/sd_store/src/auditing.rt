@@ -10,9 +10,9 @@ ghost use Rattle.sd_store.specs.declared.error.AuditError.TheVariants as failed;
 use crate::checker::Checker;
 use crate::error::AuditError;
 use crate::gate::Gate;
-use crate::naming::Naming;
 use crate::notice::Notice;
 use crate::query::Query;
+use crate::store_id::StoreId;
 use crate::worker::work;
 use sd_versions::Answer;
 use std::alloc::Global;
@@ -23,7 +23,7 @@ use std::thread::Threads;
 /// first, so no answer is by less than its journal. One worker for each of the `n` checkers, in a thread of its own
 /// where one can be made: worker `i` answers the queries `i`, `i + n`, `i + 2n` and so on. After an error each checker
 /// has seen no less than it had.
-pub fn audit<J: Naming + Send + Sync, G: Gate + Sync, R: Threads + Sync>(
+pub fn audit<J: StoreId + Send + Sync, G: Gate + Sync, R: Threads + Sync>(
     rt: &R,
     alloc: Global,
     checkers: &mut [Checker<J>],
@@ -48,7 +48,7 @@ pub fn audit<J: Naming + Send + Sync, G: Gate + Sync, R: Threads + Sync>(
 }
 
 /// Each checker learns the notice.
-fn inform<J: Naming>(checkers: &mut [Checker<J>], notice: &mut Notice<J>)
+fn inform<J: StoreId>(checkers: &mut [Checker<J>], notice: &mut Notice<J>)
     ensures count { length checkers.new ≡ length checkers.old }
     ensures notice { notice.new ≡ notice.old }
     ensures informed { AreInformed notice.old.journal checkers.old checkers.new }
@@ -59,7 +59,7 @@ fn inform<J: Naming>(checkers: &mut [Checker<J>], notice: &mut Notice<J>)
 }
 
 /// Each checker's worker does its part, as many side by side as there are checkers.
-fn spread<J: Naming + Send + Sync, G: Gate + Sync, R: Threads + Sync>(
+fn spread<J: StoreId + Send + Sync, G: Gate + Sync, R: Threads + Sync>(
     rt: &R,
     alloc: Global,
     checkers: &mut [Checker<J>],
@@ -83,7 +83,7 @@ fn spread<J: Naming + Send + Sync, G: Gate + Sync, R: Threads + Sync>(
 }
 
 /// Why the first worker that failed has no answers.
-fn first_failure<J: Naming>(checkers: &[Checker<J>]) -> Option<AuditError>
+fn first_failure<J: StoreId>(checkers: &[Checker<J>]) -> Option<AuditError>
     ensures { MatchOption result
         ((i : ℕ) (d : Sight) → i < length checkers.now → (slice_index_or checkers.now i d).failed ≡ None)
         (λ e. (i : ℕ) × (i < length checkers.now) × ((d : Sight) → (slice_index_or checkers.now i d).failed ≡ Some e)) }
@@ -97,7 +97,7 @@ fn first_failure<J: Naming>(checkers: &[Checker<J>]) -> Option<AuditError>
 }
 
 /// The answers to so many queries, in the order of the queries.
-fn gathered<J: Naming>(
+fn gathered<J: StoreId>(
     alloc: Global,
     checkers: &[Checker<J>],
     count: usize,
@@ -117,7 +117,7 @@ fn gathered<J: Naming>(
     Ok(answers)
 }
 
-impl<J: Naming> Checker<J> {
+impl<J: StoreId> Checker<J> {
     fn drawn(&self) -> &[Answer]
         ensures { result.now ≡ self.now.drawn }
     {

@@ -12,10 +12,10 @@ ghost use Rattle.sd_store.specs.declared.error.ShowError.TheVariants as show;
 
 use crate::error::{AuditError, Gone, ShowError};
 use crate::floor::Floor;
-use crate::naming::Naming;
 use crate::notice::Notice;
 use crate::read::{begin, end};
 use crate::rule::Seat;
+use crate::store_id::StoreId;
 use sd_acl::Descriptor;
 use sd_check::Token;
 use sd_sid::Mask;
@@ -28,7 +28,7 @@ use std::marker::Model;
 /// the journal and the marks that it found last, and its floor, the journal that it has seen or learned of, which never
 /// falls.
 #[derive(Drop)]
-pub struct Checker<J: Naming> {
+pub struct Checker<J: StoreId> {
     /// The reader's place in the shared store; away during a read alone.
     pub(crate) seat: Option<Seat<J>>,
     /// The journal that it has seen or learned of.
@@ -39,7 +39,7 @@ pub struct Checker<J: Naming> {
     pub(crate) failed: Option<AuditError>,
 }
 
-impl<J: Naming> Model for Checker<J> {
+impl<J: StoreId> Model for Checker<J> {
     ghost use Rattle.std.specs.Prelude.{IsSome};
     ghost use Rattle.std.specs.Option.{option_map_or};
     ghost use Rattle.left_right.specs.Sides.{view as client_of};
@@ -59,7 +59,7 @@ impl<J: Naming> Model for Checker<J> {
 }
 
 /// Shows the length of what it has seen.
-impl<J: Naming> fmt::Debug for Checker<J> {
+impl<J: StoreId> fmt::Debug for Checker<J> {
     fn fmt<W: fmt::Write>(&self, f: &mut fmt::Formatter<W>) -> fmt::Result {
         f.debug_struct("Checker")
             .field("seen", &self.floor.len())
@@ -67,7 +67,7 @@ impl<J: Naming> fmt::Debug for Checker<J> {
     }
 }
 
-impl<J: Naming> Checker<J> {
+impl<J: StoreId> Checker<J> {
     /// The verdict on a request for the node of a path ([MS-DTYP] 2.5.3.2), by the journal that is published at one
     /// moment of this call, and its length. That journal extends all that this reader has seen or learned of. Takes no
     /// memory, and waits for nobody.
@@ -121,7 +121,7 @@ impl<J: Naming> Checker<J> {
         ensures extends { IsPrefix self.old.floor self.new.floor × IsPrefix notice.old.journal self.new.floor }
         ensures notice { notice.new ≡ notice.old }
     {
-        let _ = self.floor.raise(notice.journal.again());
+        let _ = self.floor.raise(notice.journal.copy());
     }
 
     /// The length of the journal that the reader has seen or learned of.

@@ -7,7 +7,7 @@ ghost use Rattle.sd_edit.specs.Journal.{IsLawful};
 ghost use Rattle.sd_edit.specs.Machine.{longer};
 
 use crate::error::Gone;
-use crate::naming::Naming;
+use crate::store_id::StoreId;
 use sd_history::Front;
 use sd_tree::Edit;
 use std::marker::{Model, PhantomData};
@@ -15,13 +15,13 @@ use std::marker::{Model, PhantomData};
 /// A journal that was published, as a prefix of the history of accepted edits. A reader keeps the longest that it has
 /// seen or learned of, and answers from no shorter one. Contracts see its edits.
 #[derive(Drop)]
-pub(crate) struct Floor<J: Naming> {
+pub(crate) struct Floor<J: StoreId> {
     len: u64,
     front: Front<Edit>,
     of: PhantomData<J>,
 }
 
-impl<J: Naming> Model for Floor<J> {
+impl<J: StoreId> Model for Floor<J> {
     ghost use Rattle.std.specs.Prelude.{◌≡◌, List, length};
     ghost use Rattle.sd_edit.specs.Journal.{IsLawful};
     ghost use Rattle.sd_edit.specs.declared.edit.Edit.{Edit};
@@ -36,7 +36,7 @@ impl<J: Naming> Model for Floor<J> {
         × IsLawful J.opening (items_from J.first f.front.log) };
 }
 
-impl<J: Naming> Floor<J> {
+impl<J: StoreId> Floor<J> {
     /// The journal of this length that the front is.
     pub(crate) fn new(len: u64, front: Front<Edit>) -> Floor<J>
         requires len { len ≡ length (items_from J.first front.log) }
@@ -60,12 +60,12 @@ impl<J: Naming> Floor<J> {
     }
 
     /// A copy. Takes no memory.
-    pub(crate) fn again(&self) -> Floor<J>
+    pub(crate) fn copy(&self) -> Floor<J>
         ensures { result ≡ self.now }
     {
         Floor {
             len: self.len,
-            front: self.front.again(),
+            front: self.front.copy(),
             of: PhantomData,
         }
     }

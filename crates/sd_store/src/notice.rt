@@ -4,7 +4,7 @@ ghost use Rattle.std.specs.Prelude.{◌≡◌, length};
 ghost use Rattle.sd_edit.specs.Journal.{IsLawful};
 
 use crate::floor::Floor;
-use crate::naming::Naming;
+use crate::store_id::StoreId;
 use boxcar::tag::{Names, Tag};
 use std::fmt;
 use std::marker::Model;
@@ -12,7 +12,7 @@ use std::marker::Model;
 /// A publish, to be passed to readers on any thread, any number of times: once a reader has learned it, it answers from
 /// no earlier journal. Contracts see the journal that was then published, and its marks.
 #[derive(Drop)]
-pub struct Notice<J: Naming> {
+pub struct Notice<J: StoreId> {
     pub(crate) journal: Floor<J>,
     /// The marks, in the proofs alone.
     pub(crate) marks: Tag,
@@ -32,7 +32,7 @@ impl Names<Tag> for Same {
     ghost numbers = { λ marks. marks.numbers };
 }
 
-impl<J: Naming> Model for Notice<J> {
+impl<J: StoreId> Model for Notice<J> {
     ghost use Rattle.sd_store.specs.Sights.{Told};
 
     ghost Value = { Told };
@@ -41,7 +41,7 @@ impl<J: Naming> Model for Notice<J> {
 }
 
 /// Has the length of its journal.
-impl<J: Naming> fmt::Debug for Notice<J> {
+impl<J: StoreId> fmt::Debug for Notice<J> {
     fn fmt<W: fmt::Write>(&self, f: &mut fmt::Formatter<W>) -> fmt::Result {
         f.debug_struct("Notice")
             .field("length", &self.journal.len())
@@ -49,13 +49,13 @@ impl<J: Naming> fmt::Debug for Notice<J> {
     }
 }
 
-impl<J: Naming> Notice<J> {
+impl<J: StoreId> Notice<J> {
     /// A copy, for another thread. Takes no memory.
-    pub fn again(&self) -> Notice<J>
+    pub fn copy(&self) -> Notice<J>
         ensures { result ≡ self.now }
     {
         Notice {
-            journal: self.journal.again(),
+            journal: self.journal.copy(),
             marks: Tag::of::<Tag, Same>(&self.marks),
         }
     }

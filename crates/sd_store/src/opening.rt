@@ -7,13 +7,13 @@ ghost use Rattle.sd_history.specs.Chains.{items_from};
 ghost use Rattle.sd_edit.specs.Starts.{IsReaderCount};
 ghost use Rattle.sd_edit.specs.declared.start.StartError.TheVariants.{Memory, Place};
 ghost use Rattle.sd_store.specs.Errors.{IsStoreError};
-ghost use Rattle.sd_store.specs.Rules.{naming, newcomer, IsFrontOf, IsOpened};
+ghost use Rattle.sd_store.specs.Rules.{store_id, newcomer, IsFrontOf, IsOpened};
 
 use crate::checker::Checker;
 use crate::floor::Floor;
-use crate::naming::Naming;
 use crate::published::Published;
 use crate::rule::Cell;
+use crate::store_id::StoreId;
 use crate::writer::StoreWriter;
 use sd_history::{Front, Opened};
 use sd_sid::GenericMapping;
@@ -25,7 +25,7 @@ use std::sync::Wait;
 /// A store with no edit yet: its writer, and 1 to 64 checkers, which have seen none. It is of the history that it
 /// takes, a new one. `Readers` for another number, and else the root's first refusal. It may wait where it answers
 /// `Place`. Its tree has at most 65,536 nodes and 1,048,576 edits.
-pub fn start<J: Naming, R: Wait>(
+pub fn start<J: StoreId, R: Wait>(
     rt: &R,
     alloc: Global,
     history: Opened<Edit>,
@@ -50,7 +50,7 @@ pub fn start<J: Naming, R: Wait>(
 /// A store with no edit yet, whose tree stays within these limits: its writer, and 1 to 64 checkers, which have seen
 /// none. It is of the history that it takes, a new one. `Readers` for another number, and else the root's first
 /// refusal. It may wait where it answers `Place`.
-pub fn start_within<J: Naming, R: Wait>(
+pub fn start_within<J: StoreId, R: Wait>(
     rt: &R,
     alloc: Global,
     history: Opened<Edit>,
@@ -95,7 +95,7 @@ pub fn start_within<J: Naming, R: Wait>(
 }
 
 /// The shared store of a tree without an edit, with room for so many readers.
-fn opened<J: Naming>(
+fn opened<J: StoreId>(
     alloc: Global,
     tree: &Shared<Tree>,
     front: &Front<Edit>,
@@ -103,8 +103,8 @@ fn opened<J: Naming>(
 ) -> Result<Cell<J>, AllocError>
     requires readers { (0 < readers) × (readers ≤ 64) }
     requires tree { (tree.now.opening ≡ J.opening) × (tree.now.journal ≡ []) }
-    requires front { IsFrontOf (naming J.opening J.book J.first) front.now [] }
-    ensures { IfOk result (λ c. IsOpened (naming J.opening J.book J.first)
+    requires front { IsFrontOf (store_id J.opening J.book J.first) front.now [] }
+    ensures { IfOk result (λ c. IsOpened (store_id J.opening J.book J.first)
         (view c.desk.place) c.desk.shown.value (drop c.behind c.log.items)) }
 {
     let first = first_published(alloc, tree, front)?;
@@ -125,12 +125,12 @@ fn first_published(
     Ok(Published {
         tree: tree.share()?,
         marks: vec![in alloc; 0]?,
-        front: front.again(),
+        front: front.copy(),
     })
 }
 
 /// A checker for each place.
-fn seated<J: Naming>(
+fn seated<J: StoreId>(
     alloc: Global,
     cell: &Cell<J>,
     front: &Front<Edit>,
@@ -150,7 +150,7 @@ fn seated<J: Naming>(
         };
         checkers.push_reserved(Checker {
             seat: Some(seat),
-            floor: Floor::new(0, front.again()),
+            floor: Floor::new(0, front.copy()),
             drawn: Vec::new(alloc),
             failed: None,
         });

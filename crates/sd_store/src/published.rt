@@ -1,11 +1,11 @@
 //! What readers see: a tree, the lengths at which its journal was published, and the front that its journal is.
 
 ghost use Rattle.std.specs.Prelude.{◌≡◌};
-ghost use Rattle.sd_store.specs.Rules.{naming, IsSound};
+ghost use Rattle.sd_store.specs.Rules.{store_id, IsSound};
 
 use crate::floor::Floor;
-use crate::naming::Naming;
 use crate::operation::{Facts, Operation};
+use crate::store_id::StoreId;
 use left_right::Absorb;
 use sd_history::Front;
 use sd_tree::{Edit, Shared, Tree};
@@ -23,11 +23,11 @@ pub(crate) struct Published {
 
 impl Published {
     /// Its journal. Takes no memory.
-    pub(crate) fn floor<J: Naming>(&self) -> Floor<J>
-        requires { IsSound (naming J.opening J.book J.first) self.now }
+    pub(crate) fn floor<J: StoreId>(&self) -> Floor<J>
+        requires { IsSound (store_id J.opening J.book J.first) self.now }
         ensures { result ≡ self.now.tree.journal }
     {
-        Floor::new(self.tree.get().len(), self.front.again())
+        Floor::new(self.tree.get().len(), self.front.copy())
     }
 }
 
@@ -58,7 +58,7 @@ impl Absorb<Operation> for Published {
             *last = length;
         }
         self.tree = tree;
-        self.front = operation.front.again();
+        self.front = operation.front.copy();
         Ok(())
     }
 }

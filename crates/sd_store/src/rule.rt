@@ -1,8 +1,8 @@
 //! The rule that every step on the shared store keeps.
 
-use crate::naming::Naming;
 use crate::operation::Operation;
 use crate::published::Published;
+use crate::store_id::StoreId;
 use crossbeam_utils::rule::{Outcome, Protocol};
 use left_right::reader::{Reader, Reading};
 use left_right::writer::Writer;
@@ -11,36 +11,36 @@ use std::collections::LinkedList;
 use std::marker::PhantomData;
 
 /// What the writer or a reader knows of the store: a journal that was published, and its marks. No value of it is made.
-pub struct View {
+pub struct KnownJournal {
     pub journal: LinkedList<Edit>,
     pub marks: LinkedList<u64>,
 }
 
 /// What is published is a valid journal of this store, and each view is a prefix of it.
-pub(crate) struct Law<J: Naming>(PhantomData<J>);
+pub(crate) struct Law<J: StoreId>(PhantomData<J>);
 
-impl<J: Naming> Protocol<Published, View> for Law<J> {
-    ghost use Rattle.sd_store.specs.Rules.{Kept, naming, newcomer};
+impl<J: StoreId> Protocol<Published, KnownJournal> for Law<J> {
+    ghost use Rattle.sd_store.specs.Rules.{Kept, store_id, newcomer};
 
-    ghost holds = { λ x views. Kept (naming J.opening J.book J.first) x views };
+    ghost holds = { λ x views. Kept (store_id J.opening J.book J.first) x views };
 
     ghost first = { newcomer };
 }
 
 /// A read and a publish: the view afterwards is the whole of what is then published.
-pub(crate) struct Sees<J: Naming>(PhantomData<J>);
+pub(crate) struct Sees<J: StoreId>(PhantomData<J>);
 
-impl<J: Naming> Outcome<Published, View> for Sees<J> {
-    ghost use Rattle.sd_store.specs.Rules.{Shows, naming};
+impl<J: StoreId> Outcome<Published, KnownJournal> for Sees<J> {
+    ghost use Rattle.sd_store.specs.Rules.{Shows, store_id};
 
-    ghost then = { λ v x y w. Shows (naming J.opening J.book J.first) v x y w };
+    ghost then = { λ v x y w. Shows (store_id J.opening J.book J.first) v x y w };
 }
 
 /// The writer's side of the shared store, with the pending operations.
-pub(crate) type Cell<J> = Writer<Published, Operation, View, Law<J>>;
+pub(crate) type Cell<J> = Writer<Published, Operation, KnownJournal, Law<J>>;
 
 /// A reader's place in the shared store, from which it enters the active copy to read.
-pub(crate) type Seat<J> = Reader<Published, View, Law<J>>;
+pub(crate) type Seat<J> = Reader<Published, KnownJournal, Law<J>>;
 
 /// A reader's place in the shared store during a read.
-pub(crate) type Entered<J> = Reading<Published, View, Law<J>>;
+pub(crate) type Entered<J> = Reading<Published, KnownJournal, Law<J>>;

@@ -9,13 +9,13 @@ ghost use Rattle.sd_store.specs.declared.error.AuditError.TheVariants as audit;
 use crate::checker::Checker;
 use crate::error::AuditError;
 use crate::gate::Gate;
-use crate::naming::Naming;
 use crate::query::Query;
+use crate::store_id::StoreId;
 use sd_versions::Answer;
 use std::alloc::Global;
 
 /// Answers the worker's queries, and leaves the answers in its checker, or why there are none.
-pub(crate) fn work<J: Naming, G: Gate>(
+pub(crate) fn work<J: StoreId, G: Gate>(
     alloc: Global,
     worker: usize,
     step: usize,
@@ -33,7 +33,7 @@ pub(crate) fn work<J: Naming, G: Gate>(
 }
 
 /// The answers to the queries at the places `worker`, `worker + step`, `worker + 2 * step` and so on.
-fn draw<J: Naming, G: Gate>(
+fn draw<J: StoreId, G: Gate>(
     alloc: Global,
     worker: usize,
     step: usize,
@@ -54,7 +54,7 @@ fn draw<J: Naming, G: Gate>(
 }
 
 /// Puts the answers to the queries at the places `worker`, `worker + step` and so on into an empty list.
-fn fill<J: Naming, G: Gate>(
+fn fill<J: StoreId, G: Gate>(
     worker: usize,
     step: usize,
     queries: &[Query],
@@ -81,7 +81,7 @@ fn fill<J: Naming, G: Gate>(
 }
 
 /// One check of a worker, between the calls of the gate.
-fn ask<J: Naming, G: Gate>(
+fn ask<J: StoreId, G: Gate>(
     worker: u64,
     query: &Query,
     gate: &G,
@@ -110,7 +110,7 @@ fn ask<J: Naming, G: Gate>(
     Ok(())
 }
 
-impl<J: Naming> Checker<J> {
+impl<J: StoreId> Checker<J> {
     /// Leaves the answers of an audit in the checker.
     fn keep(&mut self, answers: Vec<Answer>)
         ensures seen { (self.new.view ≡ self.old.view) × (self.new.floor ≡ self.old.floor) }

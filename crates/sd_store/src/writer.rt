@@ -5,10 +5,10 @@ ghost use Rattle.sd_edit.specs.Journal.{refusal};
 ghost use Rattle.sd_store.specs.Errors.{IsEditError};
 
 use crate::error::{EditError, PublishError};
-use crate::naming::Naming;
 use crate::notice::{Listed, Notice};
 use crate::publishing::publish_all;
 use crate::rule::Cell;
+use crate::store_id::StoreId;
 use boxcar::tag::Tag;
 use sd_history::HistoryWriter;
 use sd_tree::{Edit, Tree};
@@ -19,7 +19,7 @@ use std::{fmt, mem};
 
 /// The writer of a store. It isn't `Drop`: end it by `end`. Contracts see the published journal, its marks, and the
 /// pending edits.
-pub struct StoreWriter<J: Naming> {
+pub struct StoreWriter<J: StoreId> {
     /// The tree that readers see, and the one that takes the edits.
     pub(crate) versions: Versions,
     /// What writes the history of accepted edits.
@@ -28,12 +28,12 @@ pub struct StoreWriter<J: Naming> {
     pub(crate) cell: Option<Cell<J>>,
 }
 
-impl<J: Naming> Model for StoreWriter<J> {
+impl<J: StoreId> Model for StoreWriter<J> {
     ghost use Rattle.std.specs.Prelude.{◌≡◌, drop, MatchOption};
     ghost use Rattle.std.specs.Option.{option_map_or};
     ghost use Rattle.left_right.specs.Sides.{view as client_of};
     ghost use Rattle.sd_versions.specs.Versions.{accepted};
-    ghost use Rattle.sd_store.specs.Rules.{naming, IsReady};
+    ghost use Rattle.sd_store.specs.Rules.{store_id, IsReady};
     ghost use Rattle.sd_store.specs.Sights.{StoreState, state_of, blank};
 
     ghost Value = { StoreState };
@@ -41,7 +41,7 @@ impl<J: Naming> Model for StoreWriter<J> {
     ghost view = { λ w. option_map_or (λ c. state_of (client_of c.desk.place) w.versions.pending) w.cell blank };
 
     ghost invariant = { λ w. MatchOption w.cell ⊥ (λ c.
-        IsReady (naming J.opening J.book J.first)
+        IsReady (store_id J.opening J.book J.first)
         (client_of c.desk.place) c.desk.shown.value (drop c.behind c.log.items)
         × (w.versions.opening ≡ J.opening)
         × (w.versions.published ≡ c.desk.shown.value.tree.journal)
@@ -49,7 +49,7 @@ impl<J: Naming> Model for StoreWriter<J> {
 }
 
 /// Shows the length of the published journal, and how many edits are pending.
-impl<J: Naming> fmt::Debug for StoreWriter<J> {
+impl<J: StoreId> fmt::Debug for StoreWriter<J> {
     fn fmt<W: fmt::Write>(&self, f: &mut fmt::Formatter<W>) -> fmt::Result {
         f.debug_struct("StoreWriter")
             .field("published", &self.published_len())
@@ -58,7 +58,7 @@ impl<J: Naming> fmt::Debug for StoreWriter<J> {
     }
 }
 
-impl<J: Naming> StoreWriter<J> {
+impl<J: StoreId> StoreWriter<J> {
     /// The edit becomes pending, or the first refusal that fits the published journal followed by the pending edits is
     /// answered and nothing changes; out of memory only where none is due that is found without it. No reader sees the
     /// edit before a publish.

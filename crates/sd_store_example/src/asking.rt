@@ -7,7 +7,7 @@ ghost use Rattle.sd_store_example.specs.Behind.{IsAskError, IsAskedError, IsBehi
 use crate::error::AskError;
 use sd_history::Opened;
 use sd_sid::GenericMapping;
-use sd_store::{Checker, Naming, Query, StoreWriter, start};
+use sd_store::{Checker, Query, StoreId, StoreWriter, start};
 use sd_tree::{Edit, RootSpec};
 use sd_versions::Answer;
 use std::alloc::Global;
@@ -15,7 +15,7 @@ use std::sync::Wait;
 
 /// The answer to a query ([MS-DTYP] 2.5.3.2) by the one checker of a new store, after the edits are published and the
 /// checker has learned it. The first error is returned; the store is ended on every path.
-pub fn answer_behind<J: Naming, R: Wait>(
+pub fn answer_behind<J: StoreId, R: Wait>(
     rt: &R,
     alloc: Global,
     history: Opened<Edit>,
@@ -38,7 +38,7 @@ pub fn answer_behind<J: Naming, R: Wait>(
 
 /// The answer of a store that was just started to a query after these edits are published ([MS-DTYP] 2.5.3.2), or the
 /// first error. The writer is borrowed, so a `?` leads back to where it is ended.
-fn asked<J: Naming, R: Wait>(
+fn asked<J: StoreId, R: Wait>(
     rt: &R,
     writer: &mut StoreWriter<J>,
     checker: &mut Checker<J>,

@@ -91,10 +91,10 @@ impl WellKnown {
         ensures { result ≡ well_known self }
     {
         match self {
-            WellKnown::One(authority, sub) => made(u64::from(authority), &[sub]),
-            WellKnown::Builtin(account) => made(5, &[32, account]),
-            WellKnown::AllPackages => made(15, &[2, 1]),
-            WellKnown::Drivers => made(5, &[84, 0, 0, 0, 0, 0]),
+            WellKnown::One(authority, sub) => sid_from_parts(u64::from(authority), &[sub]),
+            WellKnown::Builtin(account) => sid_from_parts(5, &[32, account]),
+            WellKnown::AllPackages => sid_from_parts(15, &[2, 1]),
+            WellKnown::Drivers => sid_from_parts(5, &[84, 0, 0, 0, 0, 0]),
         }
     }
 }
@@ -102,7 +102,7 @@ impl WellKnown {
 /// The SID of these parts.
 #[tactic(auto, using(crate::proofs::Sids::sid_made))]
 #[inline(always)]
-pub(crate) fn made(authority: u64, subs: &[u32]) -> Sid
+pub(crate) fn sid_from_parts(authority: u64, subs: &[u32]) -> Sid
     requires authority { authority < 2 ^ 48 }
     requires some { 0 < length subs.now }
     requires few { length subs.now ≤ 15 }

@@ -3,7 +3,7 @@
 ghost use Rattle.std.specs.Prelude.{◌≡◌, IfSome, Some};
 ghost use Rattle.sd_text.specs.Domain.{domain_sid, account_sid};
 
-use crate::alias::made;
+use crate::alias::sid_from_parts;
 use sd_sid::Sid;
 
 /// A domain, to which aliases of accounts and groups refer: its SID is S-1-5-21 and three more sub-authorities
@@ -35,13 +35,13 @@ impl Domain {
     pub fn sid(self) -> Sid
         ensures { result ≡ domain_sid self }
     {
-        made(5, &[21, self.first, self.second, self.third])
+        sid_from_parts(5, &[21, self.first, self.second, self.third])
     }
 
     /// The SID of an account or a group of the domain, by its relative identifier ([MS-DTYP] 2.4.2.4).
     pub fn account(self, relative: u32) -> Sid
         ensures { result ≡ account_sid self relative }
     {
-        made(5, &[21, self.first, self.second, self.third, relative])
+        sid_from_parts(5, &[21, self.first, self.second, self.third, relative])
     }
 }

@@ -7,7 +7,7 @@ ghost use Rattle.sd_text.specs.Fault.{StandsIn};
 ghost use Rattle.sd_text.specs.Sid.{sid_text, sid_text_in, sid, authority, sub, subs_of};
 ghost use Rattle.sd_text.specs.Finding.{Gives, find};
 
-use crate::alias::{Aliases, made};
+use crate::alias::{Aliases, sid_from_parts};
 use crate::cursor::Cursor;
 use crate::fault::{TextError, TextFault};
 use sd_sid::{AUTHORITY_LIMIT, MAX_SUBS, Sid};
@@ -137,7 +137,7 @@ fn sid_of_front(authority: u64, subs: &[u32; MAX_SUBS], count: usize) -> Sid
     ensures { result ≡ record { authority = authority; subs = take count subs.now } }
 {
     if count == 5 {
-        return made(authority, &[subs[0], subs[1], subs[2], subs[3], subs[4]]);
+        return sid_from_parts(authority, &[subs[0], subs[1], subs[2], subs[3], subs[4]]);
     }
-    made(authority, &subs[..count])
+    sid_from_parts(authority, &subs[..count])
 }

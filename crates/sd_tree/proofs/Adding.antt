@@ -19,7 +19,7 @@ use Rattle.sd_tree.specs.Stored.{path_of_node, entry_of, tree_of, IsWhole, AreSt
 use Rattle.sd_blocks.specs.Runs.{exchanged}
 use Rattle.sd_tree.specs.Plans.{IsExchange}
 use Rattle.sd_edit.specs.Edits.{changed, changed_where}
-use Rattle.sd_edit.specs.declared.node.Row.{Row}
+use Rattle.sd_edit.specs.declared.node.NodeRow.{NodeRow}
 use Rattle.sd_edit.proofs.Lists.{by_last, all_one}
 use Rattle.sd_path.proofs.Paths.{names_cmp_total, names_cmp_antisymmetric, up-push, push_not_root, up_within}
 use Rattle.sd_edit.proofs.Closed.{no_child}
@@ -33,7 +33,7 @@ use Rattle.sd_tree.proofs.Rebuilding.{place_same}
 use Rattle.sd_edit.proofs.Sorted.{put_insert, where_remove, greater_from_less, less_from_greater}
 use Rattle.sd_tree.specs.declared.node.Node.{Node}
 
-pub insertion : (g : MappingValue) (bs : List Node) (standing : AreStanding g bs) (q : Names) (row : Row) → IsAddable (tree_of bs) q
+pub insertion : (g : MappingValue) (bs : List Node) (standing : AreStanding g bs) (q : Names) (row : NodeRow) → IsAddable (tree_of bs) q
     → (at : ℕ) → at ≤ length bs → AllWithin (λ b. names_cmp (path_of_node b) q ≡ Less) bs 0 at → AllWithin (λ b. names_cmp (path_of_node b) q ≡ Greater) bs at (length bs)
     → (b : Node) → path_of_node b ≡ q → b.row ≡ row
     → b.whole ≡ dacl_at g (finite.insert (tree_of bs) q row) q → dacl_size b.whole ≤ 65535
@@ -45,8 +45,8 @@ insertion g bs standing q row can at place low high b is-path is-row is-whole fi
     let es = map entry_of bs in
     let size = length-map bs entry_of in
     let put_there = put_insert names_cmp_total q row es at (omega (arith, place, size))
-    (λ k d lt. greater_from_less names_cmp_total _ q (ap (λ (e : Names × Row). names_cmp e.0 q) (get_or-map entry_of bs k b d (omega (arith, place))) ∙ low k b (omega arith) lt))
-    (λ k d le lt. less_from_greater names_cmp_total _ q (ap (λ (e : Names × Row). names_cmp e.0 q) (get_or-map entry_of bs k b d (omega (arith, size))) ∙ high k b le (omega (arith, size)))) in
+    (λ k d lt. greater_from_less names_cmp_total _ q (ap (λ (e : Names × NodeRow). names_cmp e.0 q) (get_or-map entry_of bs k b d (omega (arith, place))) ∙ low k b (omega arith) lt))
+    (λ k d le lt. less_from_greater names_cmp_total _ q (ap (λ (e : Names × NodeRow). names_cmp e.0 q) (get_or-map entry_of bs k b d (omega (arith, size))) ∙ high k b le (omega (arith, size)))) in
     record {
       fits = omega (arith, count, place);
       place = omega (arith, count, place);
@@ -68,14 +68,14 @@ insertion g bs standing q row can at place low high b is-path is-row is-whole fi
     }
 
 -- nor below a node without children
-pub nothing_below_childless : (t : PlainTree) → IsClosed t → (q path : Names) (row : Row) → has_child t q ≡ false → row_at t path ≡ Some row → path ≢ q → is_within q path ≡ false
+pub nothing_below_childless : (t : PlainTree) → IsClosed t → (q path : Names) (row : NodeRow) → has_child t q ≡ false → row_at t path ≡ Some row → path ≢ q → is_within q path ≡ false
 nothing_below_childless t closed q path row none there other = elim (cases_Bool (is_within q path)) [
   | inl inside ↦ absurd (by_last P first step path row there inside other)
   | inr outside ↦ outside
 ]
   where
     P : Names → Type 0
-    P p = (row : Row) → row_at t p ≡ Some row → is_within q p ≡ true → p ≢ q → ⊥
+    P p = (row : NodeRow) → row_at t p ≡ Some row → is_within q p ≡ true → p ≢ q → ⊥
 
     first : P []
     first row there inside other = other (sym (within_root q inside))
@@ -116,7 +116,7 @@ removal g bs standing q none at place stands b =
     let t' = finite.remove (tree_of bs) q in
     let es = map entry_of bs in
     let size = length-map bs entry_of in
-    let key : (get_or es at (entry_of b)).0 ≡ q = ap (λ (e : Names × Row). e.0) (get_or-mapped entry_of bs at b) ∙ stands b in
+    let key : (get_or es at (entry_of b)).0 ≡ q = ap (λ (e : Names × NodeRow). e.0) (get_or-mapped entry_of bs at b) ∙ stands b in
     let gone = where_remove names_cmp_total es order at (entry_of b) (omega (arith, place, size)) in
     record {
       fits = omega (arith, count, place);
@@ -144,5 +144,5 @@ removal g bs standing q none at place stands b =
     beside k (inr high) same = omega arith
 
 -- ---- a node that is changed where it stands
-pub changed_there : (t : PlainTree) (path : Names) (change : Row → Row) (row new : Row) → row_at t path ≡ Some row → new ≡ change row → finite.insert t path new ≡ changed t path change
+pub changed_there : (t : PlainTree) (path : Names) (change : NodeRow → NodeRow) (row new : NodeRow) → row_at t path ≡ Some row → new ≡ change row → finite.insert t path new ≡ changed t path change
 changed_there t path change row new there is = ap (finite.insert t path) is ∙ sym (ap (changed_where t path change) there)

@@ -13,19 +13,19 @@ use Rattle.sd_tree.specs.Node.{behind_own, dacl_with, whole_with, inherits}
 use Rattle.sd_edit.specs.declared.node.NodeDacl.{NodeDacl}
 use Rattle.sd_edit.specs.declared.node.NodeDacl.TheVariants.{Null, List as Entries}
 use Rattle.sd_tree.specs.declared.node.Node.{Node}
-use Rattle.sd_edit.specs.declared.node.Row.{Row}
+use Rattle.sd_edit.specs.declared.node.NodeRow.{NodeRow}
 use Rattle.sd_edit.proofs.Dacls.{dacl_at_up}
 use Rattle.sd_tree.proofs.Kept.{row_here}
 use Rattle.sd_edit.proofs.Lists.{same_behind}
 use Rattle.sd_tree.proofs.OneDacl.{inheriting_dacl}
 
-pub behind_sibling : (g : MappingValue) (beside row : Row) (above : Option (List Ace)) → InheritOne beside row above
+pub behind_sibling : (g : MappingValue) (beside row : NodeRow) (above : Option (List Ace)) → InheritOne beside row above
     → dacl_of_row g beside above ≡ Some (behind_own beside (handed_on g row above))
 behind_sibling g beside row above h =
     inheriting_dacl g beside above h.one_inherits ∙ ap (λ xs. Some (behind_own beside xs)) (h.same g)
 
 -- of the nodes as they stand
-pub sibling_whole : (g : MappingValue) (bs : List Node) → AreStanding g bs → (path : Names) (row : Row) (above : Option (List Ace)) (k : ℕ)
+pub sibling_whole : (g : MappingValue) (bs : List Node) → AreStanding g bs → (path : Names) (row : NodeRow) (above : Option (List Ace)) (k : ℕ)
     → above ≡ dacl_at g (tree_of bs) (up path) → IsSibling bs path row above k
     → (b : Node) → (get_or bs k b).whole ≡ Some (behind_own (get_or bs k b).row (handed_on g row above))
 sibling_whole g bs standing path row above k is-above sibling b =
@@ -38,7 +38,7 @@ sibling_whole g bs standing path row above k is-above sibling b =
     ∙ ap (dacl_of_row g (get_or bs k b).row) held ∙ behind_sibling g (get_or bs k b).row row above (sibling.alike b)
 
 -- a row that inherits has these behind its own entries
-with_own : (row : Row) (inherited : List Ace) → inherits row.dacl ≡ true → whole_with row inherited ≡ Some (behind_own row inherited)
+with_own : (row : NodeRow) (inherited : List Ace) → inherits row.dacl ≡ true → whole_with row inherited ≡ Some (behind_own row inherited)
 with_own row inherited h = parts row.dacl inherited h
   where
     parts : (d : NodeDacl) (inherited : List Ace) → inherits d ≡ true → dacl_with d inherited ≡ Some (own_entries d ++ inherited)
@@ -46,14 +46,14 @@ with_own row inherited h = parts row.dacl inherited h
     parts (Entries is-protected own) inherited h = refl
 
 -- a row below the same parent has its own entries before what its sibling inherits
-pub row_beside : (g : MappingValue) (beside row : Row) (above : Option (List Ace)) → InheritOne beside row above → (inherited : List Ace)
+pub row_beside : (g : MappingValue) (beside row : NodeRow) (above : Option (List Ace)) → InheritOne beside row above → (inherited : List Ace)
     → inherited ≡ handed_on g row above → whole_with row inherited ≡ dacl_of_row g row above
 row_beside g beside row above h inherited is =
     with_own row inherited h.other_inherits
     ∙ ap (λ xs. Some (behind_own row xs)) is ∙ sym (inheriting_dacl g row above h.other_inherits)
 
 -- so it does where they are all that a sibling inherits, whose DACL is known as a whole
-from_sibling : (g : MappingValue) (beside row : Row) (above : Option (List Ace)) → InheritOne beside row above → (n : Node) (inherited : List Ace)
+from_sibling : (g : MappingValue) (beside row : NodeRow) (above : Option (List Ace)) → InheritOne beside row above → (n : Node) (inherited : List Ace)
     → n.whole ≡ whole_with n.row inherited → n.whole ≡ Some (behind_own n.row (handed_on g row above)) → whole_with row inherited ≡ dacl_of_row g row above
 from_sibling g beside row above h n inherited kept is =
     row_beside g beside row above h inherited (only_behind n.row.dacl inherited (handed_on g row above) (sym kept ∙ is))
@@ -65,14 +65,14 @@ from_sibling g beside row above h n inherited kept is =
     only_behind Null xs ys e = absurd cc
     only_behind (Entries is-protected own) xs ys e = same_behind own xs ys (same_Some _ _ e)
 
-pub dacl_beside : (g : MappingValue) (bs : List Node) → AreStanding g bs → (path : Names) (row : Row) (above : Option (List Ace)) (k : ℕ)
+pub dacl_beside : (g : MappingValue) (bs : List Node) → AreStanding g bs → (path : Names) (row : NodeRow) (above : Option (List Ace)) (k : ℕ)
     → above ≡ dacl_at g (tree_of bs) (up path) → IsSibling bs path row above k → (n : Node) → n ≡ get_or bs k n
     → (inherited : List Ace) → n.whole ≡ whole_with n.row inherited → whole_with row inherited ≡ dacl_of_row g row above
 dacl_beside g bs standing path row above k is-above sibling n is inherited kept =
     let P : Node → Type 0 = λ m. m.whole ≡ Some (behind_own m.row (handed_on g row above)) in
     from_sibling g _ row above (sibling.alike n) n inherited kept (subst P (sym is) (sibling_whole g bs standing path row above k is-above sibling n))
 
-pub made_beside : (g : MappingValue) (bs : List Node) (path : Names) (row : Row) (above : Option (List Ace)) (at k : ℕ) (made : List Node)
+pub made_beside : (g : MappingValue) (bs : List Node) (path : Names) (row : NodeRow) (above : Option (List Ace)) (at k : ℕ) (made : List Node)
     → AreMadeFor g bs path row above at made → IsSibling bs path row above k → at < k → k - at < length made
     → (n : Node) → n ≡ get_or made (k - at) n
     → (inherited : List Ace) → n.whole ≡ whole_with n.row inherited → whole_with row inherited ≡ dacl_of_row g row above

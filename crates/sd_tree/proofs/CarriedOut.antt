@@ -13,7 +13,7 @@ use Rattle.sd_edit.specs.Plain.{PlainTree, dacl_at}
 use Rattle.sd_blocks.specs.Runs.{without_run, exchanged}
 use Rattle.sd_tree.specs.Plans.{IsExchange, IsPlan, carried}
 use Rattle.sd_tree.specs.Stored.{path_of_node, entry_of, IsInOrder, tree_of, IsWhole, AreNodes}
-use Rattle.sd_edit.specs.declared.node.Row.{Row}
+use Rattle.sd_edit.specs.declared.node.NodeRow.{NodeRow}
 use Rattle.sd_tree.specs.declared.plan.Plan.{Plan}
 use Rattle.sd_tree.specs.declared.plan.Plan.TheVariants.{Insert, Set, Remove, Exchange}
 use Rattle.sd_tree.proofs.Kept.{entries_kept}
@@ -22,7 +22,7 @@ use Rattle.sd_tree.specs.declared.node.Node.{Node}
 
 -- nodes with a tree's entries are in order, and are that tree
 pub order_from_entries : (bs : List Node) (t : PlainTree) → map entry_of bs ≡ finite.entries t → IsInOrder bs
-order_from_entries bs t e = let P : List (Names × Row) → Type 0 = λ es. T (is_sorted names_cmp es) in subst P (sym e) (entries_sorted t)
+order_from_entries bs t e = let P : List (Names × NodeRow) → Type 0 = λ es. T (is_sorted names_cmp es) in subst P (sym e) (entries_sorted t)
 
 pub tree_from_entries : (bs : List Node) (t : PlainTree) → map entry_of bs ≡ finite.entries t → tree_of bs ≡ t
 tree_from_entries bs t e = same_entries_map (tree_of bs) t (entries_kept bs (order_from_entries bs t e) ∙ e)

@@ -9,13 +9,13 @@ use Rattle.std.specs.Ordering.{is_lt, eq_by_cmp}
 use Rattle.std.specs.declared.cmp.Ordering.{Ordering}
 use Rattle.std.specs.declared.cmp.Ordering.TheVariants.{Less, Equal, Greater}
 use Rattle.sd_path.specs.Names.{Names, names_cmp, is_within}
-use Rattle.sd_edit.specs.declared.node.Row.{Row}
+use Rattle.sd_edit.specs.declared.node.NodeRow.{NodeRow}
 use Rattle.sd_path.proofs.Paths.{names_cmp_total, names_cmp_antisymmetric, within_before, within_between}
 use Rattle.sd_edit.proofs.Rows.{same_or_other, other_path}
 use Rattle.sd_edit.proofs.Sorted.{less_from_greater}
 
 abbrev pub Entry : Type 0
-Entry = Names × Row
+Entry = Names × NodeRow
 
 -- ---- lists of entries whose keys rise
 

@@ -10,7 +10,7 @@ use Rattle.std.specs.declared.cmp.Ordering.TheVariants.{Less, Greater}
 use Rattle.sd_path.specs.Names.{Names, names_cmp}
 use Rattle.sd_edit.specs.Plain.{row_at, dacl_at}
 use Rattle.sd_tree.specs.Stored.{path_of_node, entry_of, IsInOrder, tree_of, IsWhole, IsNodeAt}
-use Rattle.sd_edit.specs.declared.node.Row.{Row}
+use Rattle.sd_edit.specs.declared.node.NodeRow.{NodeRow}
 use Rattle.sd_tree.specs.declared.node.Node.{Node}
 use Rattle.sd_path.proofs.Paths.{names_cmp_total as names_total}
 use Rattle.sd_edit.proofs.Sorted.{find_at, find_none, greater_from_less, less_from_greater}
@@ -34,7 +34,7 @@ row_here bs h k d in' =
 none_ties : (bs : List Node) (b : Node) (q : Names) (at : ℕ)
     → AllWithin (λ b. names_cmp (path_of_node b) q ≡ Less) bs 0 at
     → AllWithin (λ b. names_cmp (path_of_node b) q ≡ Greater) bs at (length bs)
-    → (k : ℕ) (d : Names × Row) → k < length (map entry_of bs) → is_eq (names_cmp q (get_or (map entry_of bs) k d).0) ≡ false
+    → (k : ℕ) (d : Names × NodeRow) → k < length (map entry_of bs) → is_eq (names_cmp q (get_or (map entry_of bs) k d).0) ≡ false
 none_ties bs b q at before after k d lt =
     let in' : k < length bs = omega (arith, length-map bs entry_of) in
     rw (get_or-map entry_of bs k b d in') (elim (cases_lt k at) [

@@ -5,7 +5,7 @@ use Rattle.std.proofs.lemmas.Option.{slice_get-map, slice_get-get_or, slice_get_
 use Rattle.sd_path.specs.Names.{Names}
 use Rattle.sd_edit.specs.Plain.{PlainTree}
 use Rattle.sd_tree.specs.Stored.{entry_of, IsInOrder, tree_of}
-use Rattle.sd_edit.specs.declared.node.Row.{Row}
+use Rattle.sd_edit.specs.declared.node.NodeRow.{NodeRow}
 use Rattle.sd_tree.proofs.Kept.{entries_kept}
 use Rattle.sd_tree.specs.declared.node.Node.{Node}
 
@@ -17,7 +17,7 @@ entry_at bs order t same k =
     ∙ ap (λ u. slice_get (entries u) k) same
 
 pub listed_here : (bs : List Node) → IsInOrder bs → (t : PlainTree) → tree_of bs ≡ t → (k : ℕ) → k < length bs
-    → (b : Node) → b ≡ get_or bs k b → (entry : Names × Row) → entry ≡ entry_of b → Some entry ≡ slice_get (entries t) k
+    → (b : Node) → b ≡ get_or bs k b → (entry : Names × NodeRow) → entry ≡ entry_of b → Some entry ≡ slice_get (entries t) k
 listed_here bs order t same k lt b is entry of =
     ap Some (of ∙ ap entry_of is) ∙ sym (ap (option_map entry_of) (slice_get-get_or bs k b lt)) ∙ entry_at bs order t same k
 

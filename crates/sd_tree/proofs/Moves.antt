@@ -19,7 +19,7 @@ use Rattle.sd_edit.specs.Refusals.{has_large_dacl, moves_too_deep, goes_too_deep
 use Rattle.sd_tree.specs.Sizes.{IsSizeError}
 use Rattle.sd_tree.specs.Stored.{path_of_node, tree_of, AreStanding}
 use Rattle.sd_tree.specs.declared.node.Node.{Node}
-use Rattle.sd_edit.specs.declared.node.Row.{Row}
+use Rattle.sd_edit.specs.declared.node.NodeRow.{NodeRow}
 use Rattle.sd_edit.specs.declared.edit.Edit.TheVariants.{Move}
 use Rattle.sd_edit.specs.declared.refusal.TreeError.{TreeError}
 use Rattle.sd_edit.specs.declared.refusal.TreeError.TheVariants.{Refused, Memory}
@@ -52,7 +52,7 @@ module _ (g : MappingValue) (bs : List Node) (standing : AreStanding g bs) (sour
 
   -- ---- the first of the run
 
-  module _ (row : Row) (row-is : (b : Node) → row ≡ (get_or bs from b).row) (b : Node) where
+  module _ (row : NodeRow) (row-is : (b : Node) → row ≡ (get_or bs from b).row) (b : Node) where
     row_there : row_at (tree_of bs) source ≡ Some row
     row_there = ap (row_at (tree_of bs)) (sym (stands b)) ∙ row_here bs standing.kept.order from b in' ∙ ap Some (sym (row-is b))
 

@@ -9,7 +9,7 @@ use Rattle.sd_edit.specs.Inheritance.{dacl_of_row}
 use Rattle.sd_edit.specs.Plain.{dacl_at}
 use Rattle.sd_tree.specs.Sizes.{IsSizeError}
 use Rattle.sd_tree.specs.Stored.{path_of_node, tree_of, AreNodes}
-use Rattle.sd_edit.specs.declared.node.Row.{Row}
+use Rattle.sd_edit.specs.declared.node.NodeRow.{NodeRow}
 use Rattle.sd_edit.specs.declared.refusal.TreeError.{TreeError}
 use Rattle.sd_tree.specs.declared.node.Node.{Node}
 use Rattle.sd_edit.proofs.NewRow.{whole_below}
@@ -21,7 +21,7 @@ stored_whole g bs kept q k b lt there is-b =
     ap (λ (c : Node). c.whole) is-b ∙ (kept.whole k b lt).is ∙ ap (dacl_at g (tree_of bs)) (there b)
 
 -- so what stands below it has that DACL above
-pub below_stored : (g : MappingValue) (bs : List Node) → AreNodes g bs → (path : Names) (row : Row) → is_root path ≡ false → (k : ℕ) (b : Node) → k < length bs → HoldsAt (λ c. path_of_node c ≡ up path) bs k
+pub below_stored : (g : MappingValue) (bs : List Node) → AreNodes g bs → (path : Names) (row : NodeRow) → is_root path ≡ false → (k : ℕ) (b : Node) → k < length bs → HoldsAt (λ c. path_of_node c ≡ up path) bs k
     → b ≡ get_or bs k b → dacl_of_row g row b.whole ≡ dacl_at g (insert (tree_of bs) path row) path
 below_stored g bs kept path row below k b lt there is-b =
     ap (dacl_of_row g row) (stored_whole g bs kept (up path) k b lt there is-b) ∙ whole_below g (tree_of bs) path row below

@@ -15,21 +15,21 @@ use Rattle.sd_inheritance.specs.declared.kind.NodeKind.{NodeKind}
 use Rattle.sd_inheritance.specs.declared.kind.NodeKind.TheVariants.{Container, Object}
 use Rattle.sd_edit.specs.declared.node.NodeDacl.{NodeDacl}
 use Rattle.sd_edit.specs.declared.node.NodeDacl.TheVariants.{Null, List as Entries}
-use Rattle.sd_edit.specs.declared.node.Row.{Row}
+use Rattle.sd_edit.specs.declared.node.NodeRow.{NodeRow}
 
 -- a node that inherits has its own entries, and behind them what is handed on to it
-pub inheriting_dacl : (g : MappingValue) (row : Row) (above : Option (List Ace)) → inherits row.dacl ≡ true
+pub inheriting_dacl : (g : MappingValue) (row : NodeRow) (above : Option (List Ace)) → inherits row.dacl ≡ true
     → dacl_of_row g row above ≡ Some (behind_own row (handed_on g row above))
 inheriting_dacl g row above h = parts g row row.dacl above h
   where
-    parts : (g : MappingValue) (row : Row) (d : NodeDacl) (above : Option (List Ace)) → inherits d ≡ true
+    parts : (g : MappingValue) (row : NodeRow) (d : NodeDacl) (above : Option (List Ace)) → inherits d ≡ true
         → dacl_under g row d above ≡ Some (own_entries d ++ handed_on g row above)
     parts g row Null above h = absurd (false≢true h)
     parts g row (Entries true own) above h = absurd (false≢true h)
     parts g row (Entries false own) above h = refl
 
 -- what is handed on of two lists, one behind the other, is handed on of the DACL that has both
-pub handed_in_parts : (g : MappingValue) (kind : NodeKind) (owner group : SidValue) (dacl : NodeDacl) (row : Row)
+pub handed_in_parts : (g : MappingValue) (kind : NodeKind) (owner group : SidValue) (dacl : NodeDacl) (row : NodeRow)
     → record { kind = kind; owner = owner; group = group; dacl = dacl } ≡ row
     → (own inherited start first both : List Ace) (whole : Option (List Ace)) → start ≡ []
     → first ≡ start ++ flat_map (pass_on g kind owner group) own
@@ -39,20 +39,20 @@ handed_in_parts g kind owner group dacl row is own inherited start first both wh
     let h : Ace → List Ace = pass_on g kind owner group in
     two ∙ ap (λ xs. xs ++ flat_map h inherited) (one ∙ ap (λ xs. xs ++ flat_map h own) empty)
     ∙ sym (flat_map-append h own inherited)
-    ∙ ap (λ (r : Row). handed_on g r (Some (own ++ inherited))) is
+    ∙ ap (λ (r : NodeRow). handed_on g r (Some (own ++ inherited))) is
     ∙ sym (ap (handed_on g row) parts)
 
 -- what inherits nothing has its own entries alone, as at the root
-pub own_alone : (g : MappingValue) (row : Row) → whole_with row [] ≡ dacl_of_row g row None
+pub own_alone : (g : MappingValue) (row : NodeRow) → whole_with row [] ≡ dacl_of_row g row None
 own_alone g row = parts g row row.dacl
   where
-    parts : (g : MappingValue) (row : Row) (d : NodeDacl) → dacl_with d [] ≡ dacl_under g row d None
+    parts : (g : MappingValue) (row : NodeRow) (d : NodeDacl) → dacl_with d [] ≡ dacl_under g row d None
     parts g row Null = refl
     parts g row (Entries true own) = refl
     parts g row (Entries false own) = refl
 
 -- ---- of one kind, owner and group
-one_by_trustees : (one other : Row) (above : Option (List Ace))
+one_by_trustees : (one other : NodeRow) (above : Option (List Ace))
     → one.kind ≡ other.kind → one.owner ≡ other.owner → one.group ≡ other.group → (g : MappingValue) → handed_on g one above ≡ handed_on g other above
 one_by_trustees one other None kind owner group g = refl
 one_by_trustees one other (Some es) kind owner group g = λ i. flat_map (pass_on g (kind i) (owner i) (group i)) es
@@ -93,7 +93,7 @@ handed_alike g kind owner group other_owner other_group (e ∷ es) h =
     (pass_alike g kind owner group other_owner other_group e (no_creator (same_sid e.sid creator_owner) (same_sid e.sid creator_group) parts.0 owner group other_owner other_group e.sid))
     (handed_alike g kind owner group other_owner other_group es parts.1)
 
-one_without_creators : (one other : Row) (above : Option (List Ace))
+one_without_creators : (one other : NodeRow) (above : Option (List Ace))
     → one.kind ≡ other.kind → trustees_matter above ≡ false → (g : MappingValue) → handed_on g one above ≡ handed_on g other above
 one_without_creators one other None kind none g = refl
 one_without_creators one other (Some es) kind none g =
@@ -101,7 +101,7 @@ one_without_creators one other (Some es) kind none g =
     ∙ ap (λ k. flat_map (pass_on g k other.owner other.group) es) kind
 
 -- ---- what the code asks of two rows
-pub alike_inherit_one : (one other : Row) (above : Option (List Ace)) (by_trustees : Bool) → AreAlike one other by_trustees
+pub alike_inherit_one : (one other : NodeRow) (above : Option (List Ace)) (by_trustees : Bool) → AreAlike one other by_trustees
     → (by_trustees ≡ false → trustees_matter above ≡ false) → InheritOne one other above
 alike_inherit_one one other above by_trustees h none = record {
   one_inherits = h.one_inherits;

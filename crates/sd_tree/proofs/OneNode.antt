@@ -8,7 +8,7 @@ use Rattle.sd_edit.specs.Closed.{IsClosed}
 use Rattle.sd_edit.specs.Edits.{changed, ChangesOneNode}
 use Rattle.sd_tree.specs.Plans.{changed_row, is_of_trustee}
 use Rattle.sd_edit.specs.Refusals.{has_child}
-use Rattle.sd_edit.specs.declared.node.Row.{Row}
+use Rattle.sd_edit.specs.declared.node.NodeRow.{NodeRow}
 use Rattle.sd_tree.specs.declared.node.RowChange.{RowChange}
 use Rattle.sd_tree.specs.declared.node.RowChange.TheVariants.{Owner, Group, Dacl}
 use Rattle.sd_tree.proofs.Adding.{nothing_below_childless}
@@ -26,7 +26,7 @@ trustee_stays g t path (Group group) h q ne =
 trustee_stays g t path (Dacl dacl) h q ne = absurd cc
 
 -- nothing below a node without children is there to change
-pub childless_stays : (g : MappingValue) (t : PlainTree) → IsClosed t → (path : Names) (change : Row → Row) → has_child t path ≡ false → ChangesOneNode g t (changed t path change) path
+pub childless_stays : (g : MappingValue) (t : PlainTree) → IsClosed t → (path : Names) (change : NodeRow → NodeRow) → has_child t path ≡ false → ChangesOneNode g t (changed t path change) path
 childless_stays g t closed path change none q ne = elim (cases_Bool (is_within path q)) [
   | inl within ↦ empty_stays (row_at t q) refl within
   | inr outside ↦ dacl_at_outside g u t path q (λ p other. row_at-changed_other t path p change other) outside
@@ -35,7 +35,7 @@ childless_stays g t closed path change none q ne = elim (cases_Bool (is_within p
     u : PlainTree
     u = changed t path change
 
-    empty_stays : (o : Option Row) → row_at t q ≡ o → is_within path q ≡ true → dacl_at g u q ≡ dacl_at g t q
+    empty_stays : (o : Option NodeRow) → row_at t q ≡ o → is_within path q ≡ true → dacl_at g u q ≡ dacl_at g t q
     empty_stays None nothing within =
         dacl_at_here g u q ∙ ap (λ o. dacl_here g o (dacl_over g u q)) (row_at-changed_other t path q change ne ∙ nothing)
         ∙ sym (dacl_at_here g t q ∙ ap (λ o. dacl_here g o (dacl_over g t q)) nothing)

@@ -14,7 +14,7 @@ use Rattle.sd_edit.specs.Refusals.{dacl_size, has_large_dacl}
 use Rattle.sd_tree.specs.Sizes.{IsSizeError}
 use Rattle.sd_tree.specs.Stored.{path_of_node, IsInOrder, tree_of, AreStanding}
 use Rattle.sd_tree.specs.Plans.{IsLargeError}
-use Rattle.sd_edit.specs.declared.node.Row.{Row}
+use Rattle.sd_edit.specs.declared.node.NodeRow.{NodeRow}
 use Rattle.sd_edit.specs.declared.refusal.TreeError.{TreeError}
 use Rattle.sd_edit.specs.declared.refusal.TreeError.TheVariants.{Refused, Memory}
 use Rattle.sd_path.proofs.Paths.{names_cmp_total, within_before, up_before, up_within, root_is_empty}
@@ -95,7 +95,7 @@ module _ (bs : List Node) (order : IsInOrder bs) (q : Names) (at : ℕ) (stands 
 
 -- ---- outside of the run
 
-module _ (g : MappingValue) (bs : List Node) (standing : AreStanding g bs) (q : Names) (at : ℕ) (in' : at < length bs) (stands : HoldsAt (λ c. path_of_node c ≡ q) bs at) (row : Row) where
+module _ (g : MappingValue) (bs : List Node) (standing : AreStanding g bs) (q : Names) (at : ℕ) (in' : at < length bs) (stands : HoldsAt (λ c. path_of_node c ≡ q) bs at) (row : NodeRow) where
   -- a DACL stays
   pub outside_stays : (end : ℕ) → AllWithin (λ c. is_within q (path_of_node c) ≡ false) bs end (length bs) → (k : ℕ) (b : Node) → k < length bs → (k < at) ⊎ (end ≤ k)
       → dacl_at g (insert (tree_of bs) q row) (path_of_node (get_or bs k b)) ≡ dacl_at g (tree_of bs) (path_of_node (get_or bs k b))
@@ -127,7 +127,7 @@ found_by p r implies (x ∷ xs) h = elim (cases_Bool (r x)) [
   ]
 ]
 
-pub large_found : (g : MappingValue) (t : PlainTree) (q : Names) (row : Row) → row_at t q ≡ Some row → 65535 < dacl_size (dacl_at g t q) → has_large_dacl g t ≡ true
+pub large_found : (g : MappingValue) (t : PlainTree) (q : Names) (row : NodeRow) → row_at t q ≡ Some row → 65535 < dacl_size (dacl_at g t q) → has_large_dacl g t ≡ true
 large_found g t q row there large =
     found_by (λ path. nat_lt 65535 (dacl_size (dacl_at g t path))) (eq_by_cmp names_cmp q)
     (λ path same.
@@ -136,11 +136,11 @@ large_found g t q row there large =
     grind (arith, nat_tests))
     (keys t) (sym (contains_key-keys t q) ∙ ap is_some there)
 
-pub large_error : (g : MappingValue) (t : PlainTree) (q : Names) (row : Row) (e : TreeError) → row_at t q ≡ Some row → IsSizeError e (dacl_at g t q) → IsLargeError g t e
+pub large_error : (g : MappingValue) (t : PlainTree) (q : Names) (row : NodeRow) (e : TreeError) → row_at t q ≡ Some row → IsSizeError e (dacl_at g t q) → IsLargeError g t e
 large_error g t q row (Refused r) there h = (h.0, large_found g t q row there h.1)
 large_error g t q row Memory there h = tt
 
 -- what stands at a place has a row
-pub row_there : (bs : List Node) → IsInOrder bs → (q : Names) (at : ℕ) → at < length bs → HoldsAt (λ c. path_of_node c ≡ q) bs at → (row : Row) × (row_at (tree_of bs) q ≡ Some row)
+pub row_there : (bs : List Node) → IsInOrder bs → (q : Names) (at : ℕ) → at < length bs → HoldsAt (λ c. path_of_node c ≡ q) bs at → (row : NodeRow) × (row_at (tree_of bs) q ≡ Some row)
 row_there [] order q at in' stands = absurd (omega arith)
 row_there (b ∷ bs) order q at in' stands = ((get_or (b ∷ bs) at b).row, ap (row_at (tree_of (b ∷ bs))) (sym (stands b)) ∙ row_here (b ∷ bs) order at b in')

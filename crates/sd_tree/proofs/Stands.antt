@@ -17,7 +17,7 @@ use Rattle.sd_edit.specs.Journal.{opened, root_row, replay, refusal, root_refusa
 use Rattle.sd_edit.specs.Answers.{IsError}
 use Rattle.sd_tree.specs.Stored.{entry_of, tree_of, IsWhole, AreNodes, AreStanding, IsStored}
 use Rattle.sd_tree.specs.Plans.{IsPlan, IsPlanned, CanCarryOut, carried}
-use Rattle.sd_edit.specs.declared.node.Row.{Row}
+use Rattle.sd_edit.specs.declared.node.NodeRow.{NodeRow}
 use Rattle.sd_edit.specs.declared.edit.Edit.{Edit}
 use Rattle.sd_edit.specs.declared.opening.Opening.{Opening}
 use Rattle.sd_tree.specs.declared.plan.Plan.{Plan}
@@ -100,8 +100,8 @@ no_length : {X : Type 0} (xs : List X) → length xs ≡ 0 → xs ≡ []
 no_length [] e = refl
 no_length (x ∷ xs) e = absurd (omega arith)
 
-none_of_empty : finite.entries (finite.empty {X = Row} {R = names_cmp}) ≡ []
-none_of_empty = no_length _ (sym (len-entries (finite.empty {X = Row} {R = names_cmp})) ∙ len-empty names_cmp Row)
+none_of_empty : finite.entries (finite.empty {X = NodeRow} {R = names_cmp}) ≡ []
+none_of_empty = no_length _ (sym (len-entries (finite.empty {X = NodeRow} {R = names_cmp})) ∙ len-empty names_cmp NodeRow)
 
 opened_entries : (o : Opening) → finite.entries (opened o) ≡ ([], root_row o.root) ∷ []
 opened_entries o = entries-insert names_cmp_total finite.empty [] (root_row o.root) ∙ ap (put names_cmp [] (root_row o.root)) none_of_empty

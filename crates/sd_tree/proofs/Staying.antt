@@ -13,7 +13,7 @@ use Rattle.sd_tree.specs.Plans.{IsExchange, IsRunBelow, AreUnder, IsTaken}
 use Rattle.sd_edit.specs.Refusals.{dacl_size}
 use Rattle.sd_tree.specs.Stored.{path_of_node, entry_of, tree_of, IsWhole, AreStanding}
 use Rattle.sd_tree.specs.declared.node.Node.{Node}
-use Rattle.sd_edit.specs.declared.node.Row.{Row}
+use Rattle.sd_edit.specs.declared.node.NodeRow.{NodeRow}
 use Rattle.sd_path.proofs.Paths.{names_cmp_total, within_rest}
 use Rattle.sd_tree.proofs.CarriedOut.{key_at, keys_count, exchanged_there, set_there}
 use Rattle.sd_tree.proofs.Kept.{entries_kept, a_node}
@@ -25,8 +25,8 @@ use Rattle.sd_edit.proofs.Sorted.{put_set}
 use Rattle.sd_tree.proofs.Under.{whole_taken}
 
 module _ (g : MappingValue) (bs : List Node) (standing : AreStanding g bs) (q : Names) (at : ℕ) (in' : at < length bs) (stands : HoldsAt (λ c. path_of_node c ≡ q) bs at)
-    (row : Row) (first : Node) (path-is : path_of_node first ≡ q) (row-is : first.row ≡ row) (whole-is : first.whole ≡ dacl_at g (insert (tree_of bs) q row) q) where
-  abbrev es : List (Names × Row)
+    (row : NodeRow) (first : Node) (path-is : path_of_node first ≡ q) (row-is : first.row ≡ row) (whole-is : first.whole ≡ dacl_at g (insert (tree_of bs) q row) q) where
+  abbrev es : List (Names × NodeRow)
   es = map entry_of bs
 
   in-es : at < length es
@@ -36,7 +36,7 @@ module _ (g : MappingValue) (bs : List Node) (standing : AreStanding g bs) (q : 
   entries_set : entries (insert (tree_of bs) q row) ≡ set es at (entry_of first)
   entries_set =
       let b = a_node bs at in' in
-      let key : (get_or es at (entry_of b)).0 ≡ q = ap (λ (e : Names × Row). e.0) (get_or-mapped entry_of bs at b) ∙ stands b in
+      let key : (get_or es at (entry_of b)).0 ≡ q = ap (λ (e : Names × NodeRow). e.0) (get_or-mapped entry_of bs at b) ∙ stands b in
       let put_there : put names_cmp q row es ≡ set es at (q, row) = rw key at (put_set names_cmp_total row es standing.kept.order at (entry_of b) in-es) in
       entries-insert names_cmp_total (tree_of bs) q row ∙ ap (put names_cmp q row) (entries_kept bs standing.kept.order)
       ∙ put_there ∙ sym (λ i. set es at (path-is i, row-is i))
@@ -80,7 +80,7 @@ module _ (g : MappingValue) (bs : List Node) (standing : AreStanding g bs) (q : 
         let size : length (take m (drop (at + 1) es)) ≡ m = taken m (drop (at + 1) es) (omega (arith, is, r.fits, length-drop (at + 1) es, length-map bs entry_of)) in
         same_lists (map entry_of run) (entry_of first ∷ take m (drop (at + 1) es)) (omega (arith, length-map run entry_of, is, size)) entry_is
       where
-        entry_is : (k : ℕ) (d : Names × Row) → k < length (map entry_of run) → get_or (map entry_of run) k d ≡ get_or (entry_of first ∷ take m (drop (at + 1) es)) k d
+        entry_is : (k : ℕ) (d : Names × NodeRow) → k < length (map entry_of run) → get_or (map entry_of run) k d ≡ get_or (entry_of first ∷ take m (drop (at + 1) es)) k d
         entry_is zero d lt = get_or-map entry_of run 0 first d (omega (arith, length-map run entry_of)) ∙ ap entry_of (u.first_is first)
         entry_is (suc k) d lt =
             let in-run : suc k < length run = omega (arith, length-map run entry_of) in

@@ -16,7 +16,7 @@ use Rattle.sd_tree.specs.Sizes.{IsSizeError}
 use Rattle.sd_tree.specs.Stored.{path_of_node, IsInOrder, tree_of, AreStanding}
 use Rattle.sd_tree.specs.Node.{behind_own}
 use Rattle.sd_tree.specs.declared.node.Node.{Node}
-use Rattle.sd_edit.specs.declared.node.Row.{Row}
+use Rattle.sd_edit.specs.declared.node.NodeRow.{NodeRow}
 use Rattle.sd_edit.specs.declared.refusal.TreeError.{TreeError}
 use Rattle.sd_path.proofs.Paths.{root_is_empty, within-append, within_rest, up-append}
 use Rattle.sd_tree.proofs.Beside.{behind_sibling}
@@ -81,7 +81,7 @@ module _ (g : MappingValue) (bs : List Node) (order : IsInOrder bs) (q : Names) 
 
   -- of the nodes that are made already, those beside one below that parent
   pub siblings_made : (end : ℕ) → AllWithin (λ c. is_within q (path_of_node c) ≡ true) bs at end → at + length run ≤ end
-      → (path : Names) (row : Row) (p : ℕ) (c : Node) → at ≤ p → p - at < length run → HoldsAt (λ d. path_of_node d ≡ up path) bs p
+      → (path : Names) (row : NodeRow) (p : ℕ) (c : Node) → at ≤ p → p - at < length run → HoldsAt (λ d. path_of_node d ≡ up path) bs p
       → (above : Option (List Ace)) → above ≡ (get_or run (p - at) c).whole → AreMadeFor g bs path row above at run
   siblings_made end inside le path row p c low lt there above is-above j b d sibling behind in-run =
       let here : at + (j - at) ≡ j = omega arith in
@@ -89,7 +89,7 @@ module _ (g : MappingValue) (bs : List Node) (order : IsInOrder bs) (q : Names) 
       u.wholes (j - at) b d found.0 in-run (ap (λ i. path_of_node (get_or bs i b)) here ∙ found.1)
       ∙ sym (next_under j b behind sibling.place found.0 found.1 p c low lt (λ e. there e ∙ sym (sibling.parent b)))
       ∙ ap (dacl_of_row g (get_or bs j b).row) (sym is-above) ∙ behind_sibling g (get_or bs j b).row row above (sibling.alike b)
-      ∙ ap (λ (r : Row). Some (behind_own r (handed_on g row above))) (sym (u.rows (j - at) b d (omega arith) in-run ∙ ap (λ i. (get_or bs i b).row) here))
+      ∙ ap (λ (r : NodeRow). Some (behind_own r (handed_on g row above))) (sym (u.rows (j - at) b d (omega arith) in-run ∙ ap (λ i. (get_or bs i b).row) here))
 
   -- what it is in a tree with the first elsewhere
   pub whole_taken : (after : PlainTree) (target : Names) → IsTaken g (tree_of bs) after q target first → (k : ℕ) (b c : Node) (rest : Names) → k < length run

@@ -3,11 +3,11 @@ use Rattle.sd_acl.specs.Descriptor.{DescriptorValue, descriptor_of}
 use Rattle.sd_acl.specs.declared.descriptor.Descriptor.{Descriptor}
 use Rattle.sd_path.specs.Names.{Names}
 use Rattle.sd_inheritance.specs.declared.kind.NodeKind.{NodeKind}
-use Rattle.sd_edit.specs.declared.node.Row.{Row}
+use Rattle.sd_edit.specs.declared.node.NodeRow.{NodeRow}
 use Rattle.sd_tree.specs.declared.listing.NodeRef.{NodeRef}
 
 -- the path of a lent node, and what stands there
-abbrev pub listed : NodeRef → Names × Row
+abbrev pub listed : NodeRef → Names × NodeRow
 listed n = (n.path.now, record { kind = n.kind; owner = n.owner; group = n.group; dacl = n.dacl.now })
 
 -- what was given to a node

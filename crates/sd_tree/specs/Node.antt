@@ -5,10 +5,10 @@ use Rattle.sd_path.specs.Names.{Names}
 use Rattle.sd_edit.specs.Refusals.{own_entries}
 use Rattle.sd_edit.specs.declared.node.NodeDacl.{NodeDacl}
 use Rattle.sd_edit.specs.declared.node.NodeDacl.TheVariants.{Null, List as Entries}
-use Rattle.sd_edit.specs.declared.node.Row.{Row}
+use Rattle.sd_edit.specs.declared.node.NodeRow.{NodeRow}
 
 -- a row's own entries, and these behind them
-abbrev pub behind_own : Row → List Ace → List Ace
+abbrev pub behind_own : NodeRow → List Ace → List Ace
 behind_own row inherited = own_entries row.dacl ++ inherited
 
 -- a DACL with these behind its own entries; a null one has no entries
@@ -16,13 +16,13 @@ abbrev pub dacl_with : NodeDacl → List Ace → Option (List Ace)
 dacl_with Null inherited = None
 dacl_with (Entries protected own) inherited = Some (own ++ inherited)
 
-abbrev pub whole_with : Row → List Ace → Option (List Ace)
+abbrev pub whole_with : NodeRow → List Ace → Option (List Ace)
 whole_with row inherited = dacl_with row.dacl inherited
 
 -- a node as contracts see it: its path, its row and its whole DACL
 pub record NodeValue : Type 0 where
   pub path : Names
-  pub row : Row
+  pub row : NodeRow
   pub whole : Option (List Ace)
 
 -- whether a node with this DACL inherits: it is neither null nor protected

@@ -11,7 +11,7 @@ use Rattle.sd_edit.specs.Plain.{PlainTree, row_at, dacl_below, dacl_at}
 use Rattle.sd_edit.specs.Refusals.{dacl_size, has_large_dacl, late_refusal}
 use Rattle.sd_tree.specs.Stored.{path_of_node, entry_of, tree_of, IsWhole}
 use Rattle.sd_tree.specs.declared.node.Node.{Node}
-use Rattle.sd_edit.specs.declared.node.Row.{Row}
+use Rattle.sd_edit.specs.declared.node.NodeRow.{NodeRow}
 use Rattle.sd_tree.specs.declared.node.RowChange.{RowChange}
 use Rattle.sd_tree.specs.declared.node.RowChange.TheVariants.{Owner, Group, Dacl}
 use Rattle.sd_edit.specs.Edits.{edited}
@@ -27,7 +27,7 @@ use Rattle.sd_tree.specs.declared.plan.Plan.TheVariants.{Insert, Set, Remove, Ex
 -- ---- a node that stays where it is
 
 -- a node's row after a change
-abbrev pub changed_row : RowChange → Row → Row
+abbrev pub changed_row : RowChange → NodeRow → NodeRow
 changed_row (Owner owner) row = record row { owner = owner }
 changed_row (Group group) row = record row { group = group }
 changed_row (Dacl dacl) row = record row { dacl = dacl }

@@ -12,13 +12,13 @@ use Rattle.sd_edit.specs.Journal.{replay, root_refusal, IsLawful}
 use Rattle.sd_edit.specs.declared.opening.Opening.{Opening}
 use Rattle.sd_edit.specs.declared.edit.Edit.{Edit}
 use Rattle.sd_tree.specs.declared.journal.Edits.{Edits}
-use Rattle.sd_edit.specs.declared.node.Row.{Row}
+use Rattle.sd_edit.specs.declared.node.NodeRow.{NodeRow}
 use Rattle.sd_tree.specs.declared.node.Node.{Node}
 
 abbrev pub path_of_node : Node → Names
 path_of_node n = n.path
 
-abbrev pub entry_of : Node → Names × Row
+abbrev pub entry_of : Node → Names × NodeRow
 entry_of n = (n.path, n.row)
 
 -- the paths rise

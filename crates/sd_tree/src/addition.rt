@@ -5,7 +5,7 @@ ghost use Rattle.sd_edit.specs.Additions.{added, is_addition};
 
 use crate::node::RowRef;
 use crate::shared::Shared;
-use sd_edit::{Edit, Row};
+use sd_edit::{Edit, NodeRow};
 use sd_inheritance::NodeKind;
 use sd_path::Path;
 use std::alloc::{AllocError, Global};
@@ -39,7 +39,7 @@ impl Addition {
     }
 
     /// A new addition, of a row at a path.
-    pub(crate) fn new(alloc: Global, path: Path, row: Row) -> Result<Addition, AllocError>
+    pub(crate) fn new(alloc: Global, path: Path, row: NodeRow) -> Result<Addition, AllocError>
         ensures { IfOk result (λ addition. addition ≡ record { path = path; row = row }) }
     {
         let edit = match row.kind {

@@ -19,7 +19,7 @@ use crate::nodes::locate;
 use crate::plan::Plan;
 use crate::shared::Shared;
 use crate::tree_view::TreeView;
-use sd_edit::{Edit, Row, TreeError};
+use sd_edit::{Edit, NodeRow, TreeError};
 use sd_path::Path;
 
 impl TreeView<'_> {
@@ -44,7 +44,7 @@ impl TreeView<'_> {
     }
 
     /// The node at a place, with another row.
-    fn node_with(&self, path: &Path, at: usize, row: Row) -> Result<Node, TreeError>
+    fn node_with(&self, path: &Path, at: usize, row: NodeRow) -> Result<Node, TreeError>
         requires standing { IsView self.now }
         requires within { at < length self.now.nodes.now }
         requires stands { HoldsAt (λ b. path_of_node b ≡ path.now) self.now.nodes.now at }
@@ -61,7 +61,7 @@ impl TreeView<'_> {
     }
 
     /// The plan for a node that gets another row, where what it hands on changes with it.
-    fn run_plan(&self, path: &Path, at: usize, row: Row) -> Result<Plan, TreeError>
+    fn run_plan(&self, path: &Path, at: usize, row: NodeRow) -> Result<Plan, TreeError>
         requires standing { IsView self.now }
         requires within { at < length self.now.nodes.now }
         requires stands { HoldsAt (λ b. path_of_node b ≡ path.now) self.now.nodes.now at }
@@ -79,7 +79,7 @@ impl TreeView<'_> {
     }
 
     /// The plan for a node that gets another row, where no other node's DACL changes with it.
-    fn one_node_plan(&self, path: &Path, at: usize, row: Row) -> Result<Plan, TreeError>
+    fn one_node_plan(&self, path: &Path, at: usize, row: NodeRow) -> Result<Plan, TreeError>
         requires standing { IsView self.now }
         requires within { at < length self.now.nodes.now }
         requires stands { HoldsAt (λ b. path_of_node b ≡ path.now) self.now.nodes.now at }

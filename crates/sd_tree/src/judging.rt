@@ -14,7 +14,7 @@ ghost use Rattle.sd_tree.specs.View.{IsView, tree_in};
 ghost use Rattle.sd_edit.specs.declared.refusal.EditRefusal.TheVariants.{NotEmpty, IsRoot, TooDeep, NodesFull};
 ghost use Rattle.sd_edit.specs.declared.refusal.EditRefusal.TheVariants.{JournalFull};
 
-use crate::list_tests::list_refusal;
+use crate::list_refusal::list_refusal;
 use crate::nodes::{locate, node_at};
 use crate::plan::Plan;
 use crate::shared::Shared;

@@ -2,7 +2,7 @@
 
 ghost use Rattle.std.specs.Prelude.{◌≡◌, IfOk, MatchOption, option_map};
 ghost use Rattle.sd_edit.specs.Edits.{kept_dacl, keeping};
-ghost use Rattle.sd_edit.specs.declared.node.Row.{Row};
+ghost use Rattle.sd_edit.specs.declared.node.NodeRow.{NodeRow};
 
 use crate::node::Node;
 use sd_acl::{canonicalize, explicit_of};
@@ -15,8 +15,8 @@ use std::alloc::{AllocError, Global};
 pub(crate) fn kept_dacl(alloc: Global, node: &Node) -> Result<Option<NodeDacl>, AllocError>
     ensures kept { IfOk result (λ kept. kept ≡ option_map kept_dacl node.now.whole) }
     ensures keeping { IfOk result (λ kept. MatchOption kept
-        ((row : Row) → keeping node.now.whole row ≡ row)
-        (λ dacl. (row : Row) → keeping node.now.whole row ≡ record row { dacl = dacl })) }
+        ((row : NodeRow) → keeping node.now.whole row ≡ row)
+        (λ dacl. (row : NodeRow) → keeping node.now.whole row ≡ record row { dacl = dacl })) }
 {
     let Some(whole) = node.whole(alloc)? else {
         return Ok(None);

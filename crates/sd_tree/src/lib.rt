@@ -20,7 +20,7 @@ mod inherit;
 mod journal;
 mod judging;
 mod keep;
-mod list_tests;
+mod list_refusal;
 mod listing;
 mod moving;
 mod node;

@@ -10,7 +10,7 @@ use crate::addition::Addition;
 use crate::shared::Shared;
 use sd_acl::{ACL_HEADER_BYTES, Ace, MAX_ACL_BYTES};
 use sd_blocks::TryCopy;
-use sd_edit::{EditRefusal, Entries, NodeDacl, Row, TreeError};
+use sd_edit::{EditRefusal, Entries, NodeDacl, NodeRow, TreeError};
 use sd_inheritance::NodeKind;
 use sd_path::{Path, PathRef};
 use sd_sid::Sid;
@@ -27,16 +27,16 @@ pub(crate) struct RowRef<'a> {
 }
 
 impl<'a> Model for RowRef<'a> {
-    ghost use Rattle.sd_edit.specs.declared.node.Row.{Row};
+    ghost use Rattle.sd_edit.specs.declared.node.NodeRow.{NodeRow};
 
-    ghost Value = { Row };
+    ghost Value = { NodeRow };
 
     ghost view = { λ r. record { kind = r.kind; owner = r.owner.now; group = r.group.now; dacl = r.dacl.now } };
 }
 
 impl RowRef<'_> {
     /// An equal row.
-    pub(crate) fn copy(&self, alloc: Global) -> Result<Row, AllocError>
+    pub(crate) fn copy(&self, alloc: Global) -> Result<NodeRow, AllocError>
         ensures { IfOk result (λ row. row ≡ self.now) }
     {
         let dacl = self.dacl.copy(alloc)?;
@@ -44,10 +44,10 @@ impl RowRef<'_> {
     }
 
     /// A copy of the row, with another DACL.
-    fn with_dacl(&self, dacl: NodeDacl) -> Row
+    fn with_dacl(&self, dacl: NodeDacl) -> NodeRow
         ensures { result ≡ record self.now { dacl = dacl } }
     {
-        Row {
+        NodeRow {
             kind: self.kind,
             owner: *self.owner,
             group: *self.group,
@@ -56,15 +56,15 @@ impl RowRef<'_> {
     }
 
     /// A copy of the row after the change.
-    pub(crate) fn with(&self, alloc: Global, change: RowChange) -> Result<Row, AllocError>
+    pub(crate) fn with(&self, alloc: Global, change: RowChange) -> Result<NodeRow, AllocError>
         ensures { IfOk result (λ row. row ≡ changed_row change self.now) }
     {
         Ok(match change {
-            RowChange::Owner(owner) => Row {
+            RowChange::Owner(owner) => NodeRow {
                 owner,
                 ..self.copy(alloc)?
             },
-            RowChange::Group(group) => Row {
+            RowChange::Group(group) => NodeRow {
                 group,
                 ..self.copy(alloc)?
             },

@@ -16,7 +16,7 @@ use crate::addition::Addition;
 use crate::describe::descriptor_of_node;
 use crate::inherit::nothing;
 use crate::journal::{Edits, Journal};
-use crate::list_tests::list_refusal;
+use crate::list_refusal::list_refusal;
 use crate::node::Node;
 use crate::nodes::node_at;
 use crate::plan::{Plan, carry_out};
@@ -25,7 +25,7 @@ use crate::tree_view::TreeView;
 use sd_acl::Descriptor;
 use sd_blocks::Blocks;
 use sd_check::{DaclRef, Token, Verdict, check_joined, check_parts};
-use sd_edit::{CheckReply, Edit, EditRefusal, Limits, Opening, RootSpec, Row, TreeError};
+use sd_edit::{CheckReply, Edit, EditRefusal, Limits, NodeRow, Opening, RootSpec, TreeError};
 use sd_inheritance::NodeKind;
 use sd_path::Path;
 use sd_sid::{GenericMapping, Mask};
@@ -256,7 +256,7 @@ fn root_node(alloc: Global, mapping: &GenericMapping, root: &RootSpec) -> Result
     ensures fits { IfOk result (λ n. dacl_size n.whole ≤ 65535) }
     ensures refused { IfErr result (λ e. IsSizeError e (dacl_of_row mapping.now (root_row root.now) None)) }
 {
-    let row = Row {
+    let row = NodeRow {
         kind: NodeKind::Container,
         owner: root.owner,
         group: root.group,

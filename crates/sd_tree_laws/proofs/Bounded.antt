@@ -15,7 +15,7 @@ use Rattle.sd_edit.specs.Plain.{PlainTree, row_at, dacl_at}
 use Rattle.sd_edit.specs.Edits.{keeping, changed_where, changed, edited, moved_entry, moved}
 use Rattle.sd_edit.specs.Journal.{opened, edited_by, root_row, replay, root_refusal, IsLawful}
 use Rattle.sd_edit.specs.Refusals.{list_tests, has_large_dacl, late_refusal, late_tests, goes_too_deep}
-use Rattle.sd_edit.specs.declared.node.Row.{Row}
+use Rattle.sd_edit.specs.declared.node.NodeRow.{NodeRow}
 use Rattle.sd_edit.specs.declared.opening.Opening.{Opening}
 use Rattle.sd_edit.specs.declared.refusal.EditRefusal.TheVariants.{AclTooLarge}
 use Rattle.sd_edit.specs.declared.edit.Edit.{Edit}
@@ -29,12 +29,12 @@ use Rattle.sd_tree_laws.proofs.Fronts.{Entry, few_entries}
 -- ---- the names of a path
 
 abbrev pub AllShallow : PlainTree → Type 0
-AllShallow t = (path : Names) (row : Row) → row_at t path ≡ Some row → length path ≤ 64
+AllShallow t = (path : Names) (row : NodeRow) → row_at t path ≡ Some row → length path ≤ 64
 
 not_deep : (n : ℕ) → nat_lt 64 n ≡ false → n ≤ 64
 not_deep n h = ltb-false 64 n h
 
-shallow_inserted : (t : PlainTree) (path : Names) (row : Row) → length path ≤ 64 → AllShallow t → AllShallow (finite.insert t path row)
+shallow_inserted : (t : PlainTree) (path : Names) (row : NodeRow) → length path ≤ 64 → AllShallow t → AllShallow (finite.insert t path row)
 shallow_inserted t path row low before q r e = elim (same_or_other q path) [
   | inl same ↦ let size = ap (λ (p : Names). length p) same in omega (arith, size, low)
   | inr other ↦ before q r (sym (row_at-insert_other t path q row other) ∙ e)
@@ -48,11 +48,11 @@ shallow_removed t path before q r e = elim (same_or_other q path) [
   | inr other ↦ before q r (sym (row_at-remove_other t path q other) ∙ e)
 ]
 
-was_some : (change : Row → Row) (o : Option Row) (r : Row) → option_map change o ≡ Some r → (row : Row) × (o ≡ Some row)
+was_some : (change : NodeRow → NodeRow) (o : Option NodeRow) (r : NodeRow) → option_map change o ≡ Some r → (row : NodeRow) × (o ≡ Some row)
 was_some change None r e = absurd cc
 was_some change (Some row) r e = (row, refl)
 
-shallow_changed : (t : PlainTree) (path : Names) (change : Row → Row) → AllShallow t → AllShallow (changed t path change)
+shallow_changed : (t : PlainTree) (path : Names) (change : NodeRow → NodeRow) → AllShallow t → AllShallow (changed t path change)
 shallow_changed t path change before q r e = elim (same_or_other q path) [
   | inl same ↦
       let was = was_some change (row_at t path) r (sym (ap (row_at (changed t path change)) same ∙ row_at-changed_same t path change) ∙ e) in
@@ -70,7 +70,7 @@ moved_low source target path test low = elim (cases_Bool (is_within source path)
   | inr outside ↦ let size = ap (λ (p : Names). length p) (moved_path-outside source target path outside) in omega (arith, size, low)
 ]
 
-found_low : (source target q : Names) (r : Row) (es : List Entry) → list_any (goes_too_deep source target) (map (λ e. e.0) es) ≡ false
+found_low : (source target q : Names) (r : NodeRow) (es : List Entry) → list_any (goes_too_deep source target) (map (λ e. e.0) es) ≡ false
     → ((k : ℕ) (d : Entry) → k < length es → length (get_or es k d).0 ≤ 64)
     → find names_cmp q (map (moved_entry source target) es) ≡ Some r → length q ≤ 64
 found_low source target q r [] tests low e = absurd cc
@@ -131,7 +131,7 @@ module _ (limits : LimitsValue) where
   few_more true m h = omega (arith, h)
   few_more false m h = omega (arith, h)
 
-  few_inserted : (t : PlainTree) (path : Names) (row : Row) → finite.len t ≤ limits.nodes - 1 → IsFew (finite.insert t path row)
+  few_inserted : (t : PlainTree) (path : Names) (row : NodeRow) → finite.len t ≤ limits.nodes - 1 → IsFew (finite.insert t path row)
   few_inserted t path row le = rw (len-insert names_cmp_total t path row) (few_more (finite.contains_key t path) (finite.len t) le)
 
   few_less : (b : Bool) (m : ℕ) → m - 1 ≤ limits.nodes - 1 → cond b (m - 1) m - 1 ≤ limits.nodes - 1
@@ -141,13 +141,13 @@ module _ (limits : LimitsValue) where
   few_removed : (t : PlainTree) (path : Names) → IsFew t → IsFew (finite.remove t path)
   few_removed t path few = rw (len-remove names_cmp_total t path) (few_less (finite.contains_key t path) (finite.len t) few)
 
-  few_where : (t : PlainTree) (path : Names) (change : Row → Row) (o : Option Row) → row_at t path ≡ o → IsFew t → IsFew (changed_where t path change o)
+  few_where : (t : PlainTree) (path : Names) (change : NodeRow → NodeRow) (o : Option NodeRow) → row_at t path ≡ o → IsFew t → IsFew (changed_where t path change o)
   few_where t path change None is few = few
   few_where t path change (Some row) is few =
       let size : finite.len (finite.insert t path (change row)) ≡ finite.len t = len-insert names_cmp_total t path (change row) ∙ ap (λ o. cond (is_some o) (finite.len t) (finite.len t + 1)) is in
       omega (arith, size, few)
 
-  few_changed : (t : PlainTree) (path : Names) (change : Row → Row) → IsFew t → IsFew (changed t path change)
+  few_changed : (t : PlainTree) (path : Names) (change : NodeRow → NodeRow) → IsFew t → IsFew (changed t path change)
   few_changed t path change few = few_where t path change (row_at t path) refl few
 
   few_moved : (t : PlainTree) (source target : Names) → IsFew t → IsFew (moved t source target)
@@ -174,7 +174,7 @@ module _ (limits : LimitsValue) where
   few_edited g t count (Move source target) fits before = few_moved t source target before
 
   few_opened : (o : Opening) → IsFew (opened o)
-  few_opened o = few_inserted finite.empty [] (root_row o.root) (let none = len-empty names_cmp Row in omega (arith, none))
+  few_opened o = few_inserted finite.empty [] (root_row o.root) (let none = len-empty names_cmp NodeRow in omega (arith, none))
 
 pub few_replay : (o : Opening) (journal : List Edit) → IsLawful o journal → IsFew o.limits (replay o journal)
 few_replay o journal =
@@ -191,10 +191,10 @@ no_more : (b : Bool) (n : ℕ) → cond b (n - 1) n ≤ n + 1
 no_more true n = omega arith
 no_more false n = omega arith
 
-grown : (t : PlainTree) (path : Names) (row : Row) → finite.len (finite.insert t path row) ≤ finite.len t + 1
+grown : (t : PlainTree) (path : Names) (row : NodeRow) → finite.len (finite.insert t path row) ≤ finite.len t + 1
 grown t path row = rw (len-insert names_cmp_total t path row) (one_more (finite.contains_key t path) (finite.len t))
 
-stays : (t : PlainTree) (path : Names) (change : Row → Row) (row : Option Row) → finite.len (changed_where t path change row) ≤ finite.len t + 1
+stays : (t : PlainTree) (path : Names) (change : NodeRow → NodeRow) (row : Option NodeRow) → finite.len (changed_where t path change row) ≤ finite.len t + 1
 stays t path change None = omega arith
 stays t path change (Some row) = grown t path (change row)
 
@@ -229,7 +229,7 @@ unfolding replay
 journal_adds opening journal =
     let all = edits_add opening.mapping (opened opening) journal in
     let root = grown finite.empty [] (root_row opening.root) in
-    let none = len-empty names_cmp Row in
+    let none = len-empty names_cmp NodeRow in
     omega arith
 
 -- ---- the bytes of a list

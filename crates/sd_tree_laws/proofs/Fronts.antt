@@ -10,11 +10,11 @@ use Rattle.std.specs.declared.cmp.Ordering.TheVariants.{Less, Equal, Greater}
 use Rattle.std.proofs.lemmas.Bool.{false≢true}
 use Rattle.sd_path.specs.Names.{Names, names_cmp}
 use Rattle.sd_path.proofs.Paths.{names_cmp_total}
-use Rattle.sd_edit.specs.declared.node.Row.{Row}
+use Rattle.sd_edit.specs.declared.node.NodeRow.{NodeRow}
 use Rattle.sd_edit.proofs.Rows.{one_path, path_itself}
 
 abbrev pub Entry : Type 0
-Entry = Names × Row
+Entry = Names × NodeRow
 
 both : (a b : Bool) → T a → T b → T (a && b)
 both true b p q = q
@@ -60,7 +60,7 @@ pub below_next : (e : Entry) (es : List Entry) → T (is_sorted names_cmp (e ∷
 below_next e es h = first _ _ h
 
 -- a path that is found in the front is below all that is left
-pub found_below : (q : Names) (r : Row) (xs ys : List Entry) → T (is_sorted names_cmp (xs ++ ys)) → find names_cmp q xs ≡ Some r → T (below_all names_cmp q ys)
+pub found_below : (q : Names) (r : NodeRow) (xs ys : List Entry) → T (is_sorted names_cmp (xs ++ ys)) → find names_cmp q xs ≡ Some r → T (below_all names_cmp q ys)
 found_below q r [] ys h e = absurd cc
 found_below q r (x ∷ xs) ys h e = by_key (eq_by_cmp names_cmp q x.0) refl e (found_below q r xs ys (second _ _ h))
   where
@@ -77,7 +77,7 @@ itself q e es same h =
     let lt : names_cmp e.0 e.0 ≡ Less = ap (λ p. names_cmp p e.0) (sym same) ∙ less _ (first _ _ h) in
     false≢true (sym (ap is_eq lt) ∙ path_itself e.0)
 
-not_found : (o : Option Row) → ((r : Row) → o ≡ Some r → ⊥) → o ≡ None
+not_found : (o : Option NodeRow) → ((r : NodeRow) → o ≡ Some r → ⊥) → o ≡ None
 not_found None h = refl
 not_found (Some r) h = absurd (h r refl)
 
@@ -96,7 +96,7 @@ at_most true m n h = omega (arith, h)
 at_most false m n h = omega (arith, h)
 
 pub few_entries : (es : List Entry) → finite.len (finite.from_entries {R = names_cmp} es) ≤ length es
-few_entries [] = let none = len-empty names_cmp Row in omega (arith, none)
+few_entries [] = let none = len-empty names_cmp NodeRow in omega (arith, none)
 few_entries (e ∷ es) =
     let before = finite.from_entries {R = names_cmp} es in
     let more = len-insert names_cmp_total before e.0 e.1 in

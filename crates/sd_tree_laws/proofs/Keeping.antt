@@ -10,7 +10,7 @@ use Rattle.sd_path.specs.Names.{Names, is_within}
 use Rattle.sd_edit.specs.Plain.{PlainTree, row_at, dacl_at, dacl_here, dacl_below}
 use Rattle.sd_edit.specs.Edits.{keeping, changed_where, changed}
 use Rattle.sd_tree_laws.specs.Laws.{KeepingLetsNobodyIn, granted_by_row, is_granted_at}
-use Rattle.sd_edit.specs.declared.node.Row.{Row}
+use Rattle.sd_edit.specs.declared.node.NodeRow.{NodeRow}
 use Rattle.sd_path.proofs.Paths.{names_cmp_total, names_cmp_antisymmetric, within_rest}
 use Rattle.sd_edit.proofs.Rows.{same_or_other, row_at-changed_same, row_at-changed_other}
 use Rattle.sd_edit.proofs.Dacls.{dacl_at_here, dacl_over, dacl_at-append, below_alike, dacl_at_outside}
@@ -21,12 +21,12 @@ longer : (at : Names) (name : List ℕ) (names : Names) → at ++ name ∷ names
 longer [] name names e = cc
 longer (n ∷ at) name names e = longer at name names cc
 
-granted_alike : (g : MappingValue) (token : TokenValue) (b : ℕ) (after before : Option (List Ace)) (o : Option Row) → AreReordered after before
+granted_alike : (g : MappingValue) (token : TokenValue) (b : ℕ) (after before : Option (List Ace)) (o : Option NodeRow) → AreReordered after before
     → granted_by_row g after token b o ≡ true → granted_by_row g before token b o ≡ true
 granted_alike g token b after before None r h = h
 granted_alike g token b after before (Some row) r h = reordered_grants (Some row.owner) g token after before b r h
 
-module _ (g : MappingValue) (t : PlainTree) (top : Names) (row : Row) (es : List Ace) (there : row_at t top ≡ Some row) (listed : dacl_at g t top ≡ Some es) where
+module _ (g : MappingValue) (t : PlainTree) (top : Names) (row : NodeRow) (es : List Ace) (there : row_at t top ≡ Some row) (listed : dacl_at g t top ≡ Some es) where
   abbrev kept_tree : PlainTree
   kept_tree = changed t top (keeping (dacl_at g t top))
 
@@ -95,11 +95,11 @@ null_stays g t top null =
       | inr other ↦ row_at-changed_other t top q (keeping (dacl_at g t top)) other
     ])
   where
-    as_it_was : (o : Option Row) → option_map (keeping None) o ≡ o
+    as_it_was : (o : Option NodeRow) → option_map (keeping None) o ≡ o
     as_it_was None = refl
     as_it_was (Some row) = refl
 
-by_node : (g : MappingValue) (t : PlainTree) (top path : Names) (token : TokenValue) (b : ℕ) (d : Option (List Ace)) (o : Option Row)
+by_node : (g : MappingValue) (t : PlainTree) (top path : Names) (token : TokenValue) (b : ℕ) (d : Option (List Ace)) (o : Option NodeRow)
     → dacl_at g t top ≡ d → row_at t top ≡ o
     → is_granted_at g (changed t top (keeping (dacl_at g t top))) path token b ≡ true → is_granted_at g t path token b ≡ true
 by_node g t top path token b None o null there h =

@@ -13,7 +13,7 @@ use Rattle.sd_edit.specs.Plain.{PlainTree, row_at, dacl_at}
 use Rattle.sd_edit.specs.Edits.{keeping, edited}
 use Rattle.sd_edit.specs.Answers.{reply_for}
 use Rattle.sd_tree_laws.specs.Laws.{KeepingGrantsNoNewRequest, granted_by_row}
-use Rattle.sd_edit.specs.declared.node.Row.{Row}
+use Rattle.sd_edit.specs.declared.node.NodeRow.{NodeRow}
 use Rattle.sd_edit.specs.declared.reply.CheckReply.TheVariants as reply
 use Rattle.sd_edit.specs.declared.edit.Edit.TheVariants.{ProtectKeeping}
 use Rattle.sd_edit.proofs.Closed.{kind_at-changed, kept_when_keeping, known_kind}
@@ -40,7 +40,7 @@ judged_more g now before most_now most_before r m more plain e =
 inside : (v w : Verdict) → reply.Verdict v ≡ reply.Verdict w → v ≡ w
 inside v w e = cc
 
-reply_more : (g : MappingValue) (token : TokenValue) (asked m : ℕ) (now before : Option (List Ace)) (o p : Option Row) → (p ≡ None → o ≡ None)
+reply_more : (g : MappingValue) (token : TokenValue) (asked m : ℕ) (now before : Option (List Ace)) (o p : Option NodeRow) → (p ≡ None → o ≡ None)
     → ((b : ℕ) → granted_by_row g now token b o ≡ true → granted_by_row g before token b p ≡ true)
     → holds asked 25 ≡ false → reply_for g now token asked o ≡ reply.Verdict (Granted m) → reply_for g before token asked p ≡ reply.Verdict (Granted m)
 reply_more g token asked m now before None p there more plain e = absurd cc
@@ -49,7 +49,7 @@ reply_more g token asked m now before (Some row) (Some old) there more plain e =
     ap reply.Verdict (judged_more g (is_granted (Some row.owner) now g token) (is_granted (Some old.owner) before g token)
     (most (Some row.owner) now g token) (most (Some old.owner) before g token) asked m more plain (inside _ _ e))
 
-unknown : (o : Option Row) → ((row : Row) → o ≡ Some row → ⊥) → o ≡ None
+unknown : (o : Option NodeRow) → ((row : NodeRow) → o ≡ Some row → ⊥) → o ≡ None
 unknown None h = refl
 unknown (Some row) h = absurd (h row refl)
 

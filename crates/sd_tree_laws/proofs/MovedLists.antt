@@ -11,7 +11,7 @@ use Rattle.sd_edit.specs.Inheritance.{dacl_under}
 use Rattle.sd_edit.specs.Journal.{replay}
 use Rattle.sd_edit.specs.Plain.{PlainTree, row_at, dacl_at, dacl_here}
 use Rattle.sd_edit.specs.declared.node.NodeDacl.{NodeDacl}
-use Rattle.sd_edit.specs.declared.node.Row.{Row}
+use Rattle.sd_edit.specs.declared.node.NodeRow.{NodeRow}
 use Rattle.sd_edit.proofs.Closed.{closed_replay}
 use Rattle.sd_edit.proofs.Dacls.{dacl_at_here, dacl_over, dacl_at-append, dacl_at_up}
 use Rattle.sd_edit.proofs.Moved.{below_shift, dacl_at-moved_other, row_at-moved_there, way_outside}
@@ -23,7 +23,7 @@ use Rattle.sd_tree_laws.specs.Laws.{GivenKeepLists, NullKeepLists, ProtectedKeep
 -- nothing comes from above to a node that was given this DACL
 abbrev pub StandsAlone : NodeDacl → Type 0
 StandsAlone dacl =
-    (g : MappingValue) (row : Row) (above other : Option (List Ace))
+    (g : MappingValue) (row : NodeRow) (above other : Option (List Ace))
     → dacl_under g row dacl above ≡ dacl_under g row dacl other
 
 module _ (g : MappingValue) (t : PlainTree) (closed : IsClosed t) (source target : Names)
@@ -31,7 +31,7 @@ module _ (g : MappingValue) (t : PlainTree) (closed : IsClosed t) (source target
   there : (rest : Names) → row_at (moved t source target) (target ++ rest) ≡ row_at t (source ++ rest)
   there = row_at-moved_there t closed source target can.place.free
 
-  top_stays : (mid : Names) (row : Row) → row_at t (source ++ mid) ≡ Some row → StandsAlone row.dacl
+  top_stays : (mid : Names) (row : NodeRow) → row_at t (source ++ mid) ≡ Some row → StandsAlone row.dacl
       → dacl_at g (moved t source target) (target ++ mid) ≡ dacl_at g t (source ++ mid)
   top_stays mid row is alone =
       let t' = moved t source target in
@@ -51,7 +51,7 @@ module _ (g : MappingValue) (t : PlainTree) (closed : IsClosed t) (source target
       ∙ sym (ap (row_at t) (append_assoc source mid (name ∷ below))))
       ∙ sym (ap (dacl_at g t) (sym (append_assoc source mid rest)) ∙ dacl_at-append g t (source ++ mid) rest)
 
-  pub moves_unchanged : (top path : Names) (row : Row) → row_at t top ≡ Some row → StandsAlone row.dacl
+  pub moves_unchanged : (top path : Names) (row : NodeRow) → row_at t top ≡ Some row → StandsAlone row.dacl
       → is_within source top ≡ true → is_within top path ≡ true
       → dacl_at g (moved t source target) (moved_path source target path) ≡ dacl_at g t path
   moves_unchanged top path row is alone inside below =

@@ -8,7 +8,7 @@ use Rattle.sd_edit.specs.Journal.{replay, refusal, IsLawful}
 use Rattle.sd_edit.specs.Plain.{PlainTree, row_at}
 use Rattle.sd_edit.specs.declared.edit.Edit.{Edit}
 use Rattle.sd_edit.specs.declared.edit.Edit.TheVariants.{Move}
-use Rattle.sd_edit.specs.declared.node.Row.{Row}
+use Rattle.sd_edit.specs.declared.node.NodeRow.{NodeRow}
 use Rattle.sd_edit.specs.declared.opening.Opening.{Opening}
 use Rattle.sd_path.proofs.Paths.{within_itself, within-append, within_rest}
 use Rattle.sd_edit.proofs.Below.{nothing_below, some_row}
@@ -30,7 +30,7 @@ two_heads (n ∷ a) (m ∷ b) ones others e =
       | inr found ↦ let is = found.1 in inr (found.0, cc)
     ]
 
-none_from : (o : Option Row) → ((row : Row) → o ≡ Some row → ⊥) → o ≡ None
+none_from : (o : Option NodeRow) → ((row : NodeRow) → o ≡ Some row → ⊥) → o ≡ None
 none_from None never = refl
 none_from (Some row) never = absurd (never row refl)
 

@@ -16,7 +16,7 @@ use Rattle.sd_edit.specs.Edits.{keeping, changed, edited, moved_entry, moved}
 use Rattle.sd_edit.specs.Journal.{opened, root_row, replay, root_refusal, IsLawful}
 use Rattle.sd_edit.specs.Refusals.{early_refusal, early_tests, own_entries, list_tests, has_large_dacl}
 use Rattle.sd_tree_laws.specs.Laws.{OwnHasNoId, WithoutIdIsOwn, EveryListIsCanonical}
-use Rattle.sd_edit.specs.declared.node.Row.{Row}
+use Rattle.sd_edit.specs.declared.node.NodeRow.{NodeRow}
 use Rattle.sd_edit.specs.declared.node.NodeDacl.{NodeDacl}
 use Rattle.sd_edit.specs.declared.node.NodeDacl.TheVariants.{Null, List as Entries}
 use Rattle.sd_edit.specs.declared.opening.Opening.{Opening}
@@ -37,12 +37,12 @@ pub record IsSound (dacl : NodeDacl) : Type 0 where
 
 -- each node's own entries are explicit and in order
 abbrev pub AllSound : PlainTree → Type 0
-AllSound t = (path : Names) (row : Row) → row_at t path ≡ Some row → IsSound row.dacl
+AllSound t = (path : Names) (row : NodeRow) → row_at t path ≡ Some row → IsSound row.dacl
 
 inside : {X : Type 0} (x y : X) → Some x ≡ Some y → x ≡ y
 inside x y e = cc
 
-sound_inserted : (t : PlainTree) (path : Names) (row : Row) → IsSound row.dacl → AllSound t → AllSound (map.insert t path row)
+sound_inserted : (t : PlainTree) (path : Names) (row : NodeRow) → IsSound row.dacl → AllSound t → AllSound (map.insert t path row)
 sound_inserted t path row sound before q r e = elim (same_or_other q path) [
   | inl same ↦
       let is : Some row ≡ Some r = sym (ap (row_at (map.insert t path row)) same ∙ row_at-insert_same t path row) ∙ e in
@@ -58,29 +58,29 @@ sound_removed t path before q r e = elim (same_or_other q path) [
   | inr other ↦ before q r (sym (row_at-remove_other t path q other) ∙ e)
 ]
 
-sound_where : (change : Row → Row) (r : Row) (o : Option Row) → ((row : Row) → o ≡ Some row → IsSound (change row).dacl) → option_map change o ≡ Some r → IsSound r.dacl
+sound_where : (change : NodeRow → NodeRow) (r : NodeRow) (o : Option NodeRow) → ((row : NodeRow) → o ≡ Some row → IsSound (change row).dacl) → option_map change o ≡ Some r → IsSound r.dacl
 sound_where change r None sound e = absurd cc
 sound_where change r (Some row) sound e = rw (sym (inside (change row) r e)) (sound row refl)
 
-sound_changed : (t : PlainTree) (path : Names) (change : Row → Row) → ((row : Row) → row_at t path ≡ Some row → IsSound (change row).dacl)
+sound_changed : (t : PlainTree) (path : Names) (change : NodeRow → NodeRow) → ((row : NodeRow) → row_at t path ≡ Some row → IsSound (change row).dacl)
     → AllSound t → AllSound (changed t path change)
 sound_changed t path change sound before q r e = elim (same_or_other q path) [
   | inl same ↦ sound_where change r (row_at t path) sound (sym (ap (row_at (changed t path change)) same ∙ row_at-changed_same t path change) ∙ e)
   | inr other ↦ before q r (sym (row_at-changed_other t path q change other) ∙ e)
 ]
 
-sound_keeping : (dacl : Option (List Ace)) (row : Row) → IsSound row.dacl → IsSound (keeping dacl row).dacl
+sound_keeping : (dacl : Option (List Ace)) (row : NodeRow) → IsSound row.dacl → IsSound (keeping dacl row).dacl
 sound_keeping None row sound = sound
 sound_keeping (Some entries) row sound = record { explicit = kept_explicit entries; ordered = ordered_canonical (explicit_entries entries) }
 
 -- what is found stands at a place
-found_place : (p : Names) (es : List (Names × Row)) (r : Row) → find names_cmp p es ≡ Some r → (k : ℕ) × (k < length es) × ((d : Names × Row) → (get_or es k d).1 ≡ r)
+found_place : (p : Names) (es : List (Names × NodeRow)) (r : NodeRow) → find names_cmp p es ≡ Some r → (k : ℕ) × (k < length es) × ((d : Names × NodeRow) → (get_or es k d).1 ≡ r)
 found_place p [] r e = absurd cc
 found_place p (x ∷ es) r e = by_key (eq_by_cmp names_cmp p x.0) e (found_place p es r)
   where
     by_key : (b : Bool) → cond b (Some x.1) (find names_cmp p es) ≡ Some r
-        → (find names_cmp p es ≡ Some r → (k : ℕ) × (k < length es) × ((d : Names × Row) → (get_or es k d).1 ≡ r))
-        → (k : ℕ) × (k < length (x ∷ es)) × ((d : Names × Row) → (get_or (x ∷ es) k d).1 ≡ r)
+        → (find names_cmp p es ≡ Some r → (k : ℕ) × (k < length es) × ((d : Names × NodeRow) → (get_or es k d).1 ≡ r))
+        → (k : ℕ) × (k < length (x ∷ es)) × ((d : Names × NodeRow) → (get_or (x ∷ es) k d).1 ≡ r)
     by_key true h later = (zero, omega arith, λ d. inside x.1 r h)
     by_key false h later = let found = later h in (suc found.0, omega (arith, found.1), found.2)
 
@@ -89,10 +89,10 @@ sound_moved t source target before q r e =
     let es = map.entries t in
     let found = found_place q (each (moved_entry source target) es) r (sym (row_at-moved t source target q) ∙ e) in
     let k = found.0 in
-    let d : Names × Row = ([], r) in
+    let d : Names × NodeRow = ([], r) in
     let in-k : k < length es = omega (arith, found.1, length-map es (moved_entry source target)) in
-    let same : (get_or es k d).1 ≡ r = sym (ap (λ (x : Names × Row). x.1) (get_or-mapped (moved_entry source target) es k d)) ∙ found.2 (moved_entry source target d) in
-    let P : Row → Type 0 = λ row. IsSound row.dacl in
+    let same : (get_or es k d).1 ≡ r = sym (ap (λ (x : Names × NodeRow). x.1) (get_or-mapped (moved_entry source target) es k d)) ∙ found.2 (moved_entry source target d) in
+    let P : NodeRow → Type 0 = λ row. IsSound row.dacl in
     subst P same (before (get_or es k d).0 (get_or es k d).1 (entry_there t k d in-k))
 
 sound_edited : (g : MappingValue) (t : PlainTree) (e : Edit) → early_refusal t e ≡ None → AllSound t → AllSound (edited g t e)
@@ -128,7 +128,7 @@ sound_replay o journal fits =
 pub own_has_no_id : OwnHasNoId
 own_has_no_id o journal path row fits lawful there = (sound_replay o journal fits lawful path row there).explicit
 
-canonical_under : (g : MappingValue) (row : Row) (dacl : NodeDacl) (above : Option (List Ace)) (entries : List Ace) → IsSound dacl
+canonical_under : (g : MappingValue) (row : NodeRow) (dacl : NodeDacl) (above : Option (List Ace)) (entries : List Ace) → IsSound dacl
     → dacl_under g row dacl above ≡ Some entries → is_canonical entries ≡ true
 canonical_under g row Null above entries sound e = absurd cc
 canonical_under g row (Entries true own) above entries sound e =
@@ -136,12 +136,12 @@ canonical_under g row (Entries true own) above entries sound e =
 canonical_under g row (Entries false own) above entries sound e =
     ap is_canonical (sym (inside _ _ e)) ∙ canonical_parts own (handed_on g row above) sound.explicit sound.ordered (inherited_has_id g row above)
 
-canonical_here : (g : MappingValue) (o : Option Row) (above : Option (List Ace)) (entries : List Ace) → ((row : Row) → o ≡ Some row → IsSound row.dacl)
+canonical_here : (g : MappingValue) (o : Option NodeRow) (above : Option (List Ace)) (entries : List Ace) → ((row : NodeRow) → o ≡ Some row → IsSound row.dacl)
     → dacl_here g o above ≡ Some entries → is_canonical entries ≡ true
 canonical_here g None above entries sound e = absurd cc
 canonical_here g (Some row) above entries sound e = canonical_under g row row.dacl above entries (sound row refl) e
 
-explicit_under : (g : MappingValue) (row : Row) (dacl : NodeDacl) (above : Option (List Ace)) (entries : List Ace) → IsSound dacl
+explicit_under : (g : MappingValue) (row : NodeRow) (dacl : NodeDacl) (above : Option (List Ace)) (entries : List Ace) → IsSound dacl
     → dacl_under g row dacl above ≡ Some entries → filter is_explicit entries ≡ own_entries dacl
 explicit_under g row Null above entries sound e = absurd cc
 explicit_under g row (Entries true own) above entries sound e =

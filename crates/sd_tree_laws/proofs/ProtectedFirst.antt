@@ -17,7 +17,7 @@ use Rattle.sd_edit.specs.declared.edit.Edit.{Edit}
 use Rattle.sd_edit.specs.declared.edit.Edit.TheVariants.{ProtectKeeping, Move}
 use Rattle.sd_edit.specs.declared.node.NodeDacl.{NodeDacl}
 use Rattle.sd_edit.specs.declared.node.NodeDacl.TheVariants.{Null, List as Entries}
-use Rattle.sd_edit.specs.declared.node.Row.{Row}
+use Rattle.sd_edit.specs.declared.node.NodeRow.{NodeRow}
 use Rattle.sd_edit.specs.declared.opening.Opening.{Opening}
 use Rattle.sd_edit.proofs.Below.{nothing_below, some_row}
 use Rattle.sd_edit.proofs.Closed.{closed_replay}
@@ -35,20 +35,20 @@ use Rattle.sd_tree_laws.specs.Laws.{ProtectingFirstLetsNobodyIn, granted_by_row,
 
 -- ---- a node that is protected with what it had, or whose DACL is null, inherits nothing
 
-null_alone : (g : MappingValue) (row : Row) (dacl : NodeDacl) (above : Option (List Ace))
+null_alone : (g : MappingValue) (row : NodeRow) (dacl : NodeDacl) (above : Option (List Ace))
     → dacl_under g row dacl above ≡ None → StandsAlone dacl
 null_alone g row Null above e = λ h r one other. refl
 null_alone g row (Entries protected entries) above e = absurd cc
 
-kept_alone : (g : MappingValue) (o : Option Row) (whole above : Option (List Ace)) (row : Row)
+kept_alone : (g : MappingValue) (o : Option NodeRow) (whole above : Option (List Ace)) (row : NodeRow)
     → dacl_here g o above ≡ whole → option_map (keeping whole) o ≡ Some row → StandsAlone row.dacl
 kept_alone g None whole above row is e = absurd cc
 kept_alone g (Some old) None above row is e =
     let same : old ≡ row = cc in
-    subst (λ (r : Row). StandsAlone r.dacl) same (null_alone g old old.dacl above is)
+    subst (λ (r : NodeRow). StandsAlone r.dacl) same (null_alone g old old.dacl above is)
 kept_alone g (Some old) (Some entries) above row is e =
     let same : keeping (Some entries) old ≡ row = cc in
-    subst (λ (r : Row). StandsAlone r.dacl) same (λ h r one other. refl)
+    subst (λ (r : NodeRow). StandsAlone r.dacl) same (λ h r one other. refl)
 
 -- ---- the two edits
 
@@ -92,7 +92,7 @@ module _ (opening : Opening) (journal : List Edit) (source target : Names)
       accepted_can opening kept_journal source target lawful_kept
       (lawful_last opening kept_journal (Move source target) lawful_both)
 
-  source_alone : (row : Row) → row_at kept source ≡ Some row → StandsAlone row.dacl
+  source_alone : (row : NodeRow) → row_at kept source ≡ Some row → StandsAlone row.dacl
   source_alone row there =
       kept_alone g (row_at before source) (dacl_at g before source) (dacl_over g before source) row
       (sym (dacl_at_here g before source))

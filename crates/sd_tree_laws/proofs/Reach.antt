@@ -11,7 +11,7 @@ use Rattle.sd_edit.specs.Edits.{edited, touches}
 use Rattle.sd_tree_laws.specs.Laws.{EditStaysBelow, ProtectedStandsAlone}
 use Rattle.sd_edit.specs.declared.edit.Edit.{Edit}
 use Rattle.sd_edit.specs.declared.edit.Edit.TheVariants.{AddContainer, AddObject, SetOwner, SetGroup, SetDacl, Remove, ProtectKeeping, Move}
-use Rattle.sd_edit.specs.declared.node.Row.{Row}
+use Rattle.sd_edit.specs.declared.node.NodeRow.{NodeRow}
 use Rattle.sd_edit.specs.declared.node.NodeDacl.{NodeDacl}
 use Rattle.sd_edit.specs.declared.node.NodeDacl.TheVariants.{Null, List as Entries}
 use Rattle.sd_path.proofs.Paths.{within_itself, within-append, within_rest}
@@ -52,9 +52,9 @@ pub edit_stays_below : EditStaysBelow
 edit_stays_below g t edit path outside =
     let same_row = row_at-untouched g t edit path outside in
     let same_dacl = dacl_at_alike g (edited g t edit) t path (λ q way. row_at-untouched g t edit q (way_untouched edit q path way outside)) in
-    ap₂ (λ row dacl. option_map (λ (r : Row). descriptor_of_row r dacl) row) same_row same_dacl
+    ap₂ (λ row dacl. option_map (λ (r : NodeRow). descriptor_of_row r dacl) row) same_row same_dacl
 
-pub nothing_from_above : (g : MappingValue) (row : Row) (dacl : NodeDacl) (above other : Option (List Ace))
+pub nothing_from_above : (g : MappingValue) (row : NodeRow) (dacl : NodeDacl) (above other : Option (List Ace))
     → is_protected dacl ≡ true → dacl_under g row dacl above ≡ dacl_under g row dacl other
 nothing_from_above g row Null above other h = refl
 nothing_from_above g row (Entries true entries) above other h = refl

@@ -18,7 +18,7 @@ use Rattle.sd_edit.specs.Plain.{PlainTree, row_at, dacl_at}
 use Rattle.sd_edit.specs.Edits.{edited}
 use Rattle.sd_edit.specs.Journal.{opening_within, opened, replay, refusal, root_refusal, IsLawful}
 use Rattle.sd_edit.specs.Refusals.{first_fit, early_tests, list_tests, addition_tests, is_object, is_object_kind, room_tests, refusal_in, has_large_dacl, dacl_size}
-use Rattle.sd_edit.specs.declared.node.Row.{Row}
+use Rattle.sd_edit.specs.declared.node.NodeRow.{NodeRow}
 use Rattle.sd_inheritance.specs.declared.kind.NodeKind.{NodeKind}
 use Rattle.sd_inheritance.specs.declared.kind.NodeKind.TheVariants.{Container, Object}
 use Rattle.sd_edit.specs.declared.opening.Opening.{Opening}
@@ -79,7 +79,7 @@ same_row t xs ys q parts none =
     get-from_entries names_cmp_total xs q ∙ sym (find_front q xs ys none) ∙ ap (find names_cmp q) parts ∙ sym (get-entries t q)
 
 -- on the way to a node of the front all is as in the tree
-same_way : (t : PlainTree) (xs ys : List Entry) (q : Names) (r : Row) → xs ++ ys ≡ finite.entries t → row_at (front xs) q ≡ Some r
+same_way : (t : PlainTree) (xs ys : List Entry) (q : Names) (r : NodeRow) → xs ++ ys ≡ finite.entries t → row_at (front xs) q ≡ Some r
     → (top : Names) → is_within top q ≡ true → row_at (front xs) top ≡ row_at t top
 same_way t xs ys q r parts there top within =
     let behind = found_below q r xs ys (sorted_parts t xs ys parts) (sym (get-from_entries names_cmp_total xs q) ∙ there) in
@@ -89,7 +89,7 @@ same_way t xs ys q r parts there top within =
     ])
 
 -- a test that no path passes fails for each that is found
-found_fails : (p : Names → Bool) (q : Names) (r : Row) (es : List Entry) → find names_cmp q es ≡ Some r → list_any p (map (λ e. e.0) es) ≡ false → p q ≡ false
+found_fails : (p : Names → Bool) (q : Names) (r : NodeRow) (es : List Entry) → find names_cmp q es ≡ Some r → list_any p (map (λ e. e.0) es) ≡ false → p q ≡ false
 found_fails p q r [] e none = absurd cc
 found_fails p q r (x ∷ es) e none = by_key (eq_by_cmp names_cmp q x.0) refl e (λ found. found_fails p q r es found (or_parts _ _ none).1)
   where
@@ -124,20 +124,20 @@ all_pass : (tests : List (Bool × EditRefusal)) → AllByRecursion (λ test. tes
 all_pass [] h = refl
 all_pass (test ∷ tests) h = ap (λ b. cond b (Some test.1) (first_fit tests)) h.0 ∙ all_pass tests h.1
 
-edited_addition : (g : MappingValue) (t : PlainTree) (path : Names) (row : Row) (kind : NodeKind) → row.kind ≡ kind → edited g t (addition_of kind path row) ≡ finite.insert t path row
+edited_addition : (g : MappingValue) (t : PlainTree) (path : Names) (row : NodeRow) (kind : NodeKind) → row.kind ≡ kind → edited g t (addition_of kind path row) ≡ finite.insert t path row
 edited_addition g t path row Container is = λ i. finite.insert t path (record { kind = sym is i; owner = row.owner; group = row.group; dacl = row.dacl })
 edited_addition g t path row Object is = λ i. finite.insert t path (record { kind = sym is i; owner = row.owner; group = row.group; dacl = row.dacl })
 
-early_addition : (t : PlainTree) (path : Names) (row : Row) (kind : NodeKind) → first_fit (addition_tests t path row.dacl) ≡ None → first_fit (early_tests t (addition_of kind path row)) ≡ None
+early_addition : (t : PlainTree) (path : Names) (row : NodeRow) (kind : NodeKind) → first_fit (addition_tests t path row.dacl) ≡ None → first_fit (early_tests t (addition_of kind path row)) ≡ None
 early_addition t path row Container h = h
 early_addition t path row Object h = h
 
-limits_addition : (limits : LimitsValue) (t : PlainTree) (n : ℕ) (path : Names) (row : Row) (kind : NodeKind) → length path ≤ 64 → finite.len t < limits.nodes → n < limits.edits
+limits_addition : (limits : LimitsValue) (t : PlainTree) (n : ℕ) (path : Names) (row : NodeRow) (kind : NodeKind) → length path ≤ 64 → finite.len t < limits.nodes → n < limits.edits
     → None ≡ first_fit (room_tests limits t (addition_of kind path row) ++ (nat_le limits.edits n, JournalFull) ∷ [])
 limits_addition limits t n path row Container low few short = sym (all_pass (room_tests limits t (addition_of Container path row) ++ (nat_le limits.edits n, JournalFull) ∷ []) (le-ltb 64 _ low, (lt-leb limits.nodes _ few, (lt-leb limits.edits n short, tt))))
 limits_addition limits t n path row Object low few short = sym (all_pass (room_tests limits t (addition_of Object path row) ++ (nat_le limits.edits n, JournalFull) ∷ []) (le-ltb 64 _ low, (lt-leb limits.nodes _ few, (lt-leb limits.edits n short, tt))))
 
-pub a_container : (o : Option Row) → option_map (λ (r : Row). r.kind) o ≡ Some Container → (row : Row) × (o ≡ Some row) × (row.kind ≡ Container)
+pub a_container : (o : Option NodeRow) → option_map (λ (r : NodeRow). r.kind) o ≡ Some Container → (row : NodeRow) × (o ≡ Some row) × (row.kind ≡ Container)
 a_container None e = absurd cc
 a_container (Some row) e = (row, refl, cc)
 
@@ -152,7 +152,7 @@ here t xs e ys parts =
     subst P at (entry_there t (length xs) e (omega (arith, longer, count)))
 
 -- the next node may be added to the tree of those before it, if the root is among these
-next_accepted : (limits : LimitsValue) (g : MappingValue) (t : PlainTree) → IsWithinLimits limits g t → (root : Row) (xs : List Entry) (e : Entry) (ys : List Entry) → xs ++ e ∷ ys ≡ finite.entries t
+next_accepted : (limits : LimitsValue) (g : MappingValue) (t : PlainTree) → IsWithinLimits limits g t → (root : NodeRow) (xs : List Entry) (e : Entry) (ys : List Entry) → xs ++ e ∷ ys ≡ finite.entries t
     → find names_cmp [] xs ≡ Some root → (n : ℕ) → n < limits.edits → (refusal_in limits g (front xs) n (addition e) ≡ None) × (edited g (front xs) (addition e) ≡ front (xs ++ e ∷ []))
 next_accepted limits g t ok root xs e ys parts rooted n short =
     let path = e.0 in
@@ -164,7 +164,7 @@ next_accepted limits g t ok root xs e ys parts rooted n short =
     let below = not_root path root xs absent rooted in
     let there = here t xs e ys parts in
     let parent = same_row t xs (e ∷ ys) (up path) parts (before_next (up path) xs e ys order (up_before path below)) in
-    let kind = λ (r : Row). r.kind in
+    let kind = λ (r : NodeRow). r.kind in
     let held = a_container (row_at u (up path)) (ap (option_map kind) parent ∙ ok.closed.parents path row there) in
     let sound = ok.sound path row there in
     let early = all_pass (addition_tests u path row.dacl) (
@@ -185,18 +185,18 @@ next_accepted limits g t ok root xs e ys parts rooted n short =
     let few : finite.len u < limits.nodes = omega (arith, longer, count, most, size, some_entry root xs rooted, ok.few) in
     (refusal_by_parts limits g u n (addition e) None (early_addition u path row row.kind early) large (limits_addition limits u n path row row.kind (ok.shallow path row there) few short), made)
   where
-    not_root : (path : Names) (root : Row) (xs : List Entry) → find names_cmp path xs ≡ None → find names_cmp [] xs ≡ Some root → is_root path ≡ false
+    not_root : (path : Names) (root : NodeRow) (xs : List Entry) → find names_cmp path xs ≡ None → find names_cmp [] xs ≡ Some root → is_root path ≡ false
     not_root [] root xs none found = absurd cc
     not_root (name ∷ path) root xs none found = refl
 
-    some_entry : (root : Row) (xs : List Entry) → find names_cmp [] xs ≡ Some root → 0 < length xs
+    some_entry : (root : NodeRow) (xs : List Entry) → find names_cmp [] xs ≡ Some root → 0 < length xs
     some_entry root [] found = absurd cc
     some_entry root (x ∷ xs) found = omega arith
 
 -- ---- all of them
 
 -- the entries of a tree with a root begin with it
-pub first_entry : (t : PlainTree) (root : Row) → row_at t [] ≡ Some root → (rest : List Entry) × (([], root) ∷ rest ≡ finite.entries t)
+pub first_entry : (t : PlainTree) (root : NodeRow) → row_at t [] ≡ Some root → (rest : List Entry) × (([], root) ∷ rest ≡ finite.entries t)
 first_entry t root there = by_first (finite.entries t) (entries_sorted t) (sym (get-entries t []) ∙ there)
   where
     by_first : (es : List Entry) → T (is_sorted names_cmp es) → find names_cmp [] es ≡ Some root → (rest : List Entry) × (([], root) ∷ rest ≡ es)
@@ -206,10 +206,10 @@ first_entry t root there = by_first (finite.entries t) (entries_sorted t) (sym (
         let none = find_below [] es (below_trans [] (name ∷ path) es refl (below_next (name ∷ path, row) es order)) in
         absurd cc
 
-opened_root : (limits : LimitsValue) (g : MappingValue) (row : Row) → row.kind ≡ Container → opened (opening_within g (root_of row) limits) ≡ front (([], row) ∷ [])
+opened_root : (limits : LimitsValue) (g : MappingValue) (row : NodeRow) → row.kind ≡ Container → opened (opening_within g (root_of row) limits) ≡ front (([], row) ∷ [])
 opened_root limits g row is = λ i. finite.insert finite.empty [] (record { kind = sym is i; owner = row.owner; group = row.group; dacl = row.dacl })
 
-made_by : (limits : LimitsValue) (g : MappingValue) (t : PlainTree) → IsWithinLimits limits g t → (root : Row) → root.kind ≡ Container → (rest : List Entry) → ([], root) ∷ rest ≡ finite.entries t
+made_by : (limits : LimitsValue) (g : MappingValue) (t : PlainTree) → IsWithinLimits limits g t → (root : NodeRow) → root.kind ≡ Container → (rest : List Entry) → ([], root) ∷ rest ≡ finite.entries t
     → (xs ys : List Entry) → xs ++ ys ≡ rest
     → IsLawful (opening_within g (root_of root) limits) (map addition xs) × (replay (opening_within g (root_of root) limits) (map addition xs) ≡ front (([], root) ∷ xs))
 made_by limits g t ok root is rest begins = by_last P (λ ys parts. (lawful_none o, replay-none o ∙ opened_root limits g root is)) more
@@ -241,7 +241,7 @@ made_by limits g t ok root is rest begins = by_last P (λ ys parts. (lawful_none
 front_is_tree : (t : PlainTree) → front (finite.entries t) ≡ t
 front_is_tree t = same_map names_cmp_total names_cmp_antisymmetric (front (finite.entries t)) t (λ q. get-from_entries names_cmp_total (finite.entries t) q ∙ sym (get-entries t q))
 
-root_accepted : (limits : LimitsValue) (g : MappingValue) (t : PlainTree) → IsWithinLimits limits g t → (root : Row) → root.kind ≡ Container → row_at t [] ≡ Some root → (rest : List Entry) → ([], root) ∷ rest ≡ finite.entries t
+root_accepted : (limits : LimitsValue) (g : MappingValue) (t : PlainTree) → IsWithinLimits limits g t → (root : NodeRow) → root.kind ≡ Container → row_at t [] ≡ Some root → (rest : List Entry) → ([], root) ∷ rest ≡ finite.entries t
     → root_refusal (opening_within g (root_of root) limits) ≡ None
 root_accepted limits g t ok root is there rest begins =
     let sound = ok.sound [] root there in
@@ -250,7 +250,7 @@ root_accepted limits g t ok root is there rest begins =
 
 -- the root, and additions of all other nodes, are accepted and make the tree
 pub remade : (o : Opening) (journal : List Edit) → root_refusal o ≡ None → IsLawful o journal
-    → (root : Row) → root.kind ≡ Container → row_at (replay o journal) [] ≡ Some root
+    → (root : NodeRow) → root.kind ≡ Container → row_at (replay o journal) [] ≡ Some root
     → (rest : List Entry) → ([], root) ∷ rest ≡ finite.entries (replay o journal)
     → Makes (opening_within o.mapping (root_of root) o.limits) (map addition rest) (replay o journal)
 remade o journal fits lawful root is there rest begins =

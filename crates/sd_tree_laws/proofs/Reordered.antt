@@ -17,7 +17,7 @@ use Rattle.sd_path.specs.Names.{Names}
 use Rattle.sd_inheritance.specs.Inheritance.{pass_on}
 use Rattle.sd_edit.specs.Inheritance.{handed_on, dacl_under}
 use Rattle.sd_edit.specs.Plain.{PlainTree, row_at, dacl_here, dacl_below}
-use Rattle.sd_edit.specs.declared.node.Row.{Row}
+use Rattle.sd_edit.specs.declared.node.NodeRow.{NodeRow}
 use Rattle.sd_inheritance.specs.declared.kind.NodeKind.{NodeKind}
 use Rattle.sd_edit.specs.declared.node.NodeDacl.{NodeDacl}
 use Rattle.sd_edit.specs.declared.node.NodeDacl.TheVariants.{Null, List as Entries}
@@ -89,7 +89,7 @@ AreReordered (Some after) (Some before) = IsReordered after before
 
 -- what two DACLs hand on to a child is one list, but for the order of some last entries
 unfoldable pub HandOnReordered : Option (List Ace) → Option (List Ace) → Type 0
-HandOnReordered after before = (g : MappingValue) (row : Row) → IsReordered (handed_on g row after) (handed_on g row before)
+HandOnReordered after before = (g : MappingValue) (row : NodeRow) → IsReordered (handed_on g row after) (handed_on g row before)
 
 hands_on : (after before : Option (List Ace)) → AreReordered after before → HandOnReordered after before
 unfolding HandOnReordered
@@ -117,14 +117,14 @@ node_hands_on es g row = record {
   is_before = refl;
 }
 
-under : (g : MappingValue) (row : Row) (dacl : NodeDacl) (after before : Option (List Ace)) → HandOnReordered after before
+under : (g : MappingValue) (row : NodeRow) (dacl : NodeDacl) (after before : Option (List Ace)) → HandOnReordered after before
     → AreReordered (dacl_under g row dacl after) (dacl_under g row dacl before)
 unfolding HandOnReordered
 under g row Null after before r = tt
 under g row (Entries true own) after before r = unchanged (own ++ [])
 under g row (Entries false own) after before r = behind own (handed_on g row after) (handed_on g row before) (r g row)
 
-pub here : (g : MappingValue) (o : Option Row) (after before : Option (List Ace)) → HandOnReordered after before
+pub here : (g : MappingValue) (o : Option NodeRow) (after before : Option (List Ace)) → HandOnReordered after before
     → AreReordered (dacl_here g o after) (dacl_here g o before)
 here g None after before r = tt
 here g (Some row) after before r = under g row row.dacl after before r

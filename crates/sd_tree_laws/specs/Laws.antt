@@ -22,7 +22,7 @@ use Rattle.sd_edit.specs.Edits.{edited, touches}
 use Rattle.sd_edit.specs.Answers.{kind_at, descriptor_at, reply_in, answer}
 use Rattle.sd_edit.specs.Journal.{replay, refusal, root_refusal, IsLawful}
 use Rattle.sd_edit.specs.Refusals.{own_entries}
-use Rattle.sd_edit.specs.declared.node.Row.{Row}
+use Rattle.sd_edit.specs.declared.node.NodeRow.{NodeRow}
 use Rattle.sd_edit.specs.declared.node.NodeDacl.{NodeDacl}
 use Rattle.sd_edit.specs.declared.node.NodeDacl.TheVariants.{Null}
 use Rattle.sd_inheritance.specs.declared.kind.NodeKind.{NodeKind}
@@ -38,12 +38,13 @@ use Rattle.sd_edit.specs.declared.refusal.EditRefusal.TheVariants.{JournalFull}
 -- a node's DACL is its own entries and what its parent's DACL passes down; the root's is its own entries alone
 abbrev pub DaclIsOfParent : Type 0
 DaclIsOfParent =
-    (g : MappingValue) (t : PlainTree) (path : Names) (row : Row)
+    (g : MappingValue) (t : PlainTree) (path : Names) (row : NodeRow)
     → row_at t path ≡ Some row → is_root path ≡ false → dacl_at g t path ≡ dacl_of_row g row (dacl_at g t (up path))
 
 abbrev pub RootInheritsNothing : Type 0
 RootInheritsNothing =
-    (g : MappingValue) (t : PlainTree) (row : Row) → row_at t [] ≡ Some row → dacl_at g t [] ≡ dacl_of_row g row None
+    (g : MappingValue) (t : PlainTree) (row : NodeRow) → row_at t [] ≡ Some row → dacl_at g t []
+        ≡ dacl_of_row g row None
 
 -- after a valid journal the root exists, and the parent of each node exists and is a container
 abbrev pub LawfulTreesAreClosed : Type 0
@@ -110,7 +111,7 @@ KeepsList t source target path =
 -- after an accepted move each node at or below a moved one that was given such a DACL keeps its DACL
 abbrev pub GivenKeepLists : (NodeDacl → Type 0) → Type 0
 GivenKeepLists IsGiven =
-    (opening : Opening) (journal : List Edit) (source target top path : Names) (row : Row)
+    (opening : Opening) (journal : List Edit) (source target top path : Names) (row : NodeRow)
     → IsLawful opening journal → refusal opening journal (Move source target) ≡ None
     → row_at (replay opening journal) top ≡ Some row → IsGiven row.dacl
     → is_within source top ≡ true → is_within top path ≡ true → KeepsList (replay opening journal) source target path
@@ -149,7 +150,7 @@ KeepingANullChangesNone =
 -- two trees with the same nodes at and below a protected one have the same DACLs there
 abbrev pub ProtectedStandsAlone : Type 0
 ProtectedStandsAlone =
-    (g : MappingValue) (t u : PlainTree) (top path : Names) (row : Row)
+    (g : MappingValue) (t u : PlainTree) (top path : Names) (row : NodeRow)
     → row_at t top ≡ Some row → is_protected row.dacl ≡ true
     → ((q : Names) → is_within top q ≡ true → row_at t q ≡ row_at u q)
     → is_within top path ≡ true → dacl_at g t path ≡ dacl_at g u path
@@ -173,26 +174,27 @@ speaks_of_children e = object_inherit e || (container_inherit e || (no_propagate
 
 abbrev pub NothingWaitsInAnObject : Type 0
 NothingWaitsInAnObject =
-    (g : MappingValue) (row : Row) (above : Option (List Ace))
+    (g : MappingValue) (row : NodeRow) (above : Option (List Ace))
     → row.kind ≡ Object → list_any speaks_of_children (handed_on g row above) ≡ false
 
 -- ---- the flag ID marks what is inherited
 
 abbrev pub InheritedHasId : Type 0
 InheritedHasId =
-    (g : MappingValue) (row : Row) (above : Option (List Ace)) → list_any is_explicit (handed_on g row above) ≡ false
+    (g : MappingValue) (row : NodeRow) (above : Option (List Ace)) → list_any is_explicit (handed_on g row above)
+        ≡ false
 
 -- after a valid journal no node's own entries have it
 abbrev pub OwnHasNoId : Type 0
 OwnHasNoId =
-    (opening : Opening) (journal : List Edit) (path : Names) (row : Row)
+    (opening : Opening) (journal : List Edit) (path : Names) (row : NodeRow)
     → root_refusal opening ≡ None → IsLawful opening journal
     → row_at (replay opening journal) path ≡ Some row → list_any is_inherited (own_entries row.dacl) ≡ false
 
 -- what a node's DACL has without it is what the node has of its own
 abbrev pub WithoutIdIsOwn : Type 0
 WithoutIdIsOwn =
-    (opening : Opening) (journal : List Edit) (path : Names) (row : Row) (entries : List Ace)
+    (opening : Opening) (journal : List Edit) (path : Names) (row : NodeRow) (entries : List Ace)
     → root_refusal opening ≡ None → IsLawful opening journal
     → row_at (replay opening journal) path ≡ Some row
     → dacl_at opening.mapping (replay opening journal) path ≡ Some entries
@@ -216,7 +218,7 @@ abbrev pub OrderKeepsOwnersLimit : Type 0
 OrderKeepsOwnersLimit = (es : List Ace) → limits_owner (Some (canonical_order es)) ≡ limits_owner (Some es)
 
 -- whether the bit is granted at the node: by its DACL, or without an entry
-abbrev pub granted_by_row : MappingValue → Option (List Ace) → TokenValue → ℕ → Option Row → Bool
+abbrev pub granted_by_row : MappingValue → Option (List Ace) → TokenValue → ℕ → Option NodeRow → Bool
 granted_by_row g dacl token b None = false
 granted_by_row g dacl token b (Some row) = is_granted (Some row.owner) dacl g token b
 

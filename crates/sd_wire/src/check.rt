@@ -83,12 +83,12 @@ fn check_entries<const BOTH: bool>(
     ensures { result ≡ entries_checked (entries_read bytes.now entries.place entries.end entries.count)
         question.now.owner.now question.now.mapping.now question.now.token.now question.now.asked }
 {
-    let mut tally = question.begin();
+    let mut progress = question.begin();
     let mut rest = &bytes[entries.place..entries.end];
     for _ in 0..entries.count {
         let (entry, size) = read_entry(rest, 0, rest.len())?;
-        tally = question.after::<BOTH, AceRef<'_>>(tally, &entry);
+        progress = question.after::<BOTH, AceRef<'_>>(progress, &entry);
         rest = &rest[size..];
     }
-    Ok(question.verdict::<BOTH>(tally))
+    Ok(question.verdict::<BOTH>(progress))
 }

@@ -91,8 +91,8 @@ impl Way {
     }
 }
 
-fn plain() -> Manner {
-    Manner {
+fn plain() -> ScriptOptions {
+    ScriptOptions {
         mapping: GenericMapping::file(),
         limits: Limits::standard(),
         notation: Notation::plain(PathSpelling::Plain),
@@ -115,7 +115,7 @@ fn by_audit<T: AllocGlobal + Threads + Wait + Sync, R: Read, W: Write>(
     name_of(run_audit(rt, rt.alloc(), 2, &plain(), reader, writer, &OpenGate))
 }
 
-fn name_of(ended: Result<Tally, RunError>) -> &'static str {
+fn name_of(ended: Result<ScriptCounts, RunError>) -> &'static str {
     match ended {
         Ok(_) => "well",
         Err(error) => error.name(),

@@ -2,7 +2,7 @@
 
 use super::plain;
 use sd_lines::{RunError, Watched};
-use sd_script::Tally;
+use sd_script::ScriptCounts;
 use sd_script_audit::run_audit;
 use sd_store::Gate;
 use std::alloc::AllocGlobal;
@@ -25,7 +25,7 @@ fn audited<T: Threads + Wait + Sync + AllocGlobal, G: Gate + Sync>(
     workers: u64,
     script: &str,
     gate: &G,
-) -> (Result<Tally, RunError>, Vec<u8>) {
+) -> (Result<ScriptCounts, RunError>, Vec<u8>) {
     let alloc = rt.alloc();
     let mut reader = Watched::new(script.as_bytes());
     let mut writer = Watched::new(Vec::new(alloc));

@@ -1,6 +1,6 @@
 //! What a store within limits answers.
 use super::plain;
-use sd_script::{Carried, Manner, answer_line};
+use sd_script::{ScriptOptions, ScriptState, answer_line};
 use sd_tree::Limits;
 use std::process::Abort;
 
@@ -15,25 +15,25 @@ const ANSWERED: [(&str, &str); 6] = [
 ];
 
 /// Stops the test unless the line is answered so.
-fn answers(rt: &(impl Abort + AllocGlobal), carried: &mut Carried, line: &str, wanted: &str) {
-    let told = answer_line(rt.alloc(), carried, line.as_bytes()).expect(rt, "memory");
+fn answers(rt: &(impl Abort + AllocGlobal), state: &mut ScriptState, line: &str, wanted: &str) {
+    let told = answer_line(rt.alloc(), state, line.as_bytes()).expect(rt, "memory");
     assert_eq!(rt; told.as_str(), wanted, "{line}");
 }
 
 #[test]
 fn a_store_grows_within_its_limits(rt: HostRuntime) {
-    let Manner {
+    let ScriptOptions {
         mapping,
         notation,
         ..
     } = plain();
-    let manner = Manner {
+    let options = ScriptOptions {
         mapping,
         limits: Limits::new(2, 2).expect(&rt, "limits"),
         notation,
     };
-    let mut carried = Carried::begun(&manner);
+    let mut state = ScriptState::before_first_line(&options);
     for (line, wanted) in ANSWERED {
-        answers(&rt, &mut carried, line, wanted);
+        answers(&rt, &mut state, line, wanted);
     }
 }

@@ -1,14 +1,14 @@
 //! What is printed of nodes whose names no line of a script can give.
 
 use super::plain;
-use sd_script::{Carried, Notation, PathSpelling, Session, answer_line};
+use sd_script::{Notation, PathSpelling, ScriptState, Session, answer_line};
 use sd_sid::{GenericMapping, Sid};
 use sd_tree::{Edit, Entries, NodeDacl, Path, RootSpec};
 use sd_versions::{Desk, Request};
 use std::process::Abort;
 
 /// A store with one object, at the path.
-fn with_object(rt: &(impl Abort + AllocGlobal), path: &str, paths: PathSpelling) -> Carried {
+fn with_object(rt: &(impl Abort + AllocGlobal), path: &str, paths: PathSpelling) -> ScriptState {
     let alloc = rt.alloc();
     let owner = Sid::new(5, &[32, 544]).expect(rt, "a SID");
     let nothing = || NodeDacl::List {
@@ -30,9 +30,9 @@ fn with_object(rt: &(impl Abort + AllocGlobal), path: &str, paths: PathSpelling)
     }));
     let _ = desk.step(&Request::Publish);
     assert_eq!(rt; desk.readers(), 1);
-    let mut carried = Carried::begun(&plain());
-    carried.session = Session::Opened(Notation::plain(paths), desk);
-    carried
+    let mut state = ScriptState::before_first_line(&plain());
+    state.session = Session::Opened(Notation::plain(paths), desk);
+    state
 }
 
 /// Stops the test unless the line is answered so by such a store.
@@ -43,8 +43,8 @@ fn tells(
     line: &str,
     wanted: &str,
 ) {
-    let mut carried = with_object(rt, path, paths);
-    let told = answer_line(rt.alloc(), &mut carried, line.as_bytes()).expect(rt, "memory");
+    let mut state = with_object(rt, path, paths);
+    let told = answer_line(rt.alloc(), &mut state, line.as_bytes()).expect(rt, "memory");
     assert_eq!(rt; told.as_str(), wanted, "{path}");
 }
 

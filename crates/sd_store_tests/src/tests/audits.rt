@@ -2,7 +2,7 @@
 
 use super::store::{Play, is_right};
 use super::*;
-use sd_store::{AuditError, Checker, Gate, Naming, Notice, StoreWriter, audit};
+use sd_store::{AuditError, Checker, Gate, Notice, StoreId, StoreWriter, audit};
 use sd_versions::Answer;
 use std::sync::Wait;
 use std::sync::atomic::{AtomicBool, Ordering};
@@ -77,7 +77,7 @@ const WANTED: [Answer; 2] = [
 ];
 
 /// Whether an audit by two checkers is answered as its gate has it, beside a writer.
-pub(super) fn audited_beside<J: Naming + Send + Sync, R: Threads + Wait + Sync>(
+pub(super) fn audited_beside<J: StoreId + Send + Sync, R: Threads + Wait + Sync>(
     rt: &R,
     alloc: Global,
     writer: &mut StoreWriter<J>,
@@ -120,12 +120,12 @@ fn are_wanted(
     }
 }
 
-fn published<J: Naming, R: Wait>(rt: &R, writer: &mut StoreWriter<J>, edit: &Edit) -> bool {
+fn published<J: StoreId, R: Wait>(rt: &R, writer: &mut StoreWriter<J>, edit: &Edit) -> bool {
     writer.edit(edit).is_ok() && writer.publish(rt).is_ok()
 }
 
 /// What the writer does once the second worker's answer is there.
-fn goes_on<J: Naming, R: Wait>(
+fn goes_on<J: StoreId, R: Wait>(
     rt: &R,
     writer: &mut StoreWriter<J>,
     next: &Edit,
@@ -137,7 +137,7 @@ fn goes_on<J: Naming, R: Wait>(
 }
 
 /// An audit by the checkers, which there are 1 to 64 of.
-fn asked<J: Naming + Send + Sync, R: Threads + Sync>(
+fn asked<J: StoreId + Send + Sync, R: Threads + Sync>(
     rt: &R,
     alloc: Global,
     checkers: &mut [Checker<J>],

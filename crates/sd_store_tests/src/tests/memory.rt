@@ -6,7 +6,7 @@
 
 use super::store::{Play, is_right};
 use super::*;
-use sd_store::{Checker, EditError, Naming, PublishError, ShowError, StoreWriter};
+use sd_store::{Checker, EditError, PublishError, ShowError, StoreId, StoreWriter};
 use sd_tree::EditRefusal;
 use sd_versions::Answer;
 use std::process::Abort;
@@ -130,7 +130,7 @@ fn all_inputs(alloc: Global) -> Option<Inputs> {
 }
 
 /// Whether each step is answered as wanted, the refused one where it is made again.
-pub(super) fn story_is_right<J: Naming, R: Wait>(
+pub(super) fn story_is_right<J: StoreId, R: Wait>(
     rt: &R,
     alloc: Global,
     writer: &mut StoreWriter<J>,
@@ -163,7 +163,7 @@ fn may_be(outcome: Outcome, came: bool, step: Step, wanted: Outcome, refusal: Re
     }
 }
 
-fn stepped<J: Naming, R: Wait>(
+fn stepped<J: StoreId, R: Wait>(
     rt: &R,
     writer: &mut StoreWriter<J>,
     checker: &mut Checker<J>,
@@ -179,7 +179,7 @@ fn stepped<J: Naming, R: Wait>(
     }
 }
 
-fn edited<J: Naming>(writer: &mut StoreWriter<J>, inputs: &Inputs, place: usize) -> Outcome {
+fn edited<J: StoreId>(writer: &mut StoreWriter<J>, inputs: &Inputs, place: usize) -> Outcome {
     let Some(edit) = inputs.edits.get(place) else {
         return Outcome::Gone;
     };
@@ -190,19 +190,19 @@ fn edited<J: Naming>(writer: &mut StoreWriter<J>, inputs: &Inputs, place: usize)
     }
 }
 
-fn published<J: Naming, R: Wait>(rt: &R, writer: &mut StoreWriter<J>) -> Outcome {
+fn published<J: StoreId, R: Wait>(rt: &R, writer: &mut StoreWriter<J>) -> Outcome {
     match writer.publish(rt) {
         Ok(length) => Outcome::Published(length),
         Err(PublishError::Memory) => Outcome::Memory,
     }
 }
 
-fn learned<J: Naming>(writer: &mut StoreWriter<J>, checker: &mut Checker<J>) -> Outcome {
+fn learned<J: StoreId>(writer: &mut StoreWriter<J>, checker: &mut Checker<J>) -> Outcome {
     checker.learn(&mut writer.tell());
     Outcome::Learned(checker.seen())
 }
 
-fn checked<J: Naming>(checker: &mut Checker<J>, inputs: &Inputs) -> Outcome {
+fn checked<J: StoreId>(checker: &mut Checker<J>, inputs: &Inputs) -> Outcome {
     let query = &inputs.query;
     match checker.check(&query.path, &query.token, query.asked) {
         Ok(Answer { seen, reply }) => Outcome::Answered(seen, reply),
@@ -210,7 +210,7 @@ fn checked<J: Naming>(checker: &mut Checker<J>, inputs: &Inputs) -> Outcome {
     }
 }
 
-fn described<J: Naming>(checker: &mut Checker<J>, inputs: &Inputs) -> Outcome {
+fn described<J: StoreId>(checker: &mut Checker<J>, inputs: &Inputs) -> Outcome {
     match checker.descriptor(&inputs.query.path) {
         Ok((seen, Some(descriptor))) => match &descriptor.dacl {
             Dacl::List(list) => Outcome::Described(seen, Some(list.entries().len())),

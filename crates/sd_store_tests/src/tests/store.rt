@@ -9,7 +9,7 @@ use super::threads::are_right_beside;
 use super::{query, spec};
 use sd_history::Opened;
 use sd_sid::GenericMapping;
-use sd_store::{Checker, Gone, Naming, StoreWriter, start};
+use sd_store::{Checker, Gone, StoreId, StoreWriter, start};
 use sd_tree::{Edit, RootSpec};
 use sd_versions::StartError;
 use std::alloc::Global;
@@ -41,7 +41,7 @@ pub(super) fn is_right<R: Threads + Wait + Sync>(
 }
 
 /// Whether all answers of a store with this name, history and root were right; none when out of memory.
-fn started<J: Naming + Send + Sync + 'static, R: Threads + Wait + Sync>(
+fn started<J: StoreId + Send + Sync + 'static, R: Threads + Wait + Sync>(
     rt: &R,
     alloc: Global,
     history: Opened<Edit>,
@@ -63,7 +63,7 @@ fn started<J: Naming + Send + Sync + 'static, R: Threads + Wait + Sync>(
 }
 
 /// The store, without its contract.
-fn opened<J: Naming, R: Wait>(
+fn opened<J: StoreId, R: Wait>(
     rt: &R,
     alloc: Global,
     history: Opened<Edit>,
@@ -78,7 +78,7 @@ fn opened<J: Naming, R: Wait>(
 }
 
 /// What is played on the store, up to the end of its writer and after it.
-fn ended<J: Naming + Send + Sync + 'static, R: Threads + Wait + Sync>(
+fn ended<J: StoreId + Send + Sync + 'static, R: Threads + Wait + Sync>(
     rt: &R,
     alloc: Global,
     store: (StoreWriter<J>, Vec<Checker<J>>),
@@ -95,7 +95,7 @@ fn ended<J: Naming + Send + Sync + 'static, R: Threads + Wait + Sync>(
 }
 
 /// Whether these checkers find that the writer ended, and keep what they have seen.
-fn are_gone<J: Naming>(alloc: Global, checkers: Vec<Checker<J>>) -> Option<bool> {
+fn are_gone<J: StoreId>(alloc: Global, checkers: Vec<Checker<J>>) -> Option<bool> {
     let query = query(alloc, "/a")?;
     let mut right = true;
     for checker in checkers {

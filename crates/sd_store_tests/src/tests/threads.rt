@@ -4,7 +4,7 @@
 use super::store::{Play, is_right};
 use super::*;
 use sd_acl::Descriptor;
-use sd_store::{Checker, Naming, Notice, ShowError, StoreWriter};
+use sd_store::{Checker, Notice, ShowError, StoreId, StoreWriter};
 use sd_versions::Answer;
 use std::sync::Wait;
 use std::thread;
@@ -22,7 +22,7 @@ const NODES: [&str; 2] = ["/a", "/b"];
 /// A checker, the notice that it learns in its thread, and what it asks: of one node a verdict, of the other the
 /// descriptor.
 #[derive(Drop)]
-struct Asker<J: Naming> {
+struct Asker<J: StoreId> {
     checker: Checker<J>,
     notice: Notice<J>,
     query: Query,
@@ -31,7 +31,7 @@ struct Asker<J: Naming> {
     right: bool,
 }
 
-impl<J: Naming> Asker<J> {
+impl<J: StoreId> Asker<J> {
     fn new(alloc: Global, checker: Checker<J>, notice: Notice<J>) -> Option<Asker<J>> {
         Some(Asker {
             checker,
@@ -110,7 +110,7 @@ fn is_of(seen: u64, found: &Option<Descriptor>) -> bool {
 }
 
 /// The checkers ask in threads while the writer publishes, and once more when it has.
-pub(super) fn are_right_beside<J: Naming + Send + Sync + 'static, R: Threads + Wait>(
+pub(super) fn are_right_beside<J: StoreId + Send + Sync + 'static, R: Threads + Wait>(
     rt: &R,
     alloc: Global,
     writer: &mut StoreWriter<J>,
@@ -127,7 +127,7 @@ pub(super) fn are_right_beside<J: Naming + Send + Sync + 'static, R: Threads + W
     Some(right)
 }
 
-fn all_away<J: Naming + Send + Sync + 'static, R: Threads>(
+fn all_away<J: StoreId + Send + Sync + 'static, R: Threads>(
     rt: &R,
     alloc: Global,
     writer: &mut StoreWriter<J>,
@@ -141,7 +141,7 @@ fn all_away<J: Naming + Send + Sync + 'static, R: Threads>(
     Some(threads)
 }
 
-fn away<J: Naming + Send + Sync + 'static, R: Threads>(
+fn away<J: StoreId + Send + Sync + 'static, R: Threads>(
     rt: &R,
     asker: Asker<J>,
 ) -> Option<JoinHandle<Asker<J>>> {
@@ -149,7 +149,7 @@ fn away<J: Naming + Send + Sync + 'static, R: Threads>(
 }
 
 /// Both nodes are changed, and one publish shows it: how long the journal then is.
-fn published<J: Naming, R: Wait>(
+fn published<J: StoreId, R: Wait>(
     rt: &R,
     alloc: Global,
     writer: &mut StoreWriter<J>,
@@ -171,12 +171,12 @@ fn change_by(publish: u64) -> (Change, &'static str) {
     }
 }
 
-fn edited<J: Naming>(writer: &mut StoreWriter<J>, edit: &Edit) -> Option<()> {
+fn edited<J: StoreId>(writer: &mut StoreWriter<J>, edit: &Edit) -> Option<()> {
     writer.edit(edit).ok()
 }
 
 /// Whether the checker's answers in its thread were right, and those after it learned the last publish.
-fn is_back<J: Naming>(writer: &mut StoreWriter<J>, asker: Asker<J>) -> bool {
+fn is_back<J: StoreId>(writer: &mut StoreWriter<J>, asker: Asker<J>) -> bool {
     let mut asker = asker;
     asker.checker.learn(&mut writer.tell());
     let has_learned = asker.checker.seen() == 2 * PUBLISHES;

@@ -14,5 +14,5 @@ returns c = λ b low.
       | then-demand w ↦ rw (w.granted-is, w.if-demand.true) (agree_below_at (holds 0x001FFFFF) (λ k. true) 21 b refl low)
       | else-demand w ↦ rw (w.granted-is, w.if-demand.false) (ap (λ m. holds m b) w.listed-granted.ensures)
     ] in
-    in_question c.if-demand.granted c.when-listed.result c.minus.result c.common.result c.listed.result c.args.among b after before
-    c.args.demand.by_owner c.args.demand.unlisted low granted c.when-listed.ensures (ap (λ m. holds m b) c.listed.ensures) c.minus.ensures c.common.ensures
+    in_question c.if-demand.granted c.only_if-listed.result c.minus.result c.common.result c.listed.result c.args.among b after before
+    c.args.demand.by_owner c.args.demand.unlisted low granted c.only_if-listed.ensures (ap (λ m. holds m b) c.listed.ensures) c.minus.ensures c.common.ensures

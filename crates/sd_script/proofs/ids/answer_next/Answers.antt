@@ -1,11 +1,11 @@
 -- With ids what the line asks is answered, with its tag.
 use Rattle.std.proofs.Common.{◌≡◌, ℕ, Bool, true, false, List}
 use Rattle.sd_script.specs.Output.{IsNext}
-use Rattle.sd_script.specs.declared.carried.Carried.{Carried}
+use Rattle.sd_script.specs.declared.script_state.ScriptState.{ScriptState}
 use Rattle.sd_script.specs.Ids.{IsNextIn, asked_of, tag_of, tagged}
 use Rattle.sd_script.proofs.ids.answer_next.Goals as goal
 
-with_tag : (has_ids : Bool) (old new : Carried) (line tag asked answer bytes printed : List ℕ)
+with_tag : (has_ids : Bool) (old new : ScriptState) (line tag asked answer bytes printed : List ℕ)
     → has_ids ≡ true → tag ≡ tag_of line → asked ≡ asked_of line → IsNext old asked answer new
     → bytes ≡ answer → printed ≡ tagged tag true bytes → IsNextIn has_ids old line printed new
 with_tag true old new line tag asked answer bytes printed is first rest next same whole =

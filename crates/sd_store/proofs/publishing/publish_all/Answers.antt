@@ -1,14 +1,14 @@
 use Rattle.std.proofs.Common.{rules, ◌≡◌, drop, ap, sym, subst}
 use mathlib.Core.List.{IsPrefix}
 use Rattle.sd_store.specs.Marks.{ShowTree}
-use Rattle.sd_store.specs.Rules.{naming}
+use Rattle.sd_store.specs.Rules.{store_id}
 use Rattle.sd_store.specs.declared.published.Published.{Published}
 use Rattle.sd_store.proofs.Publishes.{publishes, journal_after, marks_after}
 use Rattle.sd_store.proofs.publishing.publish_all.Goals as goal
 
 pub publish_as-requires : goal.publish_as-requires
 publish_as-requires g c next is =
-    let n = naming g.J.Naming.opening g.J.Chain.book g.J.Chain.first in
+    let n = store_id g.J.StoreId.opening g.J.Chain.book g.J.Chain.first in
     let shown = c.show.new.cell.desk.shown.value in
     let ops = drop c.show.new.cell.behind c.show.new.cell.log.items in
     let to : ShowTree ops c.args.tree c.args.front = search rules in

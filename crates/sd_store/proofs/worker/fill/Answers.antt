@@ -11,5 +11,5 @@ loop-at-preserved g c =
     let query = c.index-queries-at.result in
     let within : at < length queries = omega (arith, c.loop-at-test.true) in
     let there : (q : Query) → slice_index_or queries at q ≡ query = λ q. any_default queries at q query within ∙ sym c.index-queries-at.is in
-    goes_under_way g.J.Naming.opening queries c.args.worker c.args.step at c.args.checker.now c.loop-at.checker c.ask.new.checker c.loop-at.answers.items c.ask.new.answers.items query
+    goes_under_way g.J.StoreId.opening queries c.args.worker c.args.step at c.args.checker.now c.loop-at.checker c.ask.new.checker c.loop-at.answers.items c.ask.new.answers.items query
     within there c.ask.ensures.floor c.in_ok-ask.ensures.marks c.ask.ensures.lawful c.in_ok-ask.ensures.answered c.loop-at.invariant

@@ -12,7 +12,7 @@ returns-clause-failed g c =
     let o = opening_of c.args.mapping.now c.args.root.now in
     let edits = c.args.edits.now in
     let fits : root_refusal o ≡ None = search rules in
-    let asked : AskError → Type 0 = λ error. IsAskedError g.J.Naming.opening edits error in
+    let asked : AskError → Type 0 = λ error. IsAskedError g.J.StoreId.opening edits error in
     IfErr-weaker c.asked-answer.result asked (λ error. IsAskError o edits error)
     (λ error why. started_before o edits fits error
     (subst (λ (x : Opening). IsAskedError x edits error) (sym c.requires.opening) why))

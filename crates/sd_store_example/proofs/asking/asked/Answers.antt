@@ -9,7 +9,7 @@ returns-in_err-edit-clause-failed g c =
     let at = c.loop-edit in
     let kept = at.invariant in
     rw (p.1, p.2)
-    (not_accepted g.J.Naming.opening c.args.edits.now at.edit-index c.edit-item.result c.loop-edit-test.true
+    (not_accepted g.J.StoreId.opening c.args.edits.now at.edit-index c.edit-item.result c.loop-edit-test.true
     c.edit-item.is at.writer.journal at.writer.pending kept.0 kept.1 kept.2
     c.in_err-edit.field-0.0 c.in_err-edit.ensures.refused)
 
@@ -17,8 +17,8 @@ pub loop-edit-preserved : goal.loop-edit-preserved
 loop-edit-preserved g c =
     let at = c.loop-edit in
     let kept = at.invariant in
-    let waits = waits_still g.J.Naming.opening c.args.edits.now at.edit-index c.edit-item.result c.loop-edit-test.true
+    let waits = waits_still g.J.StoreId.opening c.args.edits.now at.edit-index c.edit-item.result c.loop-edit-test.true
     c.edit-item.is at.writer.journal at.writer.pending kept.0 kept.1 kept.2 in
-    let fits = accepted_still g.J.Naming.opening c.args.edits.now at.edit-index c.edit-item.result c.loop-edit-test.true
+    let fits = accepted_still g.J.StoreId.opening c.args.edits.now at.edit-index c.edit-item.result c.loop-edit-test.true
     c.edit-item.is at.writer.journal at.writer.pending kept.0 kept.1 kept.2 c.in_ok-edit.ensures.accepted in
     (c.edit.ensures.published.0 ∙ kept.0, c.in_ok-edit.ensures.pending ∙ waits, fits)

@@ -6,4 +6,4 @@ abbrev pub invariant-loop-edit : goal.invariant-loop-edit
 invariant-loop-edit g l =
     (l.writer.journal ≡ [])
     × (l.writer.pending ≡ take l.edit-index l.edits)
-    × IsLawful g.J.Naming.opening (take l.edit-index l.edits)
+    × IsLawful g.J.StoreId.opening (take l.edit-index l.edits)

@@ -23,7 +23,7 @@ pub loop-preserved : goal.loop-preserved
 loop-preserved g c =
     let places = c.args.entries in
     read_one c.args.bytes.now places.place places.end places.count c.loop.counter c.loop.rest.now _ c.requires.end c.loop.invariant c.in_ok-entry.entry c.in_ok-entry.size _ c.loop-test.true
-    (omega (arith, c.in_ok-entry.ensures.size.1)) (sym c.in_ok-entry.ensures.read) (c.after-tally.ensures c.loop.invariant.seen c.loop.invariant.is_seen)
+    (omega (arith, c.in_ok-entry.ensures.size.1)) (sym c.in_ok-entry.ensures.read) (c.after-progress.ensures c.loop.invariant.seen c.loop.invariant.is_seen)
 
 pub returns : goal.returns
 returns g c =
@@ -48,5 +48,5 @@ loop-init g c = record {
   order = c.requires.place;
   is_rest = refl;
   all_read = begins c.args.bytes.now c.args.entries.place c.args.entries.end c.args.entries.count;
-  is_seen = c.begin-tally.ensures _;
+  is_seen = c.begin-progress.ensures _;
 }

@@ -1,9 +1,9 @@
 -- The entries so far and those that are left are all of them, and the tally is what those so far come to.
 use Rattle.std.proofs.Common.{not, nat_eq}
-use Rattle.sd_check.proofs.Words.{asking, IsTally}
+use Rattle.sd_check.proofs.Words.{asking, IsCheckProgress}
 use Rattle.sd_wire.proofs.Rest.{HasRead}
 use Rattle.sd_wire.proofs.check.check_entries.Given as goal
 
 abbrev pub invariant-loop : goal.invariant-loop
 invariant-loop g l = HasRead l.bytes l.fn.entries.place l.fn.entries.end l.fn.entries.count l.counter l.rest
-    (λ seen. IsTally (not (nat_eq (denote.Param.value_of (denote.Param.number g.row.BOTH)) 0)) (asking (λ s. s) l.question) seen l.tally)
+    (λ seen. IsCheckProgress (not (nat_eq (denote.Param.value_of (denote.Param.number g.row.BOTH)) 0)) (asking (λ s. s) l.question) seen l.progress)

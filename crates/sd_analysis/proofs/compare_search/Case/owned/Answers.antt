@@ -7,4 +7,4 @@ returns-then-not-is_owner c = λ b low. owners_held false _ _ _ 0 b refl (sym c.
 
 pub returns : goal.returns
 returns c = λ b low.
-    owners_held true c.limits_owner.result _ _ c.when.result b c.when.ensures (sym c.if-not-is_owner.false ∙ c.is_owner.ensures) c.limits_owner.ensures low
+    owners_held true c.limits_owner.result _ _ c.only_if.result b c.only_if.ensures (sym c.if-not-is_owner.false ∙ c.is_owner.ensures) c.limits_owner.ensures low

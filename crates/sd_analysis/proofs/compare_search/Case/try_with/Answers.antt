@@ -6,17 +6,17 @@ use Rattle.sd_check.specs.declared.grounds.Pass.{Pass}
 use Rattle.sd_check.specs.declared.token.GroupState.{GroupState}
 use Rattle.sd_analysis.specs.Report.{ArePlaced, IsCase, IsPlace, new_of, old_of, sids_in}
 use Rattle.sd_analysis.specs.Sufficient.{Parts}
-use Rattle.sd_analysis.specs.Table.{AreBoth, IsTable}
+use Rattle.sd_analysis.specs.Table.{AreBeforeAndAfter, IsTable}
 use Rattle.sd_analysis.specs.declared.compare_search.Case.{Case}
-use Rattle.sd_analysis.specs.declared.compare_table.Both.{Both}
+use Rattle.sd_analysis.specs.declared.compare_table.BeforeAndAfter.{BeforeAndAfter}
 use Rattle.sd_analysis.proofs.Placed.{among_none, are_placed}
 use Rattle.sd_analysis.proofs.Reports.{none_wanted}
 use Rattle.sd_analysis.proofs.Searched.{still_left, with_each}
 use Rattle.sd_analysis.proofs.compare_search.Case.try_with.Goals as goal
 
-placed : (case : Case) (is : IsCase case) (pass : Pass) (both : Both) (s : SidValue) (place : ℕ) → IsPlace case s place
+placed : (case : Case) (is : IsCase case) (pass : Pass) (both : BeforeAndAfter) (s : SidValue) (place : ℕ) → IsPlace case s place
     → ((g : MappingValue) (base : List (SidValue × GroupState)) (sids : List SidValue) (old new : Parts) → IsTable g base sids old new case.table
-    → AreBoth g base sids old new pass None both)
+    → AreBeforeAndAfter g base sids old new pass None both)
     → ArePlaced case pass (record { allowed = s; denied = None }) both place
 placed case is pass both s place at alone =
     are_placed case pass None both (alone case.mapping.now case.base.now (sids_in case) (old_of case) (new_of case) is.table) s place at

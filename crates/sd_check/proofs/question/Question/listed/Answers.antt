@@ -15,8 +15,8 @@ returns-then-this-ne0 g c = λ seen comes.
     let both : is_restricted q.token ≡ true = sym c.requires ∙ second in
     granted_by_passes _ _ _ _ _ _ bits (rights_in bits) (owners_in q.token q.owner bits) _ (λ b. ap (λ t. allowed b && (not t || allowed_again b)) (sym both)) refl refl
     (passes_grant allowed allowed_again (not (limits_owner (Some seen))) (rights_in bits) (owners_in q.token q.owner bits) _ _ _
-    (pass_grants q.mapping (applies q.token q.owner) _ _ seen c.args.tally.first c.args.tally.kept _ comes.first c.union-first.ensures)
-    (pass_grants q.mapping (applies_again q.token q.owner) _ _ seen c.args.tally.second c.args.tally.kept _ (comes.second second) c.union.ensures)
+    (pass_grants q.mapping (applies q.token q.owner) _ _ seen c.args.progress.first c.args.progress.kept _ comes.first c.union-first.ensures)
+    (pass_grants q.mapping (applies_again q.token q.owner) _ _ seen c.args.progress.second c.args.progress.kept _ (comes.second second) c.union.ensures)
     c.common.ensures)
 
 pub returns-else-this-ne0 : goal.returns-else-this-ne0
@@ -26,4 +26,4 @@ returns-else-this-ne0 g c = λ seen comes.
     let alone : is_restricted q.token ≡ false = sym c.requires ∙ ap (λ n. not (nat_eq n 0)) c.if-this-ne0.false in
     granted_by_passes _ _ (λ b. is_allowed_by (first q.mapping (applies_again q.token q.owner) seen b)) _ _ _ bits (rights_in bits) (owners_in q.token q.owner bits) _
     (λ b. sym (and-true _) ∙ ap (λ t. is_allowed_by (first q.mapping (applies q.token q.owner) seen b) && (not t || is_allowed_by (first q.mapping (applies_again q.token q.owner) seen b))) (sym alone)) refl refl
-    (pass_grants q.mapping (applies q.token q.owner) _ _ seen c.args.tally.first c.args.tally.kept _ comes.first c.union-first.ensures)
+    (pass_grants q.mapping (applies q.token q.owner) _ _ seen c.args.progress.first c.args.progress.kept _ comes.first c.union-first.ensures)

@@ -6,4 +6,4 @@ pub returns-then-is_empty : goal.returns-then-is_empty
 returns-then-is_empty g c = no_owners _ _ _ c.common-owners.ensures (sym c.is_empty.ensures ∙ c.if-is_empty.true)
 
 pub returns : goal.returns
-returns g c = c.when.ensures ∙ ap (λ o. cond o c.common-owners.result 0) c.is_owner.ensures ∙ owners_is _ _ _ c.common-owners.ensures
+returns g c = c.only_if.ensures ∙ ap (λ o. cond o c.common-owners.result 0) c.is_owner.ensures ∙ owners_is _ _ _ c.common-owners.ensures

@@ -16,9 +16,9 @@ loop-place-preserved c =
     elim c.match-self-place.branch [
       | in-Some w ↦
           let is = λ (share : Share). sym (ap (is_of_share share) w.in-Some.is) in
-          let reserved = one_more _ _ _ _ _ _ c.loop-place-test.true c.loop-place.invariant.0 (w.belongs.ensures ∙ is Reserved) w.when.ensures w.union-reserved.ensures in
-          let missing = one_more _ _ _ _ _ _ c.loop-place-test.true c.loop-place.invariant.1.0 (w.belongs-in-Some.ensures ∙ is Missing) w.when-in-Some.ensures w.union-missing.ensures in
-          let granted = one_more _ _ _ _ _ _ c.loop-place-test.true c.loop-place.invariant.1.1 (w.belongs-in-Some-2.ensures ∙ is Granted) w.when-in-Some-2.ensures w.union-granted.ensures in
+          let reserved = one_more _ _ _ _ _ _ c.loop-place-test.true c.loop-place.invariant.0 (w.belongs.ensures ∙ is Reserved) w.only_if.ensures w.union-reserved.ensures in
+          let missing = one_more _ _ _ _ _ _ c.loop-place-test.true c.loop-place.invariant.1.0 (w.belongs-in-Some.ensures ∙ is Missing) w.only_if-in-Some.ensures w.union-missing.ensures in
+          let granted = one_more _ _ _ _ _ _ c.loop-place-test.true c.loop-place.invariant.1.1 (w.belongs-in-Some-2.ensures ∙ is Granted) w.only_if-in-Some-2.ensures w.union-granted.ensures in
           (w.reserved-is ∙ reserved, (w.missing-is ∙ missing, w.granted-is ∙ granted))
       | in_default w ↦
           let none = λ (share : Share). ap (is_of_share share) w.in_default.is in

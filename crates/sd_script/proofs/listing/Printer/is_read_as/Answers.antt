@@ -1,13 +1,13 @@
 use Rattle.std.proofs.Common.{◌≡◌, ◌∙◌, Ok, Result, subst, sym}
 use Rattle.std.proofs.lemmas.Bool.{false≢true}
 use Rattle.sd_script.specs.Command.{line_asks}
-use Rattle.sd_script.specs.declared.asked.Asked.{Asked}
+use Rattle.sd_script.specs.declared.line_request.LineRequest.{LineRequest}
 use Rattle.sd_script.specs.declared.fault.LineFault.{LineFault}
-use Rattle.sd_script.specs.declared.manner.Notation.{Notation}
+use Rattle.sd_script.specs.declared.script_options.Notation.{Notation}
 use Rattle.sd_script.proofs.OneReading.{line-one}
 use Rattle.sd_script.proofs.listing.Printer.is_read_as.Goals as goal
 
-abbrev read : Asked → Result Asked LineFault
+abbrev read : LineRequest → Result LineRequest LineFault
 read asked = Ok asked
 
 pub returns-in-Ok : goal.returns-in-Ok
@@ -15,7 +15,7 @@ returns-in-Ok c =
     let notation : Notation = c.args.self.now.notation in (
       λ yes. (
         sym c.is_silent.ensures ∙ c.if-is_silent.false,
-        subst (λ (asked : Asked). line_asks notation c.args.is_open c.args.line.now (Ok asked)) (c.is_wanted.ensures.0 yes) c.in-Ok.ensures,
+        subst (λ (asked : LineRequest). line_asks notation c.args.is_open c.args.line.now (Ok asked)) (c.is_wanted.ensures.0 yes) c.in-Ok.ensures,
       ),
       λ is. let same : read c.in-Ok.asked ≡ read _ = line-one notation c.args.is_open c.args.line.now _ _ c.in-Ok.ensures is.1 in c.is_wanted.ensures.1 (cc (same)),
     )

@@ -9,7 +9,7 @@ use Rattle.sd_script_audit.proofs.queries.Queries.answered.Goals as goal
 pub returns-clause-audited : goal.returns-clause-audited
 returns-clause-audited g c =
     let by = c.args.self.now in
-    let o = g.J.Naming.opening in
+    let o = g.J.StoreId.opening in
     let said = c.in_ok-answer_text.ensures in
     let left = c.answer_text.new.state in
     let end = end_of (Opened by.notation (machine_of o by.workers left.writer)) left.queries.items in
@@ -17,9 +17,9 @@ returns-clause-audited g c =
       said.0 ++ end,
       more ∙ ap (λ l. l ++ end) said.1 ∙ append_assoc _ said.0 end,
       (
-        audited by.notation o by.workers left.writer left.queries.items left.tally,
+        audited by.notation o by.workers left.writer left.queries.items left.counts,
         said.0,
-        seen_as _ (IsNextInAudit by.workers) (λ s. audited by.notation o by.workers s.writer s.queries.items s.tally) (λ old new line printed is. is)
+        seen_as _ (IsNextInAudit by.workers) (λ s. audited by.notation o by.workers s.writer s.queries.items s.counts) (λ old new line printed is. is)
             c.args.open.now left _ said.0 said.2,
         refl,
         refl,

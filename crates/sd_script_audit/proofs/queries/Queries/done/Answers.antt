@@ -6,7 +6,7 @@ use Rattle.sd_script_audit.proofs.queries.Queries.done.Goals as goal
 pub returns-in-Ok-Importing : goal.returns-in-Ok-Importing
 returns-in-Ok-Importing g c =
     let workers = c.args.self.now.workers in
-    let new = machine_of g.J.Naming.opening workers c.edit_reply-reply.new.writer in
+    let new = machine_of g.J.StoreId.opening workers c.edit_reply-reply.new.writer in
     rw (c.in-Ok-Importing.is, c.in-Ok-Importing.field-0-is)
     (IfOk-weaker c.import_line.result _ _ (λ text told. ((c.edit_reply-reply.result, new, c.edit_reply-reply.ensures workers, told, refl), refl))
     (c.import_line.ensures new (sym c.draft.ensures.opening) (sym c.draft.ensures.journal)))

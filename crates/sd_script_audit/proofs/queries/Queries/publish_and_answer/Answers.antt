@@ -6,7 +6,7 @@ use Rattle.sd_script_audit.proofs.queries.Queries.publish_and_answer.Goals as go
 
 pub loop-answer-preserved : goal.loop-answer-preserved
 loop-answer-preserved g c =
-    let o = g.J.Naming.opening in
+    let o = g.J.StoreId.opening in
     let journal = c.args.writer.now.journal ++ c.args.writer.now.pending in
     let queries = c.args.queries.now in
     let answers = c.in-Ok.answers.items in

@@ -13,8 +13,8 @@ done-requires g c =
 pub returns : goal.returns
 returns g c =
     let by = c.args.self.now in
-    let old = progress by.notation g.J.Naming.opening by.workers c.args.open.now.writer c.args.open.now.queries.items in
-    let new = progress by.notation g.J.Naming.opening by.workers c.done.new.writer c.done.new.queries.items in
+    let old = progress by.notation g.J.StoreId.opening by.workers c.args.open.now.writer c.args.open.now.queries.items in
+    let new = progress by.notation g.J.StoreId.opening by.workers c.done.new.writer c.done.new.queries.items in
     on_printed c.extend_from_slice.result _ _ _ (rw (c.as_bytes-2.ensures.value) at c.extend_from_slice.ensures.items) (λ grown. (
       string_bytes c.in_ok-answer.answer,
       grown,

@@ -17,8 +17,8 @@ returns c =
     let g : MappingValue = record { read = inside.read; write = inside.write; execute = inside.execute; all = inside.all } in
     mapped_by_steps g c.args.mask c.common.result c.union.result c.union-2.result c.union-3.result c.union-4.result
     c.common.ensures
-    (taken _ inside.read _ _ _ _ c.union.ensures c.when.ensures c.holds.ensures)
-    (taken _ inside.write _ _ _ _ c.union-2.ensures c.when-2.ensures c.holds-2.ensures)
-    (taken _ inside.execute _ _ _ _ c.union-3.ensures c.when-3.ensures c.holds-3.ensures)
-    (taken _ inside.all _ _ _ _ c.union-4.ensures c.when-4.ensures c.holds-4.ensures)
+    (taken _ inside.read _ _ _ _ c.union.ensures c.only_if.ensures c.holds.ensures)
+    (taken _ inside.write _ _ _ _ c.union-2.ensures c.only_if-2.ensures c.holds-2.ensures)
+    (taken _ inside.execute _ _ _ _ c.union-3.ensures c.only_if-3.ensures c.holds-3.ensures)
+    (taken _ inside.all _ _ _ _ c.union-4.ensures c.only_if-4.ensures c.holds-4.ensures)
     ∙ ap (λ v. mapped v c.args.mask) c.self.view_is

@@ -2,7 +2,7 @@ use Rattle.std.proofs.Common.{◌≤◌, sym, subst}
 use Rattle.sd_acl.specs.Ace.{acl_size_of}
 use Rattle.sd_edit.specs.Refusals.{dacl_size, own_entries}
 use Rattle.sd_tree.specs.Stored.{tree_of}
-use Rattle.sd_edit.specs.declared.node.Row.{Row}
+use Rattle.sd_edit.specs.declared.node.NodeRow.{NodeRow}
 use Rattle.sd_edit.proofs.Given.{given_fits}
 use Rattle.sd_tree.proofs.tree.Tree.given.Goals as goal
 
@@ -13,5 +13,5 @@ own_descriptor_of_row-requires c =
     let stands = c.in-Some.ensures in
     let whole = stands.whole v.mapping.now c.view-view.ensures.standing.kept in
     let fits = subst (λ dacl. dacl_size dacl ≤ 65535) whole.0 whole.1 in
-    subst (λ (row : Row). acl_size_of (own_entries row.dacl) ≤ 65535) (sym c.row-row.ensures)
+    subst (λ (row : NodeRow). acl_size_of (own_entries row.dacl) ≤ 65535) (sym c.row-row.ensures)
     (given_fits v.mapping.now (tree_of v.nodes.now) c.as_path_ref.result c.in-Some.node.now.row stands.row fits)

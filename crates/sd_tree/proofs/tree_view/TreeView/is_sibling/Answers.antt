@@ -5,7 +5,7 @@ use Rattle.sd_path.proofs.PathBytes.{length-up}
 use Rattle.sd_tree.specs.Sharing.{InheritOne}
 use Rattle.sd_tree.specs.Stored.{path_of_node}
 use Rattle.sd_tree.specs.declared.node.Node.{Node}
-use Rattle.sd_edit.specs.declared.node.Row.{Row}
+use Rattle.sd_edit.specs.declared.node.NodeRow.{NodeRow}
 use Rattle.sd_tree.proofs.OneDacl.{alike_inherit_one}
 use Rattle.sd_tree.proofs.tree_view.TreeView.is_sibling.Goals as goal
 
@@ -38,6 +38,6 @@ returns-then-depth c held =
       parent = λ b. ap up (sym (path_is b)) ∙ same_parent _ c.args.path.now (sym c.if-is_root.ensures) (sym c.depth.ensures ∙ c.if-depth.true ∙ c.depth-2.ensures)
           (ap (λ t. is_within t c.path-beside.result) (sym c.parent.ensures) ∙ sym c.is_within.ensures ∙ held);
       alike = λ b.
-          let P : Row → Type 0 = λ row. InheritOne row c.args.row.now c.args.above.now.whole in
+          let P : NodeRow → Type 0 = λ row. InheritOne row c.args.row.now c.args.above.now.whole in
           subst P (c.row.ensures ∙ ap (λ (n : Node). n.row) (node_is b)) (alike_inherit_one _ _ c.args.above.now.whole c.args.by_trustees (c.are_alike.ensures (search rules)) c.requires.trustees);
     }

@@ -6,7 +6,7 @@ use Rattle.sd_edit.specs.Plain.{dacl_at}
 use Rattle.sd_tree.specs.Stored.{tree_of, path_of_node}
 use Rattle.sd_tree.specs.Node.{whole_with}
 use Rattle.sd_tree.specs.declared.node.Node.{Node}
-use Rattle.sd_edit.specs.declared.node.Row.{Row}
+use Rattle.sd_edit.specs.declared.node.NodeRow.{NodeRow}
 use Rattle.sd_edit.proofs.Rows.{row_at-insert_same}
 use Rattle.sd_edit.proofs.Below.{parent_there}
 use Rattle.sd_tree.proofs.Rebuilding.{large_error, row_there}
@@ -22,7 +22,7 @@ inherited_at-requires-clause-parent c below =
 whole : (c : goal.After-new-2) → whole_with c.in_ok-addition.addition.row c.in_ok-inherited.inherited ≡ dacl_at c.args.self.now.mapping.now (insert (tree_of c.args.self.now.nodes.now) c.args.path.now c.args.row) c.args.path.now
 whole c =
     let row-is : c.in_ok-addition.addition.row ≡ c.args.row = ap (λ (a : AdditionValue). a.row) c.in_ok-addition.ensures in
-    ap (λ (r : Row). whole_with r c.in_ok-inherited.inherited) row-is ∙ (rw (c.as_path_ref.ensures, c.row.ensures ∙ row-is) at c.in_ok-inherited.ensures)
+    ap (λ (r : NodeRow). whole_with r c.in_ok-inherited.inherited) row-is ∙ (rw (c.as_path_ref.ensures, c.row.ensures ∙ row-is) at c.in_ok-inherited.ensures)
 
 pub returns-clause-path : goal.returns-clause-path
 returns-clause-path c = IfOk-weaker c.new-2.result _ _ (λ n is. ap path_of_node is ∙ ap (λ (a : AdditionValue). a.path) c.in_ok-addition.ensures ∙ c.in_ok-copy.ensures) c.new-2.ensures.node

@@ -1,0 +1,62 @@
+-- The answers of the calls, as numbers.
+use Rattle.std.specs.Prelude.{ℕ, Result, Ok, Err}
+use Rattle.sd_sid.specs.Sid.{sid_error_number}
+use Rattle.sd_wire.specs.Fault.{wire_fault_number}
+use Rattle.sd_check.specs.declared.verdict.Verdict.{Verdict}
+use Rattle.sd_check.specs.declared.verdict.Verdict.TheVariants.{Granted, Denied, Reserved, EmptyRequest}
+use Rattle.sd_c.specs.declared.call_answer.CheckAnswer.{CheckAnswer}
+use Rattle.sd_c.specs.declared.call_answer.Written.{Written}
+use Rattle.sd_c.specs.declared.stop.NotRead.{NotRead}
+use Rattle.sd_c.specs.declared.stop.NotRead.TheVariants.{Descriptor, User, Group, BehindGroups, State, Restricting}
+use Rattle.sd_c.specs.declared.stop.NotRead.TheVariants.{PrivilegeBits, MappingBits, DescriptorHandle, TokenHandle}
+use Rattle.sd_c.specs.declared.stop.NotRead.TheVariants.{NewHandle}
+use Rattle.sd_c.specs.declared.stop.Stop.{Stop}
+use Rattle.sd_c.specs.declared.stop.Stop.TheVariants as stops
+use Rattle.sd_c.specs.Request.{RequestValue, verdict_of}
+
+-- ---- a check
+
+abbrev pub given : ℕ → ℕ → CheckAnswer
+given kind mask = record { status = 0; argument = 0; fault = 0; kind = kind; place = 0; mask = mask }
+
+abbrev pub verdict_given : Verdict → CheckAnswer
+verdict_given (Granted mask) = given 1 mask
+verdict_given (Denied missing) = given 2 missing
+verdict_given (Reserved mask) = given 3 mask
+verdict_given EmptyRequest = given 4 0
+
+-- an invalid argument: why, which, the fault's number, and of groups, states and restricting SIDs the index
+abbrev pub unread : ℕ → ℕ → ℕ → ℕ → CheckAnswer
+unread status argument fault place =
+    record { status = status; argument = argument; fault = fault; kind = 0; place = place; mask = 0 }
+
+-- the answer of a call that writes nothing, for the reason in the answer of a check
+abbrev pub unwritten : CheckAnswer → Written
+unwritten told = record { status = told.status; fault = told.fault; place = told.place; length = 0 }
+
+abbrev pub not_read : NotRead → CheckAnswer
+not_read (Descriptor fault) = unread 5 1 (wire_fault_number fault) 0
+not_read (User fault) = unread 6 2 (sid_error_number fault) 0
+not_read (Group fault at) = unread 6 3 (sid_error_number fault) at
+not_read (BehindGroups at) = unread 7 3 0 at
+not_read (State at) = unread 8 4 0 at
+not_read (Restricting fault at) = unread 6 5 (sid_error_number fault) at
+not_read PrivilegeBits = unread 9 6 0 0
+not_read MappingBits = unread 10 7 0 0
+not_read DescriptorHandle = unread 11 1 0 0
+not_read TokenHandle = unread 11 8 0 0
+not_read NewHandle = unread 11 14 0 0
+
+-- out of memory
+abbrev pub check_memory : CheckAnswer
+check_memory = unread 1 0 0 0
+
+-- why a check stops
+abbrev pub why_not : Stop → CheckAnswer
+why_not (stops.NotRead why) = not_read why
+why_not stops.Memory = check_memory
+
+-- the verdict on the parsed arguments, or which one is invalid
+abbrev pub check_answer : Result RequestValue NotRead → ℕ → CheckAnswer
+check_answer (Ok r) asked = verdict_given (verdict_of r asked)
+check_answer (Err why) asked = not_read why

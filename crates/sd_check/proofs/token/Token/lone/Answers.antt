@@ -1,7 +1,0 @@
-use Rattle.std.proofs.lemmas.Option.{IfSome_then}
-use Rattle.sd_check.proofs.Chains.{known_there}
-use Rattle.sd_check.proofs.token.Token.lone.Goals as goal
-
-pub returns : goal.returns
-returns c = rw (← c.self.view_is) (IfSome_then c.lone.result (rw c.deref.ensures.value at c.lone.ensures)
-    (λ stands known. known_there _ _ _ _ _ _ c.self.invariant.2 c.args.kind stands known.0 known.1))

@@ -1,0 +1,373 @@
+-- What a command about a descriptor prints as an answer, and whether it did what was asked for. The arguments are read
+-- from left to right, and the first that isn't read is told as a fault.
+use Rattle.std.specs.Prelude.{◌≡◌, ◌⊎◌, ℕ, Bool, MatchBool, List, [], ◌∷◌, ◌++◌, Result, Ok, Err, codes}
+use Rattle.std.specs.Prelude.{Option, Some, None, string_bytes, drop, if◌then◌else◌, slice_get}
+use Rattle.std.specs.Option.{option_map_or}
+use Rattle.std.specs.Borrow.{Bor}
+use Rattle.hex.specs.Hex.{encode_lower}
+use Rattle.sd_sid.specs.Sid.{SidValue}
+use Rattle.sd_acl.specs.Dacl.{Dacl}
+use Rattle.sd_acl.specs.Descriptor.{DescriptorValue, descriptor_of}
+use Rattle.sd_acl.specs.declared.descriptor.DaclOf.TheVariants.{Absent, Null, List as Entries}
+use Rattle.sd_check.specs.declared.verdict.Verdict.{Verdict}
+use Rattle.sd_check.specs.declared.verdict.Verdict.TheVariants.{Granted}
+use Rattle.sd_text.specs.Fault.{StandsIn}
+use Rattle.sd_text.specs.Grammar.{Spells}
+use Rattle.sd_text.specs.Sid.{sid_text_in}
+use Rattle.sd_text.specs.Canon.{canon_in, full_canon}
+use Rattle.sd_text.specs.declared.fault.TextError.{TextError}
+use Rattle.sd_text.specs.declared.fault.TextError.TheVariants.{Fault as FaultAt, Memory}
+use Rattle.sd_text.specs.declared.fault.TextFault.{TextFault}
+use Rattle.sd_wire.specs.Reading.{descriptor_read}
+use Rattle.sd_wire.specs.Writing.{wire_of}
+use Rattle.sd_wire.specs.declared.fault.WireFault.{WireFault}
+use Rattle.sd_check.specs.Check.{verdict, dacl_entries}
+use Rattle.sd_check.specs.Token.{TokenValue}
+use Rattle.sd_answer.specs.VerdictLine.{line, right_names_of, verdict_line, fault_line, sddl_fault_line}
+use Rattle.sd_analysis.specs.Compare.{AreGains}
+use Rattle.sd_analysis.specs.Descendants.{AreDescendantChanges}
+use Rattle.sd_analysis.specs.declared.descendants_compare.DescendantChange.{DescendantChange}
+use Rattle.sd_analysis.specs.declared.compare_report.Change.{Change}
+use Rattle.sd_analysis.specs.declared.who_has.Access.{Access}
+use Rattle.sd_check.specs.declared.token.GroupState.{GroupState}
+use Rattle.sd_answer.specs.Compare.{gains_and_losses}
+use Rattle.sd_answer.specs.Descendants.{descendants_text, inheritance_text}
+use Rattle.sd_answer.specs.Descriptor.{IsRead, IsUnreadAt}
+use Rattle.sd_answer.specs.Lint.{IsLintText}
+use Rattle.sd_answer.specs.Mask.{IsMaskErrorIn, IsMaskIn}
+use Rattle.sd_answer.specs.Parts.{entries_in, parts_in}
+use Rattle.sd_answer.specs.Rights.{rights_line}
+use Rattle.sd_answer.specs.Who.{rights_asked, who_text}
+use Rattle.sd_answer.specs.Why.{why_text}
+use Rattle.sd_answer.specs.Word.{AreGroups, IsFirstNoGroup, IsFirstNoWord, IsToken, texts}
+use Rattle.sd_commands.specs.Analysis.{AreAccesses}
+use Rattle.sd_commands.specs.Bytes.{BytesRead, bytes_read, form_name, has_sacl, without_sacl}
+use Rattle.sd_usage.specs.declared.row.TextCommand.{TextCommand}
+use Rattle.sd_usage.specs.declared.row.TextCommand.TheVariants as questions
+use Rattle.sd_commands.specs.Pointer.{pointed}
+use Rattle.sd_commands.specs.Risks.{risk_lines}
+use Rattle.sd_commands.specs.Sort.{move_notes, sorted_descriptor}
+use Rattle.sd_commands.specs.Diagnostic.{at_byte, fault_text, sacl_note, sddl_fault_text, told_line, told_wire_fault}
+use Rattle.sd_commands.specs.Diagnostic.{wire_fault_text, word_argument}
+use Rattle.sd_commands.specs.Diagnostic.{IsStateReason, IsWordReason}
+use Rattle.sd_commands.specs.declared.command_answer.Answer.{Answer}
+use Rattle.sd_usage.specs.declared.row.DescriptorCommand.{DescriptorCommand}
+use Rattle.sd_usage.specs.declared.row.DescriptorCommand.TheVariants as about
+use Rattle.sd_commands.specs.declared.command_answer.Outcome.{Outcome}
+use Rattle.sd_commands.specs.declared.command_answer.Outcome.TheVariants.{Done, Refused, Fault}
+use Rattle.sd_commands.specs.declared.descriptor.Given.{Given}
+use Rattle.sd_commands.specs.declared.descriptor.Given.TheVariants as givens
+use Rattle.sd_answer.specs.declared.verdict_line.Spelling.{Spelling}
+use Rattle.sd_commands.specs.declared.settings.Settings.{Settings}
+use Rattle.sd_commands.specs.declared.verdict.Form.{Form}
+use Rattle.sd_commands.specs.declared.verdict.Form.TheVariants.{Short, Explained}
+
+-- ---- lines
+
+abbrev pub verdict_outcome : Verdict → Outcome
+verdict_outcome (Granted mask) = Done
+verdict_outcome verdict = Refused
+
+-- the line for bytes that hold no descriptor
+abbrev pub wire_fault_line : WireFault → List ℕ
+wire_fault_line fault = line (codes "fault wire " ++ wire_fault_text fault)
+
+-- the status behind an answer: that of a fault is one of its own where this is asked for
+abbrev pub outcome_status : Bool → Outcome → ℕ
+outcome_status is_strict Done = 0
+outcome_status is_strict Refused = 1
+outcome_status is_strict Fault = if is_strict then 4 else 1
+
+-- the worse of two: a fault, or else a refusal
+abbrev pub or_worse : Outcome → Outcome → Outcome
+or_worse Fault other = Fault
+or_worse Refused Fault = Fault
+or_worse Refused other = Refused
+or_worse Done other = other
+
+-- ---- answers
+
+-- what is printed, what standard error is told beside it, and what came of it
+pub record AnswerValue : Type 0 where
+  pub printed : List ℕ
+  pub told : List ℕ
+  pub outcome : Outcome
+
+abbrev pub answer_of : Answer → AnswerValue
+answer_of answer = record {
+  printed = string_bytes answer.text;
+  told = string_bytes answer.told;
+  outcome = answer.outcome;
+}
+
+abbrev pub IsAnswer : List ℕ → List ℕ → Outcome → AnswerValue → Type 0
+IsAnswer printed told outcome answer =
+    (answer.printed ≡ printed) × (answer.told ≡ told) × (answer.outcome ≡ outcome)
+
+-- this text is printed, and what was asked for was done
+abbrev pub IsDone : List ℕ → AnswerValue → Type 0
+IsDone printed = IsAnswer printed [] Done
+
+-- this line of a fault is printed, and this is told of it
+abbrev pub IsFault : List ℕ → List ℕ → AnswerValue → Type 0
+IsFault printed told = IsAnswer printed told Fault
+
+-- an argument's text has this fault first; out of memory is no answer
+abbrev pub IsFaultOf : Settings → List ℕ → List ℕ → List ℕ → TextError → AnswerValue → Type 0
+IsFaultOf settings what name text (FaultAt fault place) answer =
+    IsFault (fault_line what) (told_line name (fault_text settings.points text fault place)) answer
+IsFaultOf settings what name text Memory answer = ⊥
+
+-- what is answered of the mask that a text is, or its first fault
+abbrev pub AnswersOfMask : Settings → List ℕ → (ℕ → AnswerValue → Type 0) → AnswerValue → Type 0
+AnswersOfMask settings mask Answers answer =
+    ((asked : ℕ) × IsMaskIn settings.spelling mask asked × Answers asked answer)
+    ⊎ ((error : TextError) × IsMaskErrorIn settings.spelling mask error
+    × IsFaultOf settings (codes "mask") (codes "MASK") mask error answer)
+
+-- what is answered of the SID that the argument of this name is, or its first fault
+abbrev pub AnswersOfSid : List ℕ → Settings → List ℕ → (SidValue → AnswerValue → Type 0) → AnswerValue → Type 0
+AnswersOfSid argument settings text Answers answer =
+    ((sid : SidValue) × Spells (sid_text_in settings.aliases) text sid × Answers sid answer)
+    ⊎ ((error : TextError) × StandsIn (sid_text_in settings.aliases) text error
+    × IsFaultOf settings (codes "sid") argument text error answer)
+
+-- the word at the place is the first that is none, for this reason
+abbrev pub IsTokenFault : ℕ → List ℕ → List ℕ → AnswerValue → Type 0
+IsTokenFault place word reason = IsFault (fault_line (codes "token")) (told_line (word_argument place word) reason)
+
+-- ---- arguments
+
+-- the argument at the place, empty where there is none
+abbrev pub argument : List (Bor (List ℕ)) → ℕ → List ℕ
+argument arguments place = option_map_or (λ text. text.now) (slice_get arguments place) []
+
+-- ---- a descriptor's text
+
+-- the other answer, and where a SACL was left out, that is told first
+unfoldable pub IsNoted : List ℕ → Bool → AnswerValue → AnswerValue → Type 0
+IsNoted argument left_out inner answer = answer ≡ record inner { told = sacl_note argument left_out ++ inner.told }
+
+-- what is answered otherwise, with that
+abbrev pub Noting : List ℕ → Bool → (AnswerValue → Type 0) → AnswerValue → Type 0
+Noting argument left_out Answers answer =
+    (inner : AnswerValue) × IsNoted argument left_out inner answer × Answers inner
+
+-- what a DACL is in place of a list of entries
+abbrev pub without_list : Dacl → Option (List ℕ)
+without_list Absent = Some (codes "no DACL")
+without_list Null = Some (codes "a null DACL")
+without_list (Entries es) = None
+
+-- under `--require-dacl`, what a DACL is in place of a list: without one everything is granted ([MS-DTYP] 2.5.3.2)
+abbrev pub missing_dacl : Bool → Dacl → Option (List ℕ)
+missing_dacl is_required dacl = if is_required then without_list dacl else None
+
+-- the descriptor lacks the list that is required
+abbrev pub IsMissingDacl : List ℕ → List ℕ → AnswerValue → Type 0
+IsMissingDacl argument missing answer = IsFault (fault_line (codes "nodacl")) (told_line argument missing) answer
+
+-- the argument of this name isn't taken: the first fault of its text is printed, or that its descriptor lacks a list
+abbrev pub IsRefusedArgument : List ℕ → Settings → List ℕ → AnswerValue → Type 0
+IsRefusedArgument argument settings written answer =
+    ((fault : TextFault) × (place : ℕ) × IsUnreadAt settings.aliases settings.without_sacl written fault place
+    × IsFault (sddl_fault_line fault place)
+    (told_line argument (sddl_fault_text settings.points written fault place)) answer)
+    ⊎ ((d : DescriptorValue) × (left_out : Bool) × (missing : List ℕ)
+    × IsRead settings.aliases settings.without_sacl written d left_out
+    × (missing_dacl settings.require_dacl d.dacl ≡ Some missing)
+    × Noting argument left_out (IsMissingDacl argument missing) answer)
+
+-- the argument is this descriptor, and it is taken
+abbrev pub IsTaken : Settings → List ℕ → DescriptorValue → Bool → Type 0
+IsTaken settings written d left_out = IsRead settings.aliases settings.without_sacl written d left_out
+    × (missing_dacl settings.require_dacl d.dacl ≡ None)
+
+-- what the argument of this name is
+abbrev pub IsGiven : List ℕ → Settings → List ℕ → Given → Type 0
+IsGiven argument settings written (givens.Descriptor read) =
+    IsTaken settings written (descriptor_of read.descriptor) read.left_out
+IsGiven argument settings written (givens.Refused answer) = IsRefusedArgument argument settings written
+    (answer_of answer)
+
+-- what is answered of the descriptor that the argument of this name is, or that it is none that is taken
+abbrev pub AnswersOfArgument : List ℕ → Settings → List ℕ → (DescriptorValue → AnswerValue → Type 0) → AnswerValue
+    → Type 0
+AnswersOfArgument argument settings written Answers answer =
+    ((d : DescriptorValue) × (left_out : Bool) × IsTaken settings written d left_out
+    × Noting argument left_out (Answers d) answer)
+    ⊎ IsRefusedArgument argument settings written answer
+
+-- ---- verdicts
+
+-- the verdict's line, or with it the reasons
+abbrev pub form_text : Settings → Form → DescriptorValue → TokenValue → ℕ → List ℕ
+form_text settings Short d token asked = verdict_line settings.spelling
+    (verdict d.owner (dacl_entries d.dacl) settings.mapping token asked)
+form_text settings Explained d token asked = why_text settings.mapping settings.spelling d token asked
+
+-- the verdict is printed, in this form
+abbrev pub IsVerdict : Settings → Form → DescriptorValue → TokenValue → ℕ → AnswerValue → Type 0
+IsVerdict settings form d token asked answer =
+    IsAnswer (form_text settings form d token asked) []
+    (verdict_outcome (verdict d.owner (dacl_entries d.dacl) settings.mapping token asked)) answer
+
+-- the first of the words that is none, and why
+abbrev pub IsFirstFault : (List (List ℕ) → ℕ → Type 0) → (List ℕ → List ℕ → Type 0) → List (Bor (List ℕ)) → AnswerValue
+    → Type 0
+IsFirstFault IsFirst IsReason words answer =
+    (place : ℕ) × IsFirst (texts words) place
+    × (reason : List ℕ) × IsReason (argument words place) reason
+    × IsTokenFault place (argument words place) reason answer
+
+abbrev pub IsWordFault : Settings → List (Bor (List ℕ)) → AnswerValue → Type 0
+IsWordFault settings =
+    IsFirstFault (IsFirstNoWord settings.aliases) (IsWordReason settings.points settings.aliases)
+
+abbrev pub IsGroupFault : Settings → List (Bor (List ℕ)) → AnswerValue → Type 0
+IsGroupFault settings =
+    IsFirstFault (IsFirstNoGroup settings.aliases) (IsStateReason settings.points settings.aliases)
+
+-- the words make a token, for which this is the verdict; or one of them is no word
+abbrev pub AnswersWords : Settings → Form → DescriptorValue → SidValue → ℕ → List (Bor (List ℕ)) → AnswerValue → Type 0
+AnswersWords settings form d user asked words answer =
+    ((token : TokenValue) × IsToken settings.aliases user (texts words) token
+    × IsVerdict settings form d token asked answer)
+    ⊎ IsWordFault settings words answer
+
+-- the arguments are the user, the mask and words
+abbrev pub AnswersUser : Settings → Form → List (Bor (List ℕ)) → DescriptorValue → AnswerValue → Type 0
+AnswersUser settings form arguments d = AnswersOfSid (codes "USER") settings (argument arguments 0)
+    (λ user. AnswersOfMask settings (argument arguments 1)
+    (λ asked. AnswersWords settings form d user asked (drop 2 arguments)))
+
+-- ---- other forms
+
+-- the canonical text, or where masks are spelled by names, with those of their kind of object alone
+abbrev pub printed_line : Spelling → DescriptorValue → List ℕ
+printed_line spelling d = line (canon_in (right_names_of spelling) d)
+
+-- the printed text of a descriptor whose DACL is put in canonical order; standard error says what moved
+abbrev pub IsSorted : Settings → DescriptorValue → AnswerValue → Type 0
+IsSorted settings d = IsAnswer (printed_line settings.spelling (sorted_descriptor d))
+    (move_notes settings.spelling d.dacl) Done
+
+-- the printed text of a descriptor, where it doesn't lack the list that is required
+abbrev pub AnswersFit : Settings → Option (List ℕ) → DescriptorValue → AnswerValue → Type 0
+AnswersFit settings None d answer = IsDone (printed_line settings.spelling d) answer
+AnswersFit settings (Some missing) d answer = IsMissingDacl (codes "BYTES") missing answer
+
+-- the printed text of the descriptor that bytes hold, or their fault
+abbrev pub AnswersRead : Settings → List ℕ → Result DescriptorValue WireFault → AnswerValue → Type 0
+AnswersRead settings bytes (Ok d) answer = AnswersFit settings (missing_dacl settings.require_dacl d.dacl) d answer
+AnswersRead settings bytes (Err fault) answer = IsFault (wire_fault_line fault)
+    (told_line (codes "BYTES") (told_wire_fault bytes fault)) answer
+
+abbrev pub AnswersHeld : Settings → List ℕ → AnswerValue → Type 0
+AnswersHeld settings bytes answer = AnswersRead settings bytes (descriptor_read bytes) answer
+
+-- the printed text of the descriptor that bytes hold, or their fault; `--without-sacl` leaves a SACL out
+abbrev pub AnswersBytes : Settings → List ℕ → AnswerValue → Type 0
+AnswersBytes settings bytes answer = MatchBool settings.without_sacl
+    (Noting (codes "BYTES") (has_sacl bytes) (AnswersHeld settings (without_sacl bytes)) answer)
+    (AnswersHeld settings bytes answer)
+
+-- the printed text of the descriptor that a text spells in bytes, or a fault: it spells none
+abbrev pub AnswersDecoded : Settings → List ℕ → BytesRead → AnswerValue → Type 0
+AnswersDecoded settings written (Ok bytes) answer = AnswersBytes settings bytes answer
+AnswersDecoded settings written (Err (what, place)) answer = IsFault (fault_line (form_name settings.bytes))
+    (told_line (codes "BYTES") (at_byte what place ++ pointed settings.points written place)) answer
+
+abbrev pub AnswersFromBinary : Settings → List ℕ → AnswerValue → Type 0
+AnswersFromBinary settings written = AnswersDecoded settings written (bytes_read settings.bytes written)
+
+-- ---- whom rights are granted to, and changes
+
+-- the words are a base, of which this is answered; or one of them is no group
+abbrev pub AnswersOfBase : Settings → List (Bor (List ℕ)) → (List (SidValue × GroupState) → AnswerValue → Type 0)
+    → AnswerValue → Type 0
+AnswersOfBase settings words Answers answer =
+    ((base : List (SidValue × GroupState)) × AreGroups settings.aliases (texts words) base × Answers base answer)
+    ⊎ IsGroupFault settings words answer
+
+-- whom the rights are granted to is printed
+abbrev pub PrintsWho : Settings → ℕ → DescriptorValue → List (SidValue × GroupState) → AnswerValue → Type 0
+PrintsWho settings asked d base answer =
+    (accesses : List Access) × AreAccesses settings.mapping d base (rights_asked settings.mapping asked) accesses
+    × IsDone (who_text settings.spelling accesses) answer
+
+-- what tokens gain and lose of the object itself
+abbrev pub AreOwnChanges : Settings → DescriptorValue → DescriptorValue → List (SidValue × GroupState) → List ℕ → Type 0
+AreOwnChanges settings old new base text =
+    (gained : List Change) × (lost : List Change)
+    × AreGains settings.mapping base (parts_in old) (parts_in new) gained
+    × AreGains settings.mapping base (parts_in new) (parts_in old) lost
+    × (text ≡ gains_and_losses settings.spelling [] (parts_in old) (parts_in new) gained lost)
+
+-- what tokens gain and lose of all that is made in the object, if it is a container
+abbrev pub AreDescendantLines : Settings → DescriptorValue → DescriptorValue → List (SidValue × GroupState) → List ℕ
+    → Type 0
+AreDescendantLines settings old new base text =
+    (changes : List DescendantChange)
+    × AreDescendantChanges settings.mapping base (entries_in old.dacl) (entries_in new.dacl) changes
+    × (text ≡ descendants_text settings.spelling [] changes)
+
+-- what was found is printed, or that there is nothing
+abbrev pub IsFound : List ℕ → List ℕ → AnswerValue → Type 0
+IsFound nothing [] answer = IsDone nothing answer
+IsFound nothing (b ∷ bs) answer = IsAnswer (b ∷ bs) [] Refused answer
+
+-- what tokens gain and lose is printed, and whether the list inherits where it did not; or that nothing of it changes
+abbrev pub PrintsComparison : Settings → DescriptorValue → DescriptorValue → List (SidValue × GroupState) → AnswerValue
+    → Type 0
+PrintsComparison settings old new base answer =
+    (own : List ℕ) × (below : List ℕ) × AreOwnChanges settings old new base own
+    × AreDescendantLines settings old new base below
+    × IsFound (line (codes "same")) ((own ++ below) ++ inheritance_text old.protected new.protected) answer
+
+-- ---- findings
+
+-- the findings are printed, or that there are none
+abbrev pub PrintsFindings : Settings → DescriptorValue → List (SidValue × GroupState) → AnswerValue → Type 0
+PrintsFindings settings d base answer = (lines : List ℕ) × IsLintText settings.mapping settings.spelling base d lines
+    × IsFound (line (codes "clean")) (lines ++ risk_lines settings d base) answer
+
+-- ---- rights
+
+-- the mask's rights by name
+abbrev pub AnswersRights : Settings → List ℕ → AnswerValue → Type 0
+AnswersRights settings mask = AnswersOfMask settings mask (λ asked. IsDone (rights_line settings.kind asked))
+
+-- the SID in full
+abbrev pub AnswersSid : Settings → List ℕ → AnswerValue → Type 0
+AnswersSid settings text = AnswersOfSid (codes "SID") settings text (λ sid. IsDone (line (full_canon sid)))
+
+-- ---- commands
+
+-- what is answered of a descriptor, where these are the arguments after it: the user, the mask and words; the mask and
+-- a base; the new descriptor and a base; or a base
+abbrev pub AnswersOn : Settings → DescriptorCommand → List (Bor (List ℕ)) → DescriptorValue → AnswerValue → Type 0
+AnswersOn settings about.Verdict arguments d = AnswersUser settings Short arguments d
+AnswersOn settings about.Why arguments d = AnswersUser settings Explained arguments d
+AnswersOn settings about.Who arguments d = AnswersOfMask settings (argument arguments 0)
+    (λ asked. AnswersOfBase settings (drop 1 arguments) (PrintsWho settings asked d))
+AnswersOn settings about.Compare arguments old = AnswersOfArgument (codes "NEW") settings (argument arguments 0)
+    (λ new. AnswersOfBase settings (drop 1 arguments) (PrintsComparison settings old new))
+AnswersOn settings about.Lint arguments d = AnswersOfBase settings arguments (PrintsFindings settings d)
+AnswersOn settings about.Print arguments d = IsDone (printed_line settings.spelling d)
+AnswersOn settings about.Sort arguments d = IsSorted settings d
+-- the self-relative form in hexadecimal
+AnswersOn settings about.ToBinary arguments d = IsDone (line (encode_lower (wire_of d)))
+
+-- the name of the argument that a command's descriptor is
+abbrev pub descriptor_name : DescriptorCommand → List ℕ
+descriptor_name about.Compare = codes "OLD"
+descriptor_name question = codes "SDDL"
+
+-- what a command answers to a text and the arguments after it
+abbrev pub AnswersQuestion : Settings → TextCommand → List ℕ → List (Bor (List ℕ)) → AnswerValue → Type 0
+AnswersQuestion settings (questions.Descriptor question) text arguments =
+    AnswersOfArgument (descriptor_name question) settings text (AnswersOn settings question arguments)
+AnswersQuestion settings questions.FromBinary text arguments = AnswersFromBinary settings text
+AnswersQuestion settings questions.Rights text arguments = AnswersRights settings text
+AnswersQuestion settings questions.Sid text arguments = AnswersSid settings text

@@ -1,0 +1,13 @@
+-- The reason is that of the SID.
+use Rattle.std.proofs.Common.{codes, string_bytes, subst}
+use Rattle.std.proofs.lemmas.Result.{IfOk-weaker}
+use Rattle.sd_commands.specs.CommandAnswer.{answer_of}
+use Rattle.sd_questions.specs.TextAnswer.{IsBadOption}
+use Rattle.sd_questions.proofs.text_answer.bad_value.Goals as goal
+
+pub returns-in_ok-reason-in-NoDomain : goal.returns-in_ok-reason-in-NoDomain
+returns-in_ok-reason-in-NoDomain c = rw (c.in-NoDomain.is) (IfOk-weaker c.bad_option.result _ _ (λ answer is. (
+  string_bytes c.in_ok-reason-in-NoDomain.reason,
+  c.in_ok-reason-in-NoDomain.ensures,
+  subst (λ reason. IsBadOption (codes "domain") reason (answer_of answer)) c.as_str.ensures.value is,
+)) c.bad_option.ensures)

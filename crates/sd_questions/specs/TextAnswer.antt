@@ -1,0 +1,174 @@
+-- The answer to a question: of a text, of the input, or of each of its lines.
+use Rattle.std.specs.Prelude.{◌≡◌, ◌⊎◌, ℕ, ◌==◌, Bool, true, false, ◌&&◌, MatchBool, List, [], ◌++◌, length, Option}
+use Rattle.std.specs.Prelude.{Some, None, IfSome, if◌then◌else◌, MatchResult, Result, codes}
+use Rattle.std.specs.Borrow.{Bor}
+use Rattle.std.specs.Str.{IsUtf8}
+use Rattle.sd_answer.specs.VerdictLine.{fault_line}
+use Rattle.sd_script.specs.Ids.{tagged}
+use Rattle.sd_lines.specs.Answers.{PrintsAndLeaves}
+use Rattle.sd_lines.specs.Decoder.{decoded}
+use Rattle.sd_lines.specs.declared.ending.Ending.TheVariants as endings
+use Rattle.sd_lines.specs.declared.form.Form.{Form}
+use Rattle.sd_json.specs.Text.{printed_as}
+use Rattle.sd_json.specs.declared.tagging.Tagging.TheVariants.{Key, Nothing}
+use Rattle.sd_text.specs.Alias.{in_domain}
+use Rattle.sd_usage.specs.declared.row.OptionName.TheVariants.{Json}
+use Rattle.sd_usage.specs.declared.row.DescriptorCommand.TheVariants as about
+use Rattle.sd_usage.specs.declared.row.TextCommand.{TextCommand}
+use Rattle.sd_usage.specs.declared.row.TextCommand.TheVariants.{Descriptor}
+use Rattle.sd_commands.specs.CommandAnswer.{AnswerValue, AnswersQuestion, IsFault, argument}
+use Rattle.sd_commands.specs.Diagnostic.{told_line, IsSidReason}
+use Rattle.sd_commands.specs.declared.command_answer.Outcome.{Outcome}
+use Rattle.sd_commands.specs.declared.command_answer.Outcome.TheVariants.{Fault}
+use Rattle.sd_commands.specs.declared.settings.Settings.{Settings}
+use Rattle.sd_arguments.specs.CommandLine.{RequestValue}
+use Rattle.sd_arguments.specs.Options.{OptionsValue, GivesSettings, has}
+use Rattle.sd_arguments.specs.declared.flags.GivenFlags.{GivenFlags}
+use Rattle.sd_arguments.specs.declared.options.BadValue.{BadValue}
+use Rattle.sd_arguments.specs.declared.options.BadValue.TheVariants.{NoDomain, NoEdits, NoMapping, NoNodes}
+use Rattle.sd_questions.specs.Each.{after_key, has_key, key_of, outcome_of_lines, told_of_lines, with_line}
+use Rattle.sd_questions.specs.Input.{is_blank, is_utf16, without_end}
+
+-- ---- values of options that aren't read
+
+-- the value of an option isn't read
+abbrev pub IsBadOption : List ℕ → List ℕ → AnswerValue → Type 0
+IsBadOption name reason answer = IsFault (fault_line name) (told_line (codes "--" ++ name) reason) answer
+
+abbrev pub IsBadValue : BadValue → AnswerValue → Type 0
+IsBadValue (NoDomain text points) answer =
+    (reason : List ℕ) × IsSidReason points (in_domain None)
+    (codes "no domain: S-1-5-21 and three numbers, as S-1-5-21-1-2-3") text.now reason
+    × IsBadOption (codes "domain") reason answer
+IsBadValue NoMapping answer = IsBadOption (codes "mapping")
+    (codes "no such mapping: file, key, service, process, or four masks R,W,X,A") answer
+IsBadValue NoNodes answer = IsBadOption (codes "nodes") (codes "no number of nodes, 1 to 16777216") answer
+IsBadValue NoEdits answer = IsBadOption (codes "edits") (codes "no number of edits, 0 to 4294967296") answer
+
+-- ---- questions that have an answer
+
+-- which of the texts that are compared is blank
+abbrev pub blank_name : TextCommand → List ℕ → List (Bor (List ℕ)) → Option (List ℕ)
+blank_name (Descriptor about.Compare) text arguments =
+    if is_blank text then Some (codes "OLD")
+    else (if is_blank (argument arguments 0) then Some (codes "NEW") else None)
+blank_name question text arguments = None
+
+abbrev pub asks_who : TextCommand → Bool
+asks_who (Descriptor about.Who) = true
+asks_who question = false
+
+-- where nothing is printed, that is said: no right was asked for
+abbrev pub IsSaid : Bool → AnswerValue → AnswerValue → Type 0
+IsSaid true plain answer =
+    IsFault (fault_line (codes "mask")) (told_line (codes "MASK") (codes "no right is asked for")) answer
+IsSaid false plain answer = answer ≡ plain
+
+-- a blank text isn't compared; or else the command's answer to the text, but `who` of no right is a fault
+abbrev pub AnswersWith : Option (List ℕ) → Settings → RequestValue → List ℕ → AnswerValue → Type 0
+AnswersWith (Some name) settings request text answer =
+    IsFault (fault_line (codes "blank")) (told_line name (codes "blank")) answer
+AnswersWith None settings request text answer =
+    (plain : AnswerValue) × AnswersQuestion settings request.question text request.arguments plain
+    × IsSaid (asks_who request.question && length plain.printed == 0) plain answer
+
+abbrev pub AnswersText : Settings → RequestValue → List ℕ → AnswerValue → Type 0
+AnswersText settings request text answer =
+    AnswersWith (blank_name request.question text request.arguments) settings request text answer
+
+-- the other answer, and advice after what standard error is told otherwise, which rows of tests show
+abbrev pub Advising : (AnswerValue → Type 0) → AnswerValue → Type 0
+Advising Answers answer = (plain : AnswerValue) × (advice : List ℕ) × Answers plain
+    × (answer ≡ record plain { told = plain.told ++ advice })
+
+-- ---- the text that an input is
+
+-- the input is no text that a command answers
+abbrev pub IsInputFault : List ℕ → List ℕ → AnswerValue → Type 0
+IsInputFault name reason answer = IsFault (fault_line name) (told_line (codes "standard input") reason) answer
+
+-- the command's answer to the text of an input, but a blank one is a fault. What is no character in it isn't UTF-8
+abbrev pub AnswersInput : Settings → RequestValue → List ℕ → AnswerValue → Type 0
+AnswersInput settings request input answer =
+    let text = without_end (decoded input) in
+    (IsUtf8 text × MatchBool (is_blank text)
+    (IsInputFault (codes "blank") (codes "blank") answer)
+    (Advising (AnswersText settings request text) answer))
+    ⊎ ((IsUtf8 text → ⊥) × MatchBool (is_utf16 input)
+    (IsInputFault (codes "utf16") (codes "not UTF-16") answer)
+    (IsInputFault (codes "utf8") (codes "not UTF-8") answer))
+
+-- ---- one answer
+
+-- what answers a text, or without one the input where it is known, under these settings
+abbrev pub AnswersUnder : Option (List ℕ) → Option (List ℕ) → RequestValue → Settings → AnswerValue → Type 0
+AnswersUnder input (Some text) request settings answer = Advising (AnswersText settings request text) answer
+AnswersUnder input None request settings answer =
+    (text : List ℕ) × IfSome input (λ bytes. text ≡ bytes) × AnswersInput settings request text answer
+
+-- what answers a text, or without one the input where it is known, under what the options say
+abbrev pub AnswersOnce : Option (List ℕ) → OptionsValue → Option (List ℕ) → RequestValue → AnswerValue → Type 0
+AnswersOnce input options text request answer =
+    (said : Result Settings BadValue) × GivesSettings options said × MatchResult said
+    (λ settings. AnswersUnder input text request settings answer) (λ bad. IsBadValue bad answer)
+
+-- ---- of each line
+
+-- the answer to a line's text is the one command's, but a blank line is a fault; no text is told of a line that is too
+-- long
+abbrev pub AnswersTold : Result Settings BadValue → RequestValue → Option (List ℕ) → AnswerValue → Type 0
+AnswersTold settings request None answer = IsFault (fault_line (codes "long")) [] answer
+AnswersTold settings request (Some text) answer =
+    (IsUtf8 text × MatchBool (is_blank text) (IsFault (fault_line (codes "blank")) [] answer)
+    (MatchResult settings (λ said. AnswersText said request text answer)
+    (λ bad. IsBadValue bad answer)))
+    ⊎ ((IsUtf8 text → ⊥) × IsFault (fault_line (codes "utf8")) [] answer)
+
+-- what follows each answer: an empty line, where an answer may have several lines
+abbrev pub after_answer : TextCommand → List ℕ
+after_answer (Descriptor about.Why) = codes "\n"
+after_answer (Descriptor about.Who) = codes "\n"
+after_answer (Descriptor about.Compare) = codes "\n"
+after_answer (Descriptor about.Lint) = codes "\n"
+after_answer question = []
+
+-- a line's answer, and what came of it
+abbrev pub AnswersLine : Result Settings BadValue → RequestValue → Option (List ℕ) → List ℕ → Outcome → Type 0
+AnswersLine settings request told printed outcome =
+    (answer : AnswerValue) × AnswersTold settings request told answer
+    × (printed ≡ answer.printed ++ after_answer request.question) × (outcome ≡ answer.outcome)
+
+-- where lines have keys, the same of one that is a key, a tab and a text, with the key and the tab before each line of
+-- the text's answer; one without a key is a fault
+abbrev pub AnswersLineIn : Bool → Result Settings BadValue → RequestValue → Option (List ℕ) → List ℕ → Outcome → Type 0
+AnswersLineIn true settings request (Some line) printed outcome = MatchBool (has_key line)
+    ((answer : List ℕ) × AnswersLine settings request (Some (after_key line)) answer outcome
+    × (printed ≡ tagged (key_of line) true answer))
+    ((printed ≡ fault_line (codes "key") ++ after_answer request.question) × (outcome ≡ Fault))
+AnswersLineIn has_keys settings request told printed outcome = AnswersLine settings request told printed outcome
+
+-- what is printed of a line's answer, plain or as JSON, and the worst outcome of the lines up to this one
+abbrev pub AnswersNext : (has_keys is_json : Bool) → Result Settings BadValue → RequestValue → Option Outcome
+    → Option (List ℕ) → List ℕ → Option Outcome → Type 0
+AnswersNext has_keys is_json settings request before told printed after =
+    (plain : List ℕ) × (outcome : Outcome) × AnswersLineIn has_keys settings request told plain outcome
+    × (printed ≡ printed_as is_json (if has_keys then Key else Nothing) plain) × (after ≡ with_line before outcome)
+
+-- the lines of an input, each of which a zero byte or a line feed ends. One that is too long is answered too
+abbrev pub form_of : Bool → Form
+form_of zero = record {
+  ending = if zero then endings.Zero else endings.Feed;
+  skips_mark = true;
+  stops_at_long = false;
+  line_by_line = false;
+}
+
+-- the lines' answers, one after the other, all under the same settings; the worst of what came of them, and a fault
+-- where there is none
+abbrev pub AnswersEach : OptionsValue → GivenFlags → RequestValue → Option (List ℕ) → AnswerValue → Type 0
+AnswersEach options given request input answer =
+    (settings : Result Settings BadValue) × GivesSettings options settings
+    × (text : List ℕ) × (last : Option Outcome) × IfSome input (λ bytes. text ≡ bytes)
+    × PrintsAndLeaves (form_of given.zero) (AnswersNext given.key (has options Json) settings request) None text
+    answer.printed last
+    × ((advice : List ℕ) × (answer.told ≡ told_of_lines last advice)) × (answer.outcome ≡ outcome_of_lines last)

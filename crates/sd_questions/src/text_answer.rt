@@ -1,0 +1,78 @@
+//! The one answer of a command to a text.
+ghost use Rattle.std.specs.Prelude.{◌≡◌, ◌≢◌, ◌||◌, true, Err, IfErr, IfOk, is_some, option_map};
+ghost use Rattle.sd_lines.specs.Watched.{has_failed, inner_of};
+ghost use Rattle.sd_lines.specs.Streams.{ReadsPart, is_read_error};
+ghost use Rattle.sd_commands.specs.CommandAnswer.{answer_of};
+ghost use Rattle.sd_questions.specs.TextAnswer.{AnswersOnce, IsBadOption, IsBadValue};
+ghost use Rattle.sd_arguments.specs.CommandLine.{request_of};
+ghost use Rattle.sd_arguments.specs.Options.{options_of};
+
+use crate::advised::advised;
+use crate::input::answer_input;
+use sd_arguments::{BadValue, Options, TextRequest};
+use sd_commands::{Answer, fault, sid_reason, told_line};
+use sd_lines::{RunError, Watched, read_whole};
+use sd_text::Aliases;
+use std::alloc::{AllocError, Global};
+use std::io::Read;
+
+/// The answer to a text, or without one to the input, before its lines are objects. Only without one it uses `reader`.
+pub fn answer_to<R: Read>(
+    alloc: Global,
+    options: Options<'_>,
+    text: Option<&str>,
+    request: TextRequest<'_>,
+    reader: &mut Watched<R>,
+) -> Result<Answer, RunError>
+    ensures ok { IfOk result (λ answer. AnswersOnce (R.remaining (inner_of reader.old)) (options_of options.entry)
+        (option_map (λ text. text.now) text.entry) (request_of request.entry) (answer_of answer)) }
+    ensures err { IfErr result (λ error. (error ≢ RunError.Write) × (error ≢ RunError.Thread)) }
+    ensures read { has_failed reader.new ≡ (has_failed reader.old || is_read_error result) }
+    ensures too_long { result ≡ Err RunError.TooLong
+        → ReadsPart (R.remaining (inner_of reader.old)) (R.remaining (inner_of reader.new)) RunError.TooLong }
+    ensures unused { is_some text.entry ≡ true → reader.new ≡ reader.old }
+{
+    let settings = match options.settings() {
+        Ok(settings) => settings,
+        Err(bad) => return Ok(bad_value(alloc, bad)?),
+    };
+    match text {
+        Some(text) => Ok(advised(alloc, settings, request, text)?),
+        None => {
+            let input = read_whole(alloc, reader)?;
+            Ok(answer_input(alloc, settings, request, &input)?)
+        }
+    }
+}
+
+/// The answer to an option whose value isn't read. The only error is out of memory.
+pub fn bad_value(alloc: Global, bad: BadValue<'_>) -> Result<Answer, AllocError>
+    ensures { IfOk result (λ answer. IsBadValue bad.entry (answer_of answer)) }
+{
+    match bad {
+        BadValue::NoDomain { text, points } => {
+            let known = Aliases {
+                domain: None,
+                later: false,
+            };
+            let unfit = "no domain: S-1-5-21 and three numbers, as S-1-5-21-1-2-3";
+            let reason = sid_reason(alloc, points, known, unfit, text)?;
+            bad_option(alloc, "domain", reason.as_str())
+        }
+        BadValue::NoMapping => {
+            let reason = "no such mapping: file, key, service, process, or four masks R,W,X,A";
+            bad_option(alloc, "mapping", reason)
+        }
+        BadValue::NoNodes => bad_option(alloc, "nodes", "no number of nodes, 1 to 16777216"),
+        BadValue::NoEdits => bad_option(alloc, "edits", "no number of edits, 0 to 4294967296"),
+    }
+}
+
+/// The answer to the option of this name, whose value isn't read for this reason.
+fn bad_option(alloc: Global, name: &str, reason: &str) -> Result<Answer, AllocError>
+    ensures { IfOk result (λ answer. IsBadOption name.now reason.now (answer_of answer)) }
+{
+    let option = format!(in alloc; "--{name}")?;
+    let told = told_line(alloc, option.as_str(), reason)?;
+    fault(alloc, name, told)
+}

@@ -1,0 +1,336 @@
+//! What a line asks for, and how a command's arguments are parsed.
+ghost use Rattle.std.specs.Prelude.{◌≡◌, ◌∷◌, [], Some, Ok};
+ghost use Rattle.sd_script.specs.Command.{Parses, adds, asks, asks_groups, asks_taking, deletes, kind_named, posed};
+ghost use Rattle.sd_script.specs.Command.{poses};
+ghost use Rattle.sd_script.specs.declared.line_request.LineRequest.TheVariants.{Asking, Viewing};
+ghost use Rattle.sd_edit.specs.declared.request.Request.TheVariants as requests;
+ghost use Rattle.sd_answer.specs.Word.{texts};
+
+use crate::argument::{Parser, number_in};
+use crate::command::{CommandWithArguments, ScriptCommand};
+use crate::fault::LineStop;
+use crate::view::ViewRequest;
+use sd_check::Token;
+use sd_sid::Mask;
+use sd_tree::{Edit, Entries, NodeKind, Path, RootSpec};
+use sd_versions::Request;
+
+/// What a line asks for.
+// (A token makes it large: more than one caller of a function here, or a match on two values at once, moves it more.)
+#[derive(Debug, Drop)]
+pub enum LineRequest {
+    /// A store for so many readers, with this root.
+    Opening {
+        readers: u64,
+        root: RootSpec,
+    },
+    /// Something of the store that is open.
+    Asking(Request),
+    /// Of the store that is open, why it answers a reader's check as it does ([MS-DTYP] 2.5.3.2).
+    Explaining {
+        reader: u64,
+        path: Path,
+        token: Token,
+        asked: Mask,
+    },
+    /// Of the store that is open, which nodes at and below a path grant what a reader asks for ([MS-DTYP] 2.5.3.2).
+    Finding {
+        reader: u64,
+        path: Path,
+        token: Token,
+        asked: Mask,
+    },
+    /// Of the store that is open, whether a reader's user may delete a node: by DELETE on it, or by FILE_DELETE_CHILD
+    /// on its parent ([MS-FSA] 2.1.5.1.2.1).
+    Deleting {
+        reader: u64,
+        path: Path,
+        token: Token,
+    },
+    /// A view of the published tree.
+    Viewing(ViewRequest),
+    /// A node, and how its entries compare with those that it had elsewhere.
+    Importing {
+        edit: Edit,
+        path: Path,
+        given: Entries,
+    },
+}
+
+/// What is asked of a reader and a path for a token.
+#[derive(Clone, Copy)]
+enum TokenQuestion {
+    Check,
+    Why,
+    Find,
+}
+
+/// What a command's arguments ask for, or the first from the left that is rejected; none where the command doesn't take
+/// as many.
+pub(crate) type Parsed = Result<Option<LineRequest>, LineStop>;
+
+impl Parser {
+    /// What a command asks for.
+    pub(crate) fn asked(self, command: CommandWithArguments<'_>) -> Parsed
+        ensures { Parses self.notation (asks command.entry.name (texts command.entry.arguments.now)) result }
+    {
+        match command.name {
+            ScriptCommand::Who => self.who(command.arguments),
+            ScriptCommand::Delete => self.deletion(command.arguments),
+            _ => self.taking(command.name, command.arguments),
+        }
+    }
+
+    fn who(self, arguments: &[&str]) -> Parsed
+        ensures { Parses self.notation (asks ScriptCommand.Who (texts arguments.now)) result }
+    {
+        match arguments {
+            [path, mask, words @ ..] => self.granted(path, mask, words),
+            _ => Ok(None),
+        }
+    }
+
+    fn deletion(self, arguments: &[&str]) -> Parsed
+        ensures { Parses self.notation (asks ScriptCommand.Delete (texts arguments.now)) result }
+    {
+        match arguments {
+            [reader, path, user, words @ ..] => self.deleting(reader, path, user, words),
+            _ => Ok(None),
+        }
+    }
+
+    /// Who is granted a mask on a path, of groups.
+    #[tactic(auto, unfolding(crate::specs::Command::asks_groups))]
+    fn granted(self, path: &str, mask: &str, words: &[&str]) -> Parsed
+        ensures { Parses self.notation (Some (asks_groups path.now mask.now (texts words.now))) result }
+    {
+        let path = self.path(path)?;
+        let asked = self.mask(mask)?;
+        let groups = self.base(words)?;
+        view(ViewRequest::Who {
+            path,
+            groups,
+            asked,
+        })
+    }
+
+    /// Whether a user may delete a node.
+    #[tactic(auto, unfolding(crate::specs::Command::deletes))]
+    fn deleting(self, reader: &str, path: &str, user: &str, words: &[&str]) -> Parsed
+        ensures { Parses self.notation (Some (deletes reader.now path.now user.now (texts words.now))) result }
+    {
+        let reader = number_in(reader)?;
+        let path = self.path(path)?;
+        let user = self.sid(user)?;
+        let token = self.token(user, words)?;
+        Ok(Some(LineRequest::Deleting {
+            reader,
+            path,
+            token,
+        }))
+    }
+
+    /// What each other command asks for, by the number of its arguments.
+    fn taking(self, name: ScriptCommand, arguments: &[&str]) -> Parsed
+        ensures { Parses self.notation (asks_taking name (texts arguments.now)) result }
+    {
+        match arguments {
+            [] => self.alone(name),
+            [path] => self.on_one(name, path),
+            [first, second] => self.on_two(name, first, second),
+            [kind, path, sddl] => self.on_three(name, kind, path, sddl),
+            [reader, path, user, mask, words @ ..] => {
+                self.on_question(name, reader, path, user, mask, words)
+            }
+        }
+    }
+
+    /// What a command without arguments asks for.
+    fn alone(self, name: ScriptCommand) -> Parsed
+        ensures { Parses self.notation (asks_taking name []) result }
+    {
+        match name {
+            ScriptCommand::Publish => Ok(Some(LineRequest::Asking(Request::Publish))),
+            ScriptCommand::Tell => Ok(Some(LineRequest::Asking(Request::Tell))),
+            ScriptCommand::Dump => view(ViewRequest::Dump),
+            ScriptCommand::ListNodes => self.on_one(name, "/"),
+            ScriptCommand::Review => self.on_one(name, "/"),
+            _ => Ok(None),
+        }
+    }
+
+    /// What a command with a path asks for.
+    fn on_one(self, name: ScriptCommand, path: &str) -> Parsed
+        ensures { Parses self.notation (asks_taking name (path.now ∷ [])) result }
+    {
+        match name {
+            ScriptCommand::Remove => edit(Edit::Remove {
+                path: self.path(path)?,
+            }),
+            ScriptCommand::Protect => edit(Edit::ProtectKeeping {
+                path: self.path(path)?,
+            }),
+            ScriptCommand::ListNodes => view(ViewRequest::List {
+                path: self.path(path)?,
+            }),
+            ScriptCommand::Review => view(ViewRequest::Review {
+                path: self.path(path)?,
+            }),
+            _ => Ok(None),
+        }
+    }
+
+    /// What a command with two arguments asks for.
+    fn on_two(self, name: ScriptCommand, first: &str, second: &str) -> Parsed
+        ensures { Parses self.notation (asks_taking name (first.now ∷ second.now ∷ [])) result }
+    {
+        match name {
+            ScriptCommand::Open => Ok(Some(LineRequest::Opening {
+                readers: number_in(first)?,
+                root: self.node(second)?,
+            })),
+            ScriptCommand::AddContainer => self.added(NodeKind::Container, first, second),
+            ScriptCommand::AddObject => self.added(NodeKind::Object, first, second),
+            ScriptCommand::SetOwner => edit(Edit::SetOwner {
+                path: self.path(first)?,
+                owner: self.sid(second)?,
+            }),
+            ScriptCommand::SetGroup => edit(Edit::SetGroup {
+                path: self.path(first)?,
+                group: self.sid(second)?,
+            }),
+            ScriptCommand::SetDacl => edit(Edit::SetDacl {
+                path: self.path(first)?,
+                dacl: self.dacl(second)?,
+            }),
+            ScriptCommand::Move => edit(Edit::Move {
+                source: self.path(first)?,
+                target: self.path(second)?,
+            }),
+            ScriptCommand::Learn => Ok(Some(LineRequest::Asking(Request::Learn {
+                reader: number_in(first)?,
+                length: number_in(second)?,
+            }))),
+            ScriptCommand::Show => Ok(Some(LineRequest::Asking(Request::Show {
+                reader: number_in(first)?,
+                path: self.path(second)?,
+            }))),
+            _ => Ok(None),
+        }
+    }
+
+    /// A node of this kind with the descriptor of a text.
+    fn added(self, kind: NodeKind, path: &str, sddl: &str) -> Parsed
+        ensures { Parses self.notation (Some (adds kind path.now sddl.now)) result }
+    {
+        let path = self.path(path)?;
+        let node = self.node(sddl)?;
+        edit(Edit::addition(kind, path, node))
+    }
+
+    /// What a command with a kind, a path and a descriptor asks for.
+    fn on_three(self, name: ScriptCommand, kind: &str, path: &str, sddl: &str) -> Parsed
+        ensures { Parses self.notation (asks_taking name (kind.now ∷ path.now ∷ sddl.now ∷ [])) result }
+    {
+        match name {
+            ScriptCommand::ImportNode => match kind_named(kind) {
+                Some(kind) => self.importing(kind, path, sddl),
+                None => Ok(None),
+            },
+            _ => Ok(None),
+        }
+    }
+
+    /// What a command with a reader, a path, a user, a mask and the words of a token asks for.
+    fn on_question(
+        self,
+        name: ScriptCommand,
+        reader: &str,
+        path: &str,
+        user: &str,
+        mask: &str,
+        words: &[&str],
+    ) -> Parsed
+        ensures { Parses self.notation
+            (asks_taking name (reader.now ∷ path.now ∷ user.now ∷ mask.now ∷ texts words.now)) result }
+    {
+        let question = match name {
+            ScriptCommand::Check => TokenQuestion::Check,
+            ScriptCommand::Why => TokenQuestion::Why,
+            ScriptCommand::Find => TokenQuestion::Find,
+            _ => return Ok(None),
+        };
+        self.posed(question, reader, path, user, mask, words)
+    }
+
+    #[tactic(auto, unfolding(crate::specs::Command::posed))]
+    fn posed(
+        self,
+        question: TokenQuestion,
+        reader: &str,
+        path: &str,
+        user: &str,
+        mask: &str,
+        words: &[&str],
+    ) -> Parsed
+        ensures { Parses self.notation
+            (Some (posed question reader.now path.now user.now mask.now (texts words.now))) result }
+    {
+        let reader = number_in(reader)?;
+        let path = self.path(path)?;
+        let user = self.sid(user)?;
+        let asked = self.mask(mask)?;
+        let token = self.token(user, words)?;
+        Ok(Some(question.about(reader, path, token, asked)))
+    }
+}
+
+fn edit(edit: Edit) -> Parsed
+    ensures { result ≡ Ok (Some (Asking (requests.Edit edit))) }
+{
+    Ok(Some(LineRequest::Asking(Request::Edit(edit))))
+}
+
+fn view(view: ViewRequest) -> Parsed
+    ensures { result ≡ Ok (Some (Viewing view)) }
+{
+    Ok(Some(LineRequest::Viewing(view)))
+}
+
+/// The kind of node that the word names.
+fn kind_named(word: &str) -> Option<NodeKind>
+    ensures { result ≡ kind_named word.now }
+{
+    match word {
+        "container" => Some(NodeKind::Container),
+        "object" => Some(NodeKind::Object),
+        _ => None,
+    }
+}
+
+impl TokenQuestion {
+    fn about(self, reader: u64, path: Path, token: Token, asked: Mask) -> LineRequest
+        ensures { result ≡ poses self reader path token asked }
+    {
+        match self {
+            TokenQuestion::Check => LineRequest::Asking(Request::Check {
+                reader,
+                path,
+                token,
+                asked,
+            }),
+            TokenQuestion::Why => LineRequest::Explaining {
+                reader,
+                path,
+                token,
+                asked,
+            },
+            TokenQuestion::Find => LineRequest::Finding {
+                reader,
+                path,
+                token,
+                asked,
+            },
+        }
+    }
+}

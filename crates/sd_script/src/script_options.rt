@@ -1,0 +1,58 @@
+//! How a script is carried out.
+ghost use Rattle.std.specs.Prelude.{◌≡◌, None, false};
+ghost use Rattle.sd_text.specs.Alias.{in_domain};
+ghost use Rattle.sd_answer.specs.declared.verdict_line.Spelling.TheVariants.{Number};
+
+use crate::paths::PathSpelling;
+use sd_answer::Spelling;
+use sd_sid::GenericMapping;
+use sd_text::Aliases;
+use sd_tree::Limits;
+
+/// How a script is carried out, whatever its lines say.
+#[derive(Clone, Copy, Debug)]
+pub struct ScriptOptions {
+    /// How the store that it opens maps generic rights ([MS-DTYP] 2.4.3).
+    pub mapping: GenericMapping,
+    /// The most nodes and edits of the store that it opens.
+    pub limits: Limits,
+    /// How its lines are written.
+    pub notation: Notation,
+}
+
+/// How the lines of a script are written, and its answers printed.
+#[derive(Clone, Copy, Debug)]
+pub struct Notation {
+    /// How paths are spelled, also in what is printed.
+    pub paths: PathSpelling,
+    /// How masks are spelled, also in what is printed ([MS-DTYP] 2.4.3).
+    pub spelling: Spelling,
+    /// Which aliases of SIDs an SDDL, a user and a word may have ([MS-DTYP] 2.5.1.1, sid-token).
+    pub aliases: Aliases,
+    /// Whether the section of a SACL is left out of an SDDL ([MS-DTYP] 2.5.1.1, sacl).
+    pub without_sacl: bool,
+    /// Whether each line of an answer is printed as an object of JSON.
+    pub is_json: bool,
+}
+
+impl Notation {
+    /// Paths are spelled so, and masks as numbers; no domain's alias and none of newer versions of Windows is known, a
+    /// SACL is a fault, and answers are printed as they are.
+    pub fn plain(paths: PathSpelling) -> Notation
+        ensures { result ≡ record {
+          paths = paths;
+          spelling = Number;
+          aliases = in_domain None;
+          without_sacl = false;
+          is_json = false;
+        } }
+    {
+        Notation {
+            paths,
+            spelling: Spelling::Number,
+            aliases: Aliases::in_domain(None),
+            without_sacl: false,
+            is_json: false,
+        }
+    }
+}
