@@ -1,5 +1,5 @@
 #!/usr/bin/env python3
-"""Compares the library's answers to the first cases with those of fuzz/second.py, a second implementation of the rules.
+"""Compares the library's answers to the first cases with those of tests/second, a second implementation of the rules.
 
     test.py [COUNT]
 """
@@ -9,7 +9,7 @@ import re
 import sys
 
 TOP = pathlib.Path(__file__).resolve().parent.parent.parent
-sys.path += [str(TOP / "bindings/python"), str(TOP / "fuzz")]
+sys.path += [str(TOP / "bindings/python"), str(TOP / "tests/second")]
 
 from auditing import answer  # noqa: E402 (they use the wrapper of the library)
 from cases import Case, case, groups_of  # noqa: E402

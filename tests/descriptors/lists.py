@@ -1,5 +1,5 @@
 #!/usr/bin/env python3
-"""Every list of at most two entries, beside the second implementation of the rules (fuzz/second.py), which looks at each bit by
+"""Every list of at most two entries, beside the second implementation of the rules (tests/second), which looks at each bit by
 itself: `lists.py PROGRAM`. The last line is 'N passed, M failed', where each run of the program counts once.
 
 The user is the owner, in Users. Each list is asked for with and without MAXIMUM_ALLOWED, unrestricted and with restricting SIDs;
@@ -9,7 +9,7 @@ import sys
 from concurrent.futures import ThreadPoolExecutor
 from pathlib import Path
 
-sys.path.insert(0, str(Path(__file__).resolve().parents[2] / "fuzz"))
+sys.path.insert(0, str(Path(__file__).resolve().parents[1] / "second"))
 from second import ALIASES, IO, OWNER_RIGHTS, Entry, Token, entry_text, full_text, verdict  # noqa: E402
 
 PROGRAM = sys.argv[1]

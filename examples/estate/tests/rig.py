@@ -1,4 +1,4 @@
-"""What the tests share: NTFS volumes in files, trees of a second implementation of the rules (fuzz/second.py), their
+"""What the tests share: NTFS volumes in files, trees of a second implementation of the rules (tests/second), their
 bytes, and estate as a process."""
 
 import os
@@ -13,7 +13,7 @@ from pathlib import Path
 
 HERE = Path(__file__).resolve().parent
 TOP = HERE.parents[2]
-sys.path += [str(TOP / "fuzz"), str(HERE.parent), str(TOP / "bindings/python")]
+sys.path += [str(TOP / "tests/second"), str(HERE.parent), str(TOP / "bindings/python")]
 
 import attributes  # noqa: E402 (it is in one of these folders)
 import second  # noqa: E402
