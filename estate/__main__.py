@@ -5,7 +5,7 @@ from pathlib import Path
 
 _HERE = Path(__file__).resolve().parent
 #: Where the module hudarin is: in a checkout, or in an installation, whose share/hudarin/estate this folder is.
-_MODULES = (_HERE.parents[1] / "bindings/python", *sorted((_HERE.parents[2] / "lib").glob("python3*/*-packages")))
+_MODULES = (_HERE.parent / "bindings/python", *sorted((_HERE.parents[2] / "lib").glob("python3*/*-packages")))
 
 sys.path[1:1] = [str(folder) for folder in _MODULES if folder.is_dir()]
 

@@ -17,7 +17,7 @@ from table import Table
 
 #: Where the program is: of a checkout what ./sdstore builds, of an installation the one beside this.
 _HERE = File(__file__).resolve().parent
-_PROGRAMS = (_HERE.parents[1] / "crates/sdstore/out/sdstore", _HERE.parents[2] / "bin/sdstore")
+_PROGRAMS = (_HERE.parent / "crates/sdstore/out/sdstore", _HERE.parents[2] / "bin/sdstore")
 
 #: What is one word of a line of a script.
 _WORD = re.compile(r"[!-~]+")

@@ -12,7 +12,7 @@ from collections.abc import Callable
 from pathlib import Path
 
 HERE = Path(__file__).resolve().parent
-TOP = HERE.parents[2]
+TOP = HERE.parents[1]
 sys.path += [str(TOP / "tests/second"), str(HERE.parent), str(TOP / "bindings/python")]
 
 import attributes  # noqa: E402 (it is in one of these folders)
