@@ -108,7 +108,7 @@ def takes_json(arguments):
 
 
 def cases():
-    rows = load(TOP / ".ci/rows")
+    rows = load(TOP / "tests/rows")
     for path in sorted((TOP / "tests").rglob("*.rows")):
         found, rejected = rows.read(path)
         assert not rejected, rejected

@@ -1,8 +1,8 @@
 //! A store that is refused memory is unchanged and goes on: each request of its start and of each step in turn.
 //!
-//! `.ci/memory` runs this test with `.ci/refusing.c` loaded into it, which takes requests for more bytes than any
-//! memory has as commands: they name the request to refuse from there on, or ask whether it was refused. Without it
-//! they are refused like any others of their size, and each step is made once.
+//! `tests/program/memory` runs this test with `tests/program/refusing.c` loaded into it, which takes requests for more
+//! bytes than any memory has as commands: they name the request to refuse from there on, or ask whether it was refused.
+//! Without it they are refused like any others of their size, and each step is made once.
 
 use super::store::{Play, is_right};
 use super::*;

@@ -1,6 +1,6 @@
 #!/usr/bin/env zsh
-# Prints what zsh offers at the end of a command line, one word a line: `packaging/completions/offered.zsh FUNCTIONS LINE`, where
-# FUNCTIONS is the folder of _sdstore. It types the line and a tab into a zsh of its own, without the user's settings.
+# Prints what zsh offers at the end of a command line, one word a line: `offered.zsh FUNCTIONS LINE`, where FUNCTIONS is the
+# folder of _sdstore. It types the line and a tab into a zsh of its own, without the user's settings.
 zmodload zsh/zpty || exit 1
 settings=$(mktemp) || exit 1
 trap 'rm -f $settings' EXIT
