@@ -18,11 +18,11 @@ import unittest
 from pathlib import Path
 
 TOP = Path(__file__).resolve().parents[2]
-sys.path[:0] = [str(TOP / "service/tests")]
+sys.path[:0] = [str(TOP / "tests/service"), str(TOP / "tests")]
 
-import rig  # noqa: E402 (it is in that folder)
-from run import report  # noqa: E402
+import rig  # noqa: E402 (these are in those folders)
 from test_tls import Certificates  # noqa: E402
+from units import report  # noqa: E402
 
 from client import Client, Unavailable  # noqa: E402 (rig says where)
 from redis_client import Redis  # noqa: E402

@@ -8,7 +8,7 @@ import subprocess
 import sys
 
 import rig
-from rig import HERE, Case
+from rig import TOOL, Case
 
 HEADER = '"Path","Sddl"\r\n'
 PREFIX = "Microsoft.PowerShell.Core\\FileSystem::"
@@ -185,7 +185,7 @@ class Texts(Case):
         """On a terminal a bar is drawn, and wiped out at the end; elsewhere there is none."""
         self.write("source", THREE)
         ours, theirs = pty.openpty()
-        command = [sys.executable, str(HERE.parent), "read", "source", "script"]
+        command = [sys.executable, str(TOOL), "read", "source", "script"]
         with open(ours, "rb", buffering=0) as terminal:
             subprocess.run(command, cwd=self.room, stderr=theirs, check=True)
             os.close(theirs)

@@ -17,9 +17,8 @@ from collections.abc import Callable
 from pathlib import Path
 from typing import BinaryIO
 
-HERE = Path(__file__).resolve().parent
-SERVICE = HERE.parent
-TOP = SERVICE.parent
+TOP = Path(__file__).resolve().parents[2]
+SERVICE = TOP / "service"
 sys.path[:0] = [str(SERVICE), str(TOP / "bindings/python"), str(TOP / "examples/serve")]
 
 #: The program, as a command: that of the checkout, unless SDSTORED names another.

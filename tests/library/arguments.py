@@ -1,12 +1,12 @@
 """What hudarin.py passes to the library: numbers of 32 bits, four masks, SIDs, texts and bytes, and nothing else; and
 the results of checks, explanations, stores and views. The last line is 'N passed, M failed'."""
 
-import os
 import sys
 import threading
+from pathlib import Path
 
-HERE = os.path.dirname(os.path.abspath(__file__))
-sys.path[:0] = [HERE, os.path.join(HERE, "..", "python")]
+TOP = Path(__file__).resolve().parents[2]
+sys.path[:0] = [str(TOP / "tests"), str(TOP / "bindings/python")]
 
 from hudarin import (  # noqa: E402
     ENABLED,

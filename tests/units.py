@@ -1,16 +1,15 @@
 #!/usr/bin/env python3
-"""Runs the tests of this folder, or those named: run.py [NAME ..]. Each failure and each skipped test is printed; the
-last line is 'N passed, M failed'."""
+"""Runs the tests of a folder, or those of it that are named: units.py FOLDER [NAME ..]. Each failure and each skipped
+test is printed; the last line is 'N passed, M failed'."""
 
 import sys
 import unittest
 
-import rig
 
-
-def main(names: list[str]) -> int:
+def main(folder: str, *names: str) -> int:
+    sys.path.insert(0, folder)
     loader = unittest.TestLoader()
-    return report(loader.loadTestsFromNames(names) if names else loader.discover(str(rig.HERE)))
+    return report(loader.loadTestsFromNames(names) if names else loader.discover(folder))
 
 
 def report(tests: unittest.TestSuite) -> int:
@@ -28,4 +27,4 @@ def report(tests: unittest.TestSuite) -> int:
 
 
 if __name__ == "__main__":
-    sys.exit(main(sys.argv[1:]))
+    sys.exit(main(*sys.argv[1:]))

@@ -8,7 +8,7 @@ import tempfile
 import time
 from pathlib import Path
 
-from rig import HERE, Ntfs, node_form
+from rig import TOOL, Ntfs, node_form
 from second import Node, Tree
 from trees import BA, BG, BU, FULL, READ, SY, USERS, allow
 
@@ -40,7 +40,7 @@ def fill(volume: Ntfs, tree: Tree) -> None:
 
 def run(room: Path, *words: str) -> None:
     began = time.monotonic()
-    process = subprocess.Popen([sys.executable, str(HERE.parent), *words], cwd=room)
+    process = subprocess.Popen([sys.executable, str(TOOL), *words], cwd=room)
     _, status, used = os.wait4(process.pid, 0)
     seconds = time.monotonic() - began
     named = " ".join(words)

@@ -9,17 +9,18 @@ import os
 import random
 import subprocess
 import sys
+from pathlib import Path
 
-sys.path.insert(0, os.path.join(os.path.dirname(os.path.abspath(__file__)), "..", "python"))
+TOP = Path(__file__).resolve().parents[2]
+sys.path[:0] = [str(TOP / "tests"), str(TOP / "bindings/python")]
 
 from hudarin import Descriptor, Refused, Sid, Store  # noqa: E402
+from tally import close, holds  # noqa: E402
 
 PROGRAM, SCRIPTS, SEED, FILES = sys.argv[1], int(sys.argv[2]), int(sys.argv[3]), sys.argv[4:]
 SIDS = ("BU", "BA", "BG", "AU", "WD", "OW", "CO", "SY")
 RIGHTS = ("FR", "FW", "FA", "0x1", "0x2", "RC", "WD", "GA")
 FLAGS = ("", "OI", "CI", "OICI", "OICIIO", "CINP")
-
-passed = failed = 0
 
 
 def edited(store, command, *words):
@@ -65,14 +66,11 @@ def reply_of(store, line):
 
 def ask(place, lines):
     """Counts each line whose reply is the same. The first one is `open 1 ROOT`."""
-    global passed, failed
     with Store(Descriptor.from_sddl(lines[0].split(" ")[2])) as store:
         for number, (line, wanted) in enumerate(zip(lines, replies(lines))):
             reply = "opened 1" if number == 0 else reply_of(store, line)
-            passed += reply == wanted
-            failed += reply != wanted
+            holds(f"{place}, {number + 1}: {line}", reply == wanted, f"{reply!r:.300}, and not {wanted!r:.300}")
             if reply != wanted:
-                print(f"{place}, {number + 1}: {line}: {reply!r:.300}, and not {wanted!r:.300}")
                 return
 
 
@@ -136,5 +134,5 @@ for file in FILES:
         ask(f"{os.path.basename(file)}, script {number + 1}", script[next(i for i, line in enumerate(script) if line.startswith("open ")):])
 for seed in range(SEED, SEED + SCRIPTS):
     ask(f"script {seed}", Script(random.Random(seed)).lines)
-print(f"{passed} passed, {failed} failed")
+sys.exit(close())
 sys.exit(failed > 0)

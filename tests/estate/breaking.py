@@ -10,10 +10,10 @@ import sys
 from pathlib import Path
 from typing import Any
 
-FOLDER = str(Path(__file__).resolve().parents[1])
+FOLDER = str(Path(__file__).resolve().parents[2] / "estate")
 call, count, number, process, *words = sys.argv[1:]
 sys.path.insert(0, FOLDER)
-import attributes  # noqa: E402 (it is in this folder)
+import attributes  # noqa: E402 (it is in that folder)
 
 whole = getattr(attributes, call)
 left = int(count)

@@ -11,24 +11,19 @@ import re
 import shlex
 import subprocess
 import sys
+from pathlib import Path
 from typing import NamedTuple
 
-sys.path.insert(0, os.path.join(os.path.dirname(os.path.abspath(__file__)), "..", "python"))
+TOP = Path(__file__).resolve().parents[2]
+sys.path[:0] = [str(TOP / "tests"), str(TOP / "bindings/python")]
 
 import hudarin  # noqa: E402
+import tally  # noqa: E402
 
 PROGRAM, USER, FILES = sys.argv[1], sys.argv[2], sys.argv[3:]
 COMMANDS = ("verdict", "why", "who", "compare", "print", "tobin", "frombin")
 STATES = {"deny": hudarin.DENY_ONLY, "off": hudarin.DISABLED}
 PRIVILEGES = {"+security": hudarin.SECURITY, "+take": hudarin.TAKE_OWNERSHIP}
-
-passed = failed = 0
-
-
-def miss(place, text):
-    global failed
-    failed += 1
-    print(f"{place}: {text[:300]}")
 
 
 def fault(reading, kind):
@@ -158,17 +153,14 @@ QUESTIONS = {"verdict": verdict, "why": why, "who": who, "compare": compare}
 
 def ask(place, *words):
     """The library answers as the program does."""
-    global passed
     run = subprocess.run([PROGRAM, *words], stdin=subprocess.DEVNULL, stdout=subprocess.PIPE, check=False)
     if run.returncode == 2:
         # (an invalid command line, which asks for nothing)
         return
     said = run.stdout.decode()
     here = answer(*words) + "\n"
-    if here == said:
-        passed += 1
-    else:
-        miss(place, f"{words!r}: the library says {here!r}, and the program {said!r}")
+    text = f"{words!r}: the library says {here!r}, and the program {said!r}"
+    tally.holds(place, here == said, text[:300])
 
 
 def span(cell):
@@ -289,9 +281,9 @@ def page(name, lines):
 
 
 for path in FILES:
-    before, base = passed + failed, os.path.basename(path)
+    before, base = tally.passed + tally.failed, os.path.basename(path)
     with open(path, encoding="utf-8") as text:
         (page if base.endswith(".md") else tests)(base, text)
-    if passed + failed == before:
-        miss(base, "no row of it was asked")
-print(f"{passed} passed, {failed} failed")
+    if tally.passed + tally.failed == before:
+        tally.holds(base, False, "no row of it was asked")
+sys.exit(tally.close())

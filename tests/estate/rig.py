@@ -13,7 +13,8 @@ from pathlib import Path
 
 HERE = Path(__file__).resolve().parent
 TOP = HERE.parents[1]
-sys.path += [str(TOP / "tests/second"), str(HERE.parent), str(TOP / "bindings/python")]
+TOOL = TOP / "estate"
+sys.path += [str(TOP / "tests/second"), str(TOOL), str(TOP / "bindings/python")]
 
 import attributes  # noqa: E402 (it is in one of these folders)
 import second  # noqa: E402
@@ -32,7 +33,7 @@ Names = tuple[str, ...]
 PATIENCE = 3000
 
 
-def estate(*words: str | Path, room: Path, by: Path = HERE.parent) -> "subprocess.CompletedProcess[str]":
+def estate(*words: str | Path, room: Path, by: Path = TOOL) -> "subprocess.CompletedProcess[str]":
     """Runs the tool in a folder."""
     command = [sys.executable, *map(str, (by, *words))]
     return subprocess.run(command, cwd=room, capture_output=True, text=True, timeout=PATIENCE)

@@ -1,20 +1,20 @@
 """How the objects of hudarin.py behave in Python: truth, copies, pickles and a second __init__; the parts of a
 descriptor, masks by names, which mistake raises what, SACLs, and who is granted what. The last line is 'N passed, M failed'.
 
-The module is that of the folder `python` beside this one, or else the one that Python finds.
+The module is that of bindings/python, or where there is none the one that Python finds.
 """
 
 import copy
 import functools
 import multiprocessing
 import operator
-import os
 import pickle
 import sys
+from pathlib import Path
 from typing import Any, Callable, List, Optional, Tuple
 
-HERE = os.path.dirname(os.path.abspath(__file__))
-sys.path[:0] = [HERE, os.path.join(HERE, "..", "python")]
+TOP = Path(__file__).resolve().parents[2]
+sys.path[:0] = [str(TOP / "tests"), str(TOP / "bindings/python")]
 
 import hudarin  # noqa: E402
 from hudarin import (  # noqa: E402
