@@ -14,8 +14,11 @@ import sys
 from concurrent.futures import ThreadPoolExecutor
 from pathlib import Path
 
+TOP = Path(__file__).resolve().parents[2]
+sys.path.append(str(TOP / "tests"))
+from tally import close, holds  # noqa: E402
+
 PROGRAM = sys.argv[1]
-TOP = Path(__file__).resolve().parent.parent.parent
 MARKS = "$#,*"
 COMMANDS = "verdict why who compare lint print sort tobin frombin rights sid each script serve audit".split()
 
@@ -119,16 +122,10 @@ def cases():
 
 def main():
     table = table_of_page()
-    passed = failed = 0
     with ThreadPoolExecutor() as processors:
         for found in processors.map(lambda case: compare(*case, table), cases()):
-            if found:
-                failed += 1
-                print(found)
-            else:
-                passed += 1
-    print("%d passed, %d failed" % (passed, failed))
-    sys.exit(failed > 0)
+            holds("objects.py", not found, found)
+    return close()
 
 
-main()
+sys.exit(main())
