@@ -22,12 +22,12 @@ use Rattle.sd_text.proofs.CanonSids.{number_read}
 use Rattle.sd_text.proofs.Engine.{whole_value}
 use Rattle.sd_text.proofs.Parts.{went}
 use Rattle.sd_answer.proofs.RightNames.{by_test}
-use Rattle.sd_answer.specs.VerdictLine.{mask_digits, spelled}
+use Rattle.sd_answer.specs.VerdictLines.{mask_digits, spelled}
 use Rattle.sd_answer.specs.Mask.{AreJoined, IsMaskIn, IsWordMask, between_pluses}
 use Rattle.sd_answer.specs.Names.{NamedBits, is_of, long_names, mask_named, names_of, short_names}
 use Rattle.sd_answer.specs.Names as table
-use Rattle.sd_answer.specs.declared.verdict_line.Spelling.{Spelling}
-use Rattle.sd_answer.specs.declared.verdict_line.Spelling.TheVariants.{Number, Names}
+use Rattle.sd_answer.specs.declared.verdict_lines.Spelling.{Spelling}
+use Rattle.sd_answer.specs.declared.verdict_lines.Spelling.TheVariants.{Number, Names}
 use Rattle.sd_answer.specs.declared.names.ObjectKind.{ObjectKind}
 use Rattle.sd_answer.specs.declared.names.ObjectKind.TheVariants.{File, Key, Service, Process}
 

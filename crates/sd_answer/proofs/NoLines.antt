@@ -12,10 +12,10 @@ use Rattle.sd_sid.specs.Mask.{holds}
 use Rattle.sd_analysis.specs.Compare.{HasABit}
 use Rattle.sd_analysis.specs.Sufficient.{Parts}
 use Rattle.sd_analysis.specs.declared.compare_report.Change.{Change}
-use Rattle.sd_answer.specs.VerdictLine.{spelled}
+use Rattle.sd_answer.specs.VerdictLines.{spelled}
 use Rattle.sd_answer.specs.Compare.{change_line, changes_text, gains_and_losses}
 use Rattle.sd_answer.specs.Lines.{LineValue, bits_line, is_lowest, lines_at, lines_below}
-use Rattle.sd_answer.specs.declared.verdict_line.Spelling.{Spelling}
+use Rattle.sd_answer.specs.declared.verdict_lines.Spelling.{Spelling}
 
 -- ---- the lowest bit
 

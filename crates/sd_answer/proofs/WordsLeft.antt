@@ -6,7 +6,7 @@ use Rattle.sd_text.specs.declared.fault.TextError.{TextError}
 use Rattle.sd_text.specs.declared.fault.TextError.TheVariants.{Fault, Memory}
 use Rattle.sd_text.proofs.Engine.{no_fault, one_value}
 use Rattle.sd_answer.specs.Mask.{AreJoined, IsErrorFrom, IsMaskIn, IsWordErrorAt, IsWordMask, between_pluses, rights_word}
-use Rattle.sd_answer.specs.declared.verdict_line.Spelling.TheVariants.{Names}
+use Rattle.sd_answer.specs.declared.verdict_lines.Spelling.TheVariants.{Names}
 use Rattle.sd_answer.specs.declared.names.ObjectKind.{ObjectKind}
 
 module _ (kind : Option ObjectKind) where

@@ -7,9 +7,9 @@ use Rattle.sd_text.specs.Canon.{full_canon}
 use Rattle.sd_analysis.specs.Sufficient.{Parts, is_named, restricting_of}
 use Rattle.sd_analysis.specs.declared.compare_report.Change.{Change}
 use Rattle.sd_analysis.specs.declared.witness.Witness.{Witness}
-use Rattle.sd_answer.specs.VerdictLine.{line}
+use Rattle.sd_answer.specs.VerdictLines.{line}
 use Rattle.sd_answer.specs.Lines.{LineValue, lines_text, sid_text}
-use Rattle.sd_answer.specs.declared.verdict_line.Spelling.{Spelling}
+use Rattle.sd_answer.specs.declared.verdict_lines.Spelling.{Spelling}
 
 -- the user: everyone, where neither descriptor names it
 abbrev pub user_text : Parts → Parts → SidValue → List ℕ

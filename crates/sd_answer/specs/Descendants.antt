@@ -7,9 +7,9 @@ use Rattle.sd_analysis.specs.declared.descendants.Descendant.{Descendant}
 use Rattle.sd_analysis.specs.declared.descendants.Descendant.TheVariants.{Object, Container}
 use Rattle.sd_analysis.specs.declared.descendants.Descendant.TheVariants.{ObjectBelow, ContainerBelow}
 use Rattle.sd_analysis.specs.declared.descendants_compare.DescendantChange.{DescendantChange}
-use Rattle.sd_answer.specs.VerdictLine.{line}
+use Rattle.sd_answer.specs.VerdictLines.{line}
 use Rattle.sd_answer.specs.Compare.{gains_and_losses}
-use Rattle.sd_answer.specs.declared.verdict_line.Spelling.{Spelling}
+use Rattle.sd_answer.specs.declared.verdict_lines.Spelling.{Spelling}
 
 abbrev pub descendant_head : Descendant → List ℕ
 descendant_head Object = codes "new objects: "

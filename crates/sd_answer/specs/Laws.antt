@@ -1,10 +1,10 @@
 -- What holds of the names of masks.
 use Rattle.std.specs.Prelude.{◌≡◌, ℕ, ◌^◌, ◌<◌, Bool, true, not, ◌&&◌, List, [], ◌∷◌, ◌++◌, map, bytes_eq}
 use Rattle.std.specs.List.{list_any}
-use Rattle.sd_answer.specs.VerdictLine.{spelled}
+use Rattle.sd_answer.specs.VerdictLines.{spelled}
 use Rattle.sd_answer.specs.Mask.{IsMaskIn}
 use Rattle.sd_answer.specs.Names.{long_names, rights, short_names}
-use Rattle.sd_answer.specs.declared.verdict_line.Spelling.{Spelling}
+use Rattle.sd_answer.specs.declared.verdict_lines.Spelling.{Spelling}
 
 -- no text is there twice
 abbrev pub are_distinct : List (List ℕ) → Bool

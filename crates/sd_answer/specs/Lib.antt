@@ -1,4 +1,4 @@
-pub mod VerdictLine
+pub mod VerdictLines
 pub mod Word
 pub mod Why
 pub mod Lines

@@ -8,8 +8,8 @@ use Rattle.std.specs.Str.{bytes_eq}
 use Rattle.sd_sid.specs.Mask.{holds, mask_of}
 use Rattle.sd_sid.specs.Sid.{SidValue}
 use Rattle.sd_text.specs.Canon.{full_canon}
-use Rattle.sd_answer.specs.VerdictLine.{line, spelled}
-use Rattle.sd_answer.specs.declared.verdict_line.Spelling.{Spelling}
+use Rattle.sd_answer.specs.VerdictLines.{line, spelled}
+use Rattle.sd_answer.specs.declared.verdict_lines.Spelling.{Spelling}
 use Rattle.sd_answer.specs.declared.lines.BitsLine.{BitsLine}
 
 -- bits, and what their line says of them

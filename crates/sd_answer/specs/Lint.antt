@@ -16,8 +16,8 @@ use Rattle.sd_text.specs.Canon.{entry_canon_in}
 use Rattle.sd_check.specs.Check.{is_limit}
 use Rattle.sd_check.specs.declared.token.GroupState.{GroupState}
 use Rattle.sd_analysis.specs.Redundant.{AreRedundant, is_marked}
-use Rattle.sd_answer.specs.VerdictLine.{line, right_names_of}
-use Rattle.sd_answer.specs.declared.verdict_line.Spelling.{Spelling}
+use Rattle.sd_answer.specs.VerdictLines.{line, right_names_of}
+use Rattle.sd_answer.specs.declared.verdict_lines.Spelling.{Spelling}
 
 -- ---- what two entries are to each other
 

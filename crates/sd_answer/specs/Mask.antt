@@ -8,8 +8,8 @@ use Rattle.sd_text.specs.declared.fault.TextError.{TextError}
 use Rattle.sd_text.specs.declared.fault.TextError.TheVariants.{Fault, Memory}
 use Rattle.sd_text.specs.declared.fault.TextFault.TheVariants.{Syntax}
 use Rattle.sd_answer.specs.Names.{mask_named}
-use Rattle.sd_answer.specs.declared.verdict_line.Spelling.{Spelling}
-use Rattle.sd_answer.specs.declared.verdict_line.Spelling.TheVariants.{Number, Names}
+use Rattle.sd_answer.specs.declared.verdict_lines.Spelling.{Spelling}
+use Rattle.sd_answer.specs.declared.verdict_lines.Spelling.TheVariants.{Number, Names}
 use Rattle.sd_answer.specs.declared.names.ObjectKind.{ObjectKind}
 
 -- the texts that plus signs separate

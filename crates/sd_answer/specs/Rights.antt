@@ -2,7 +2,7 @@
 -- them.
 use Rattle.std.specs.Prelude.{ℕ, ◌&&◌, ◌==◌, if◌then◌else◌, List, [], ◌∷◌, ◌++◌, Option, Some, None, codes}
 use Rattle.sd_text.specs.MaskNames.{named_from}
-use Rattle.sd_answer.specs.VerdictLine.{line, mask_digits}
+use Rattle.sd_answer.specs.VerdictLines.{line, mask_digits}
 use Rattle.sd_answer.specs.Names.{NamedBits, is_own, long_names, names_of, rights, short_names}
 use Rattle.sd_answer.specs.declared.names.ObjectKind.{ObjectKind}
 

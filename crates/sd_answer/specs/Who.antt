@@ -12,7 +12,7 @@ use Rattle.sd_analysis.specs.declared.who_has.Alternative.{Alternative}
 use Rattle.sd_analysis.specs.declared.who_has.Holder.{Holder}
 use Rattle.sd_analysis.specs.declared.who_has.Holder.TheVariants.{Everyone, Sid, Owner}
 use Rattle.sd_answer.specs.Lines.{LineValue, joined, lines_text, sid_text}
-use Rattle.sd_answer.specs.declared.verdict_line.Spelling.{Spelling}
+use Rattle.sd_answer.specs.declared.verdict_lines.Spelling.{Spelling}
 
 -- the rights that are asked about: those of the mask, generic ones mapped; with MAXIMUM_ALLOWED, place 25, all
 abbrev pub rights_asked : MappingValue → ℕ → ℕ

@@ -17,8 +17,8 @@ use Rattle.sd_explain.specs.declared.reason.Cause.{Cause}
 use Rattle.sd_explain.specs.declared.reason.Cause.TheVariants.{NoList, Listed, Restricted, Owner}
 use Rattle.sd_explain.specs.declared.reason.Cause.TheVariants.{TakeOwnership, Security, NoSecurity, BeyondAll, Reserved}
 use Rattle.sd_explain.specs.declared.reason.Reason.{Reason}
-use Rattle.sd_answer.specs.VerdictLine.{line, right_names_of, spelled, verdict_line}
-use Rattle.sd_answer.specs.declared.verdict_line.Spelling.{Spelling}
+use Rattle.sd_answer.specs.VerdictLines.{line, right_names_of, spelled, verdict_line}
+use Rattle.sd_answer.specs.declared.verdict_lines.Spelling.{Spelling}
 
 -- the SID that the token stands for, in full
 abbrev pub subject_text : Option SidValue → List ℕ

@@ -7,7 +7,7 @@ ghost use Rattle.sd_answer.specs.Compare.{user_text, witness_text};
 ghost use Rattle.sd_answer.specs.Lines.{values};
 
 use crate::lines::{BitsLine, Printer, push_sid};
-use crate::verdict_line::Spelling;
+use crate::verdict_lines::Spelling;
 use sd_analysis::{Change, Comparison, DescriptorRef, PassSids, Witness};
 use sd_sid::Sid;
 use sd_text::print_full_sid;

@@ -6,7 +6,7 @@ ghost use Rattle.sd_answer.specs.Compare.{gains_and_losses};
 ghost use Rattle.sd_answer.specs.Descendants.{descendant_head, descendant_lines, descendants_text, inheritance_text};
 
 use crate::compare::gains_and_losses;
-use crate::verdict_line::Spelling;
+use crate::verdict_lines::Spelling;
 use sd_analysis::{Comparison, Descendant, DescendantChange, DescriptorRef, descendant_ref};
 use sd_check::DaclRef;
 use std::alloc::{AllocError, Global};

@@ -4,7 +4,7 @@ ghost use Rattle.std.specs.List.{position};
 ghost use Rattle.std.specs.Str.{bytes_eq};
 ghost use Rattle.sd_answer.specs.Lines.{bits_line, joined, lines_at, lines_text, sid_text, value_of, values};
 
-use crate::verdict_line::{Spelling, spell};
+use crate::verdict_lines::{Spelling, spell};
 use sd_sid::{Mask, Sid};
 use sd_text::print_full_sid;
 use std::alloc::{AllocError, Global};

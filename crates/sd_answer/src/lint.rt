@@ -4,7 +4,7 @@ ghost use Rattle.sd_acl.specs.Descriptor.{descriptor_of};
 ghost use Rattle.sd_answer.specs.Lint.{IsLintText, entry_head, entry_lines, is_misplaced, is_repeated};
 ghost use Rattle.sd_answer.specs.Lint.{is_stranded, list_lines, where_behind, where_so};
 
-use crate::verdict_line::Spelling;
+use crate::verdict_lines::Spelling;
 use bitflags::Flags;
 use sd_acl::{Ace, AceFlags, Dacl, Descriptor};
 use sd_analysis::{Base, redundant};

@@ -5,7 +5,7 @@ ghost use Rattle.sd_answer.specs.Mask.{AreJoined, IsErrorFrom, IsMaskErrorIn, Is
 ghost use Rattle.sd_answer.specs.Mask.{between_pluses};
 
 use crate::names::{ObjectKind, mask_named};
-use crate::verdict_line::Spelling;
+use crate::verdict_lines::Spelling;
 use sd_sid::Mask;
 use sd_text::{TextError, TextFault, read_mask};
 

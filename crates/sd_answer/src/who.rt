@@ -4,7 +4,7 @@ ghost use Rattle.sd_answer.specs.Lines.{values};
 ghost use Rattle.sd_answer.specs.Who.{alternative_text, holder_text, rights_asked, unless_text, who_text, with_access};
 
 use crate::lines::{BitsLine, Printer, join, push_sid};
-use crate::verdict_line::Spelling;
+use crate::verdict_lines::Spelling;
 use sd_analysis::{Access, Alternative, Holder};
 use sd_check::MAXIMUM_PLACE;
 use sd_sid::{GenericMapping, Mask, OBJECT_RIGHTS, Sid};

@@ -6,7 +6,7 @@ ghost use Rattle.sd_explain.specs.Parts.{reason_in};
 ghost use Rattle.sd_answer.specs.Why.{cause_text, entry_text, finding_text, line_at, listed, part_lines};
 ghost use Rattle.sd_answer.specs.Why.{subject_text, verb_of, why_text};
 
-use crate::verdict_line::{Spelling, spell, verdict_line};
+use crate::verdict_lines::{Spelling, spell, verdict_line};
 use sd_acl::{Ace, Dacl, Descriptor};
 use sd_check::{Token, subject_of};
 use sd_explain::{Cause, Explanation, Finding, PLACES, Part, explain_descriptor};

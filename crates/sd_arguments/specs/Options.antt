@@ -12,8 +12,8 @@ use Rattle.sd_edit.specs.Limits.{IsLimits, LimitsValue, standard_limits}
 use Rattle.sd_script.specs.Argument.{IsNumber}
 use Rattle.sd_script.specs.declared.script_options.ScriptOptions.{ScriptOptions}
 use Rattle.sd_script.specs.declared.paths.PathSpelling.TheVariants as paths
-use Rattle.sd_answer.specs.declared.verdict_line.Spelling.{Spelling}
-use Rattle.sd_answer.specs.declared.verdict_line.Spelling.TheVariants.{Number, Names as ByNames}
+use Rattle.sd_answer.specs.declared.verdict_lines.Spelling.{Spelling}
+use Rattle.sd_answer.specs.declared.verdict_lines.Spelling.TheVariants.{Number, Names as ByNames}
 use Rattle.sd_usage.specs.Table.{option_named, place, takes_option}
 use Rattle.sd_usage.specs.declared.row.OptionName.{OptionName}
 use Rattle.sd_usage.specs.declared.row.OptionName.TheVariants.{Aliases, Base64, Caret, Domain, Edits, Json}

@@ -6,7 +6,7 @@ use Rattle.sd_sid.specs.Mapping.{MappingValue}
 use Rattle.sd_acl.specs.Descriptor.{DescriptorValue, descriptor_of}
 use Rattle.sd_analysis.specs.Sufficient.{Parts}
 use Rattle.sd_answer.specs.Compare.{gains_and_losses}
-use Rattle.sd_answer.specs.declared.verdict_line.Spelling.TheVariants.{Number}
+use Rattle.sd_answer.specs.declared.verdict_lines.Spelling.TheVariants.{Number}
 use Rattle.sd_review.specs.Compared.{IsOfBoth, IsRight}
 use Rattle.sd_review.proofs.RightOnes.{right_one}
 use Rattle.sd_answer.specs.Parts.{parts_in}

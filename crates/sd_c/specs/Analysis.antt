@@ -14,7 +14,7 @@ use Rattle.sd_analysis.specs.declared.who_has.Access.{Access}
 use Rattle.sd_answer.specs.Parts.{parts_in}
 use Rattle.sd_answer.specs.Compare.{compare_text}
 use Rattle.sd_answer.specs.Who.{rights_asked, who_text}
-use Rattle.sd_answer.specs.declared.verdict_line.Spelling.TheVariants.{Number}
+use Rattle.sd_answer.specs.declared.verdict_lines.Spelling.TheVariants.{Number}
 use Rattle.sd_c.specs.declared.analysis.CompareAnswer.{CompareAnswer}
 use Rattle.sd_c.specs.declared.analysis.WhoAnswer.{WhoAnswer}
 use Rattle.sd_c.specs.declared.call_answer.CheckAnswer.{CheckAnswer}

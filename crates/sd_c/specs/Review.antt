@@ -17,7 +17,7 @@ use Rattle.sd_review.specs.Review.{Trees, former, trees_after}
 use Rattle.sd_review.specs.declared.review.Former.{Former}
 use Rattle.sd_review.specs.declared.review.Former.TheVariants.{Same, Moved, New}
 use Rattle.sd_answer.specs.Compare.{gains_and_losses}
-use Rattle.sd_answer.specs.declared.verdict_line.Spelling.TheVariants.{Number}
+use Rattle.sd_answer.specs.declared.verdict_lines.Spelling.TheVariants.{Number}
 use Rattle.sd_c.specs.declared.handle.Handle.{Handle}
 use Rattle.sd_c.specs.declared.handle.kept.Kept.{Kept}
 use Rattle.sd_c.specs.declared.not_done.NotDone.{NotDone}

@@ -5,7 +5,7 @@ use Rattle.std.specs.Borrow.{Bor}
 use Rattle.sd_lines.specs.Streams.{AppendsBeginning, ReadsPart, is_read_error, is_write_error}
 use Rattle.sd_lines.specs.declared.error.RunError.{RunError}
 use Rattle.sd_lines.specs.declared.error.RunError.TheVariants.{Read, TooLong, Write, Memory, Thread}
-use Rattle.sd_answer.specs.VerdictLine.{line}
+use Rattle.sd_answer.specs.VerdictLines.{line}
 use Rattle.sd_script.specs.Printed.{PrintsServed}
 use Rattle.sd_script.specs.declared.script_options.ScriptOptions.{ScriptOptions}
 use Rattle.sd_script.specs.declared.ids.TheConstants.{LINES}

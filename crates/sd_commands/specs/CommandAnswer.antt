@@ -23,7 +23,7 @@ use Rattle.sd_wire.specs.Writing.{wire_of}
 use Rattle.sd_wire.specs.declared.fault.WireFault.{WireFault}
 use Rattle.sd_check.specs.Check.{verdict, dacl_entries}
 use Rattle.sd_check.specs.Token.{TokenValue}
-use Rattle.sd_answer.specs.VerdictLine.{line, right_names_of, verdict_line, fault_line, sddl_fault_line}
+use Rattle.sd_answer.specs.VerdictLines.{line, right_names_of, verdict_line, fault_line, sddl_fault_line}
 use Rattle.sd_analysis.specs.Compare.{AreGains}
 use Rattle.sd_analysis.specs.Descendants.{AreDescendantChanges}
 use Rattle.sd_analysis.specs.declared.descendants_compare.DescendantChange.{DescendantChange}
@@ -57,7 +57,7 @@ use Rattle.sd_commands.specs.declared.command_answer.Outcome.{Outcome}
 use Rattle.sd_commands.specs.declared.command_answer.Outcome.TheVariants.{Done, Refused, Fault}
 use Rattle.sd_commands.specs.declared.descriptor.Given.{Given}
 use Rattle.sd_commands.specs.declared.descriptor.Given.TheVariants as givens
-use Rattle.sd_answer.specs.declared.verdict_line.Spelling.{Spelling}
+use Rattle.sd_answer.specs.declared.verdict_lines.Spelling.{Spelling}
 use Rattle.sd_commands.specs.declared.settings.Settings.{Settings}
 use Rattle.sd_commands.specs.declared.verdict.Form.{Form}
 use Rattle.sd_commands.specs.declared.verdict.Form.TheVariants.{Short, Explained}

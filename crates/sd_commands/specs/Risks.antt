@@ -13,8 +13,8 @@ use Rattle.sd_analysis.specs.declared.risks.Right.TheVariants.{FullControl, Writ
 use Rattle.sd_analysis.specs.declared.risks.Risk.{Risk}
 use Rattle.sd_analysis.specs.declared.risks.Risk.TheVariants.{EmptyList, OwnerCannotRead, Grants, UnknownEntry}
 use Rattle.sd_analysis.specs.declared.risks.Risk.TheVariants.{UnknownOwner, UnknownGroup}
-use Rattle.sd_answer.specs.VerdictLine.{line, right_names_of}
-use Rattle.sd_answer.specs.declared.verdict_line.Spelling.{Spelling}
+use Rattle.sd_answer.specs.VerdictLines.{line, right_names_of}
+use Rattle.sd_answer.specs.declared.verdict_lines.Spelling.{Spelling}
 use Rattle.sd_commands.specs.declared.settings.Settings.{Settings}
 
 abbrev pub has_right : Right → List ℕ

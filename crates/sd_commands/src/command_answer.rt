@@ -1,6 +1,6 @@
 //! The answer to a command about a descriptor: what is printed, and whether that is what was asked for.
 ghost use Rattle.std.specs.Prelude.{◌≡◌, ◌⊎◌, ◌≤◌, ◌<◌, ◌^◌, [], IfOk, string_bytes};
-ghost use Rattle.sd_answer.specs.VerdictLine.{fault_line, sddl_fault_line};
+ghost use Rattle.sd_answer.specs.VerdictLines.{fault_line, sddl_fault_line};
 ghost use Rattle.sd_acl.specs.Descriptor.{descriptor_of};
 ghost use Rattle.sd_commands.specs.CommandAnswer.{AnswersOfArgument, AnswersOn, AnswersQuestion, IsAnswer, IsDone};
 ghost use Rattle.sd_commands.specs.CommandAnswer.{IsFault, IsFaultOf, IsFound, IsTokenFault, answer_of};

@@ -3,7 +3,7 @@ ghost use Rattle.std.specs.Prelude.{◌≡◌, IfOk, codes, string_bytes};
 ghost use Rattle.sd_acl.specs.Descriptor.{descriptor_of};
 ghost use Rattle.hex.specs.Hex.{encode_lower};
 ghost use Rattle.sd_wire.specs.Writing.{wire_of};
-ghost use Rattle.sd_answer.specs.VerdictLine.{line};
+ghost use Rattle.sd_answer.specs.VerdictLines.{line};
 ghost use Rattle.sd_commands.specs.Diagnostic.{told_line, told_wire_fault};
 ghost use Rattle.sd_commands.specs.CommandAnswer.{AnswersBytes, AnswersFromBinary, AnswersHeld, AnswersSid};
 ghost use Rattle.sd_commands.specs.CommandAnswer.{IsDone, IsFault, answer_of, printed_line, wire_fault_line};

@@ -3,7 +3,7 @@ ghost use Rattle.std.specs.Prelude.{◌≡◌, ◌++◌, IfOk, string_bytes};
 ghost use Rattle.std.specs.List.{flat_map};
 ghost use Rattle.sd_acl.specs.Descriptor.{descriptor_of};
 ghost use Rattle.sd_text.specs.Canon.{full_canon};
-ghost use Rattle.sd_answer.specs.VerdictLine.{line};
+ghost use Rattle.sd_answer.specs.VerdictLines.{line};
 ghost use Rattle.sd_commands.specs.Risks.{has_right, risk_line, risk_lines, unknown_line};
 
 use crate::settings::Settings;

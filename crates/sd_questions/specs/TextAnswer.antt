@@ -3,7 +3,7 @@ use Rattle.std.specs.Prelude.{◌≡◌, ◌⊎◌, ℕ, ◌==◌, Bool, true, f
 use Rattle.std.specs.Prelude.{Some, None, IfSome, if◌then◌else◌, MatchResult, Result, codes}
 use Rattle.std.specs.Borrow.{Bor}
 use Rattle.std.specs.Str.{IsUtf8}
-use Rattle.sd_answer.specs.VerdictLine.{fault_line}
+use Rattle.sd_answer.specs.VerdictLines.{fault_line}
 use Rattle.sd_script.specs.Ids.{tagged}
 use Rattle.sd_lines.specs.Answers.{PrintsAndLeaves}
 use Rattle.sd_lines.specs.Decoder.{decoded}

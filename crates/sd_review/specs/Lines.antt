@@ -2,7 +2,7 @@
 use Rattle.std.specs.Prelude.{ℕ, List}
 use Rattle.sd_acl.specs.Descriptor.{descriptor_of}
 use Rattle.sd_answer.specs.Compare.{gains_and_losses}
-use Rattle.sd_answer.specs.declared.verdict_line.Spelling.{Spelling}
+use Rattle.sd_answer.specs.declared.verdict_lines.Spelling.{Spelling}
 use Rattle.sd_answer.specs.Parts.{parts_in}
 use Rattle.sd_review.specs.declared.compared.Compared.{Compared}
 

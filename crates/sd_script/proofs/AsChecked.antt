@@ -12,11 +12,11 @@ use Rattle.sd_edit.specs.Plain.{dacl_at, row_at}
 use Rattle.sd_edit.specs.declared.node.NodeRow.{NodeRow}
 use Rattle.sd_edit.specs.Machine.{Machine}
 use Rattle.sd_edit.specs.declared.request.Request.TheVariants as requests
-use Rattle.sd_answer.specs.VerdictLine.{line, spelled}
+use Rattle.sd_answer.specs.VerdictLines.{line, spelled}
 use Rattle.sd_script.specs.Laws.{BeginsAsCheck, DeletesAsChecked, IsGranted, by_node_line}
 use Rattle.sd_script.specs.Question.{outcome_of}
 use Rattle.sd_script.specs.Reply.{check_line, node_why_text, seen_line}
-use Rattle.sd_answer.specs.declared.verdict_line.Spelling.{Spelling}
+use Rattle.sd_answer.specs.declared.verdict_lines.Spelling.{Spelling}
 use Rattle.sd_script.specs.declared.script_options.Notation.{Notation}
 use Rattle.sd_script.specs.declared.question.NodeQuestion.TheVariants.{Why, Delete}
 use Rattle.sd_script.specs.declared.session.Session.TheVariants.{Opened}

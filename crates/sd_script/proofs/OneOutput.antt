@@ -22,7 +22,7 @@ use Rattle.sd_edit.specs.declared.request.Reply.TheVariants as replies
 use Rattle.sd_edit.specs.declared.request.Request.{Request}
 use Rattle.sd_edit.specs.declared.request.Request.TheVariants as requests
 use Rattle.sd_edit.specs.declared.start.StartError.{StartError}
-use Rattle.sd_answer.specs.VerdictLine.{line}
+use Rattle.sd_answer.specs.VerdictLines.{line}
 use Rattle.sd_script.specs.Expect.{expect_line, expects, is_met, last_after}
 use Rattle.sd_script.specs.Fault.{line_of_fault}
 use Rattle.sd_script.specs.Laws.{AsksNoAnalysis, HasOneAnswer, HasOneOutput, is_analysis}
@@ -43,7 +43,7 @@ use Rattle.sd_script.specs.ScriptCounts.{tallied}
 use Rattle.sd_script.specs.View.{IsViewed}
 use Rattle.sd_script.specs.declared.view.ViewRequest.{ViewRequest}
 use Rattle.sd_script.specs.declared.view.ViewRequest.TheVariants.{List as Lists, Dump}
-use Rattle.sd_answer.specs.declared.verdict_line.Spelling.{Spelling}
+use Rattle.sd_answer.specs.declared.verdict_lines.Spelling.{Spelling}
 use Rattle.sd_script.proofs.OneReading.{line-one}
 
 -- ---- requests

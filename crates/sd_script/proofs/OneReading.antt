@@ -12,8 +12,8 @@ use Rattle.sd_answer.proofs.OneToken.{groups_one, token_one}
 use Rattle.sd_answer.proofs.WordsLeft.{one_joined}
 use Rattle.sd_answer.specs.Mask.{IsMaskIn, between_pluses}
 use Rattle.sd_answer.specs.Word.{AreGroups, IsToken}
-use Rattle.sd_answer.specs.declared.verdict_line.Spelling.{Spelling}
-use Rattle.sd_answer.specs.declared.verdict_line.Spelling.TheVariants as spellings
+use Rattle.sd_answer.specs.declared.verdict_lines.Spelling.{Spelling}
+use Rattle.sd_answer.specs.declared.verdict_lines.Spelling.TheVariants as spellings
 use Rattle.sd_path.specs.Names.{Names}
 use Rattle.sd_script.specs.Argument.{IsNumber, descriptor, node_of, dacl_of, import_of}
 use Rattle.sd_script.specs.Command.{Argument, Number, Path, Sid, Mask, Token, Groups, Node, Dacl, Imported, reading, Arguments, Asks, ◌▸◌}

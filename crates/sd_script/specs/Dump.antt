@@ -16,7 +16,7 @@ use Rattle.sd_inheritance.specs.declared.kind.NodeKind.TheVariants.{Container, O
 use Rattle.sd_edit.specs.declared.node.NodeRow.{NodeRow}
 use Rattle.sd_edit.specs.Machine.{Machine}
 use Rattle.sd_edit.specs.declared.request.Request.TheVariants as requests
-use Rattle.sd_answer.specs.VerdictLine.{line, fault_line}
+use Rattle.sd_answer.specs.VerdictLines.{line, fault_line}
 use Rattle.sd_script.specs.Command.{line_asks}
 use Rattle.sd_script.specs.Lines.{is_silent}
 use Rattle.sd_script.specs.Paths.{path_word}

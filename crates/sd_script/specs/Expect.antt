@@ -3,7 +3,7 @@ use Rattle.std.specs.Prelude.{ℕ, ◌+◌, Bool, true, false, ◌==◌, List, O
 use Rattle.std.specs.Prelude.{drop, length, min, take}
 use Rattle.std.specs.List.{before_first}
 use Rattle.std.specs.Option.{option_map_or}
-use Rattle.sd_answer.specs.VerdictLine.{line, fault_line}
+use Rattle.sd_answer.specs.VerdictLines.{line, fault_line}
 use Rattle.sd_script.specs.Lines.{is_silent, word_len}
 
 -- the line expects an answer: its first word is `expect`

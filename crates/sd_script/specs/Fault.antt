@@ -1,6 +1,6 @@
 -- What is wrong with a line, and the line of its answer. Of several faults the first is reported.
 use Rattle.std.specs.Prelude.{◌≡◌, ⊤, ◌⊎◌, ℕ, List, Result, Ok, Err, codes}
-use Rattle.sd_answer.specs.VerdictLine.{fault_line, sddl_fault_line}
+use Rattle.sd_answer.specs.VerdictLines.{fault_line, sddl_fault_line}
 use Rattle.sd_script.specs.declared.fault.LineFault.{LineFault}
 use Rattle.sd_script.specs.declared.fault.LineFault.TheVariants.{Utf8, Words, Open, Number, Path, Sid, Sddl, Parts}
 use Rattle.sd_script.specs.declared.fault.LineFault.TheVariants.{Mask, Token}

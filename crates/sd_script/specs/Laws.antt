@@ -10,8 +10,8 @@ use Rattle.sd_edit.specs.Plain.{row_at}
 use Rattle.sd_edit.specs.declared.node.NodeRow.{NodeRow}
 use Rattle.sd_edit.specs.Machine.{Machine, accepted}
 use Rattle.sd_edit.specs.declared.request.Request.TheVariants.{Check}
-use Rattle.sd_answer.specs.VerdictLine.{line, spelled}
-use Rattle.sd_answer.specs.declared.verdict_line.Spelling.{Spelling}
+use Rattle.sd_answer.specs.VerdictLines.{line, spelled}
+use Rattle.sd_answer.specs.declared.verdict_lines.Spelling.{Spelling}
 use Rattle.sd_script.specs.Command.{line_asks}
 use Rattle.sd_script.specs.Deletion.{delete_right}
 use Rattle.sd_script.specs.Output.{IsAnswered, IsDone, Prints}

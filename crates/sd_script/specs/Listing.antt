@@ -18,7 +18,7 @@ use Rattle.sd_edit.specs.declared.node.NodeRow.{NodeRow}
 use Rattle.sd_edit.specs.declared.opening.Opening.{Opening}
 use Rattle.sd_edit.specs.declared.reply.CheckReply.{CheckReply}
 use Rattle.sd_edit.specs.declared.reply.CheckReply.TheVariants.{Verdict}
-use Rattle.sd_answer.specs.VerdictLine.{line, fault_line}
+use Rattle.sd_answer.specs.VerdictLines.{line, fault_line}
 use Rattle.sd_script.specs.Paths.{is_split, path_word}
 use Rattle.sd_script.specs.Reply.{shown_sddl}
 use Rattle.sd_script.specs.declared.listing.NodeFilter.{NodeFilter}

@@ -14,9 +14,9 @@ use Rattle.sd_edit.specs.declared.request.Reply.TheVariants.{Edited, Refused, Pu
 use Rattle.sd_edit.specs.declared.request.Reply.TheVariants.{Shown, NoReader, NoNotice, Memory}
 use Rattle.sd_edit.specs.declared.start.StartError.{StartError}
 use Rattle.sd_edit.specs.declared.start.StartError.TheVariants as starts
-use Rattle.sd_answer.specs.VerdictLine.{line, right_names_of, verdict_line}
+use Rattle.sd_answer.specs.VerdictLines.{line, right_names_of, verdict_line}
 use Rattle.sd_answer.specs.Why.{why_text}
-use Rattle.sd_answer.specs.declared.verdict_line.Spelling.{Spelling}
+use Rattle.sd_answer.specs.declared.verdict_lines.Spelling.{Spelling}
 
 abbrev pub refused_line : EditRefusal → List ℕ
 refused_line refusal = line (codes "refused " ++ decimal (number_of refusal) ++ codes " " ++ name_of refusal)

@@ -16,9 +16,9 @@ use Rattle.sd_answer.specs.Parts.{parts_in}
 use Rattle.sd_review.specs.Review.{Trees, former, stands_in, trees_after}
 use Rattle.sd_review.specs.declared.review.Former.{Former}
 use Rattle.sd_review.specs.declared.review.Former.TheVariants.{Same, Moved, New}
-use Rattle.sd_answer.specs.VerdictLine.{line, fault_line}
+use Rattle.sd_answer.specs.VerdictLines.{line, fault_line}
 use Rattle.sd_answer.specs.Compare.{gains_and_losses}
-use Rattle.sd_answer.specs.declared.verdict_line.Spelling.{Spelling}
+use Rattle.sd_answer.specs.declared.verdict_lines.Spelling.{Spelling}
 use Rattle.sd_script.specs.Listing.{lacks_words}
 use Rattle.sd_script.specs.Paths.{path_word}
 use Rattle.sd_script.specs.declared.script_options.Notation.{Notation}

@@ -3,7 +3,7 @@ use Rattle.std.specs.Prelude.{ℕ, ◌+◌, ◌-◌, ◌^◌, Bool, false, ◌&&
 use Rattle.std.specs.Prelude.{None, if◌then◌else◌, codes, bytes_eq}
 use Rattle.std.specs.List.{starts_with}
 use Rattle.std.specs.Option.{option_or}
-use Rattle.sd_answer.specs.VerdictLine.{line}
+use Rattle.sd_answer.specs.VerdictLines.{line}
 use Rattle.sd_script.specs.Expect.{expects}
 use Rattle.sd_script.specs.declared.script_counts.ScriptCounts.{ScriptCounts}
 

@@ -7,9 +7,9 @@ use Rattle.sd_check.specs.Check.{dacl_entries}
 use Rattle.sd_check.specs.declared.token.GroupState.{GroupState}
 use Rattle.sd_analysis.specs.Who.{AllBeyond, HasEachOnce, IsMost, IsWho}
 use Rattle.sd_analysis.specs.declared.who_has.Access.{Access}
-use Rattle.sd_answer.specs.VerdictLine.{line}
+use Rattle.sd_answer.specs.VerdictLines.{line}
 use Rattle.sd_answer.specs.Who.{rights_asked, who_text}
-use Rattle.sd_answer.specs.declared.verdict_line.Spelling.{Spelling}
+use Rattle.sd_answer.specs.declared.verdict_lines.Spelling.{Spelling}
 
 -- where no right is asked about, the answer says so: none is an empty line alone
 abbrev pub or_empty : List ℕ → List ℕ

@@ -1,7 +1,7 @@
 //! How a script is carried out.
 ghost use Rattle.std.specs.Prelude.{◌≡◌, None, false};
 ghost use Rattle.sd_text.specs.Alias.{in_domain};
-ghost use Rattle.sd_answer.specs.declared.verdict_line.Spelling.TheVariants.{Number};
+ghost use Rattle.sd_answer.specs.declared.verdict_lines.Spelling.TheVariants.{Number};
 
 use crate::paths::PathSpelling;
 use sd_answer::Spelling;

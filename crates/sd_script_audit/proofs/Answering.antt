@@ -14,7 +14,7 @@ use Rattle.sd_store.specs.Audits.{AreAnswers, HaveGrown, reply_by}
 use Rattle.sd_store.specs.Sights.{Sight}
 use Rattle.sd_store.specs.declared.query.Query.{Query}
 use Rattle.sd_store.proofs.Dealing.{nobody}
-use Rattle.sd_answer.specs.declared.verdict_line.Spelling.{Spelling}
+use Rattle.sd_answer.specs.declared.verdict_lines.Spelling.{Spelling}
 use Rattle.sd_script.specs.Reply.{check_line, reply_line, seen_line}
 use Rattle.sd_script_audit.specs.Audit.{answer_line}
 

@@ -9,8 +9,8 @@ use Rattle.sd_edit.specs.Machine.{accepted}
 use Rattle.sd_edit.specs.declared.request.Request.TheVariants.{Check, Edit, Publish}
 use Rattle.sd_store.specs.Audits.{reply_by}
 use Rattle.sd_store.specs.declared.query.Query.{Query}
-use Rattle.sd_answer.specs.VerdictLine.{fault_line}
-use Rattle.sd_answer.specs.declared.verdict_line.Spelling.{Spelling}
+use Rattle.sd_answer.specs.VerdictLines.{fault_line}
+use Rattle.sd_answer.specs.declared.verdict_lines.Spelling.{Spelling}
 use Rattle.sd_lines.specs.Answers.{AreAnswered}
 use Rattle.sd_script.specs.Command.{line_asks}
 use Rattle.sd_script.specs.Expect.{expects}

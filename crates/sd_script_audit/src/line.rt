@@ -1,7 +1,7 @@
 //! What a line of an audit asks for.
 
 ghost use Rattle.std.specs.Prelude.{◌≡◌, IfErr, IfOk, IfSome, codes, string_bytes};
-ghost use Rattle.sd_answer.specs.VerdictLine.{fault_line};
+ghost use Rattle.sd_answer.specs.VerdictLines.{fault_line};
 ghost use Rattle.sd_script_audit.specs.Audit.{AsksInAudit, IsToldInAudit};
 
 use sd_answer::fault_line;

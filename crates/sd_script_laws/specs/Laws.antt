@@ -4,7 +4,7 @@ use Rattle.std.specs.Str.Lines.{lines}
 use Rattle.sd_edit.specs.Journal.{replay, root_refusal, IsLawful}
 use Rattle.sd_edit.specs.Machine.{Machine}
 use Rattle.sd_edit.specs.Starts.{IsReaderCount}
-use Rattle.sd_answer.specs.VerdictLine.{fault_line}
+use Rattle.sd_answer.specs.VerdictLines.{fault_line}
 use Rattle.sd_script.specs.Expect.{expects}
 use Rattle.sd_script.specs.Output.{IsAnswered, IsDone}
 use Rattle.sd_script.specs.declared.line_request.LineRequest.TheVariants.{Viewing}

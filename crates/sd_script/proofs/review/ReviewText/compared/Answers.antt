@@ -8,7 +8,7 @@ use Rattle.sd_answer.specs.Parts.{parts_in}
 use Rattle.sd_review.specs.Review.{trees_of}
 use Rattle.sd_review.specs.declared.compared.Compared.{Compared}
 use Rattle.sd_review.proofs.RightOnes.{right_one}
-use Rattle.sd_answer.specs.declared.verdict_line.Spelling.{Spelling}
+use Rattle.sd_answer.specs.declared.verdict_lines.Spelling.{Spelling}
 use Rattle.sd_script.specs.Review.{IsChangeText}
 use Rattle.sd_script.proofs.review.ReviewText.compared.Goals as goal
 

@@ -8,8 +8,8 @@ use Rattle.sd_text.specs.declared.fault.TextFault.{TextFault}
 use Rattle.sd_text.specs.declared.right_names.RightNames.{RightNames}
 use Rattle.sd_text.specs.declared.right_names.RightNames.TheVariants.{All, Files, Keys, Common}
 use Rattle.sd_answer.specs.Names.{mask_names}
-use Rattle.sd_answer.specs.declared.verdict_line.Spelling.{Spelling}
-use Rattle.sd_answer.specs.declared.verdict_line.Spelling.TheVariants.{Number, Names}
+use Rattle.sd_answer.specs.declared.verdict_lines.Spelling.{Spelling}
+use Rattle.sd_answer.specs.declared.verdict_lines.Spelling.TheVariants.{Number, Names}
 use Rattle.sd_answer.specs.declared.names.ObjectKind.TheVariants.{File, Key}
 
 -- the text, and the end of the line

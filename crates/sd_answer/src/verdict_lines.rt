@@ -1,7 +1,7 @@
 //! The lines of verdicts and of invalid arguments, and how they spell masks.
 ghost use Rattle.std.specs.Prelude.{◌≡◌, ◌++◌, IfOk, string_bytes};
-ghost use Rattle.sd_answer.specs.VerdictLine.{fault_line, line, right_names_of, sddl_fault_line};
-ghost use Rattle.sd_answer.specs.VerdictLine.{spelled, verdict_line};
+ghost use Rattle.sd_answer.specs.VerdictLines.{fault_line, line, right_names_of, sddl_fault_line};
+ghost use Rattle.sd_answer.specs.VerdictLines.{spelled, verdict_line};
 
 use crate::names::{ObjectKind, mask_names};
 use sd_check::Verdict;
