@@ -6,6 +6,7 @@ ghost use Rattle.sd_commands.specs.Answer.{AnswersUser, IsVerdict, IsWordFault, 
 ghost use Rattle.sd_commands.specs.Answer.{verdict_outcome};
 
 use crate::answer::{Answer, Answered, Outcome};
+use crate::logon::words_for;
 use crate::settings::Command;
 use crate::words::{argument, items_from};
 use sd_acl::Descriptor;
@@ -25,8 +26,8 @@ pub(crate) enum Form {
 }
 
 impl Command {
-    /// The verdict on a descriptor, where the user, the mask and words are the arguments; or the fault of the first
-    /// from the left that is invalid.
+    /// The verdict on a descriptor, where the user, the mask and words are the arguments, with the groups of the logon
+    /// behind them; or the fault of the first from the left that is invalid.
     pub(crate) fn verdict(self, form: Form, descriptor: &Descriptor, arguments: &[&str]) -> Answered
         ensures { IfOk result (λ answer. AnswersUser self.settings form arguments.now (descriptor_of descriptor.now)
             (answer_of answer)) }
@@ -40,10 +41,10 @@ impl Command {
             Ok(asked) => asked,
             Err(error) => return self.text_fault("mask", "MASK", mask, error),
         };
-        let words = items_from(arguments, 2);
-        match read_token(self.alloc, self.settings.aliases, sid, words) {
+        let words = words_for(self.alloc, self.settings.logon, items_from(arguments, 2))?;
+        match read_token(self.alloc, self.settings.aliases, sid, &words) {
             Ok(token) => self.verdict_for(form, descriptor, &token, asked),
-            Err(TokenError::NoWord { place }) => self.word_fault(words, place),
+            Err(TokenError::NoWord { place }) => self.word_fault(&words, place),
             Err(TokenError::Memory) => Err(AllocError),
         }
     }
