@@ -208,13 +208,13 @@ pub(crate) fn mask_named(kind: Option<ObjectKind>, word: &str) -> Option<u32>
     bits_among(all_names(), kind, word)
 }
 
-/// The bits of the first of these names that the word is.
+/// The bits of the first of these names that the word is, in any case.
 fn bits_among(rows: &[NamedBits], kind: Option<ObjectKind>, word: &str) -> Option<u32>
     ensures { result ≡ bits_among (map named_bits rows.now) kind word.now }
 {
     match rows {
         [] => None,
-        [row, _rows @ ..] if is_of(kind, row.2) && row.0 == word => Some(row.1),
+        [row, _rows @ ..] if is_of(kind, row.2) && row.0.eq_ignore_ascii_case(word) => Some(row.1),
         [_row, rows @ ..] => bits_among(rows, kind, word),
     }
 }
