@@ -95,16 +95,16 @@ kinds_append : (p : Ace → Bool) (xs ys : List Ace) → kind_found p (xs ++ ys)
 unfolding kind_found
 kinds_append p [] ys = refl
 kinds_append p (x ∷ xs) ys = elim (cases_Bool (p x)) [
-  | inl yes ↦ rw yes refl
-  | inr no ↦ rw no (kinds_append p xs ys)
+  | inl so ↦ rw so refl
+  | inr not_so ↦ rw not_so (kinds_append p xs ys)
 ]
 
 one_more : (p q : Ace → Bool) (x y : Ace) (xs ys : List Ace) → x.kind ≡ y.kind → p x ≡ q y → kind_found p xs ≡ kind_found q ys
     → kind_found p (x ∷ xs) ≡ kind_found q (y ∷ ys)
 unfolding kind_found
 one_more p q x y xs ys kinds same rest = elim (cases_Bool (q y)) [
-  | inl yes ↦ rw (same ∙ yes, yes) (ap Some kinds)
-  | inr no ↦ rw (same ∙ no, no) rest
+  | inl so ↦ rw (same ∙ so, so) (ap Some kinds)
+  | inr not_so ↦ rw (same ∙ not_so, not_so) rest
 ]
 
 waits : (e : Ace) → is_inherit_only (waiting_copy e) ≡ true
@@ -126,10 +126,26 @@ module _ (g : MappingValue) (owner group : SidValue) (not_owner : same_sid owner
   limit_copy e = ap (λ x. not (is_inherit_only (effective_copy g owner group e)) && x) (limit_created e.sid)
 
   limits_one : (kind : NodeKind) (e : Ace) → list_any is_limit (pass_on g kind creator_owner creator_group e) ≡ list_any is_limit (pass_on g kind owner group e)
-  limits_one Object e = ap (λ x. cond (object_inherit e) (x || false) false) (limit_copy e)
-  limits_one Container e =
-      ap (λ x. cond (container_inherit e) (cond (no_propagate e) (x || false) (cond (is_split e) (x || (is_limit (waiting_copy e) || false)) (is_limit (whole_copy e) || false)))
-      (cond (object_inherit e) (cond (no_propagate e) false (is_limit (waiting_copy e) || false)) false)) (limit_copy e)
+  limits_one Object e = elim (cases_Bool (object_inherit e)) [
+    | inl given ↦ rw given (ap (λ x. x || false) (limit_copy e))
+    | inr not_given ↦ rw not_given refl
+  ]
+  limits_one Container e = elim (cases_Bool (container_inherit e)) [
+    | inl given ↦ elim (cases_Bool (no_propagate e)) [
+      | inl stops ↦ rw (given, stops) (ap (λ x. x || false) (limit_copy e))
+      | inr goes ↦ elim (cases_Bool (is_split e)) [
+        | inl split ↦ rw (given, goes, split) (ap (λ x. x || (is_limit (waiting_copy e) || false)) (limit_copy e))
+        | inr alone ↦ rw (given, goes, alone) refl
+      ]
+    ]
+    | inr not_given ↦ elim (cases_Bool (object_inherit e)) [
+      | inl for_objects ↦ elim (cases_Bool (no_propagate e)) [
+        | inl stops ↦ rw (not_given, for_objects, stops) refl
+        | inr goes ↦ rw (not_given, for_objects, goes) refl
+      ]
+      | inr for_none ↦ rw (not_given, for_none) refl
+    ]
+  ]
 
   limits_all : (kind : NodeKind) (es : List Ace) → list_any is_limit (handed g kind es) ≡ list_any is_limit (handed_to g kind owner group es)
   limits_all kind [] = refl
@@ -179,30 +195,43 @@ module _ (g : MappingValue) (owner group : SidValue) (not_owner : same_sid owner
         let sids = or_parts _ _ (or_parts _ _ h).1 in
         ap (λ x. (not (is_inherit_only (whole_copy e)) && x) && holds (mapped g e.mask) b) (other_sid e.kind e.sid sids.0 sids.1)
 
+    effective_alone : (e : Ace)
+        → kind_found by_them (effective_copy g creator_owner creator_group e ∷ []) ≡ kind_found by_me (effective_copy g owner group e ∷ [])
+    unfolding kind_found
+    effective_alone e =
+        one_more by_them by_me (effective_copy g creator_owner creator_group e) (effective_copy g owner group e) [] [] refl (effective e) refl
+
+    waiting_alone : (e : Ace) → kind_found by_them (waiting_copy e ∷ []) ≡ kind_found by_me (waiting_copy e ∷ [])
+    unfolding kind_found
+    waiting_alone e = one_more by_them by_me (waiting_copy e) (waiting_copy e) [] [] refl (waiting e) refl
+
     kinds_one : (kind : NodeKind) (e : Ace) → kind_found by_them (pass_on g kind creator_owner creator_group e) ≡ kind_found by_me (pass_on g kind owner group e)
     unfolding kind_found
     kinds_one Object e = elim (cases_Bool (object_inherit e)) [
-      | inl yes ↦ rw yes (one_more by_them by_me _ _ [] [] refl (effective e) refl)
-      | inr no ↦ rw no refl
+      | inl given ↦ rw given (effective_alone e)
+      | inr not_given ↦ rw not_given refl
     ]
     kinds_one Container e = elim (cases_Bool (container_inherit e)) [
-      | inl yes ↦ elim (cases_Bool (no_propagate e)) [
-        | inl stops ↦ rw (yes, stops) (one_more by_them by_me _ _ [] [] refl (effective e) refl)
+      | inl given ↦ elim (cases_Bool (no_propagate e)) [
+        | inl stops ↦ rw (given, stops) (effective_alone e)
         | inr goes ↦ elim (cases_Bool (is_split e)) [
-          | inl split ↦ rw (yes, goes, split) (one_more by_them by_me _ _ _ _ refl (effective e) (one_more by_them by_me _ _ [] [] refl (waiting e) refl))
-          | inr one ↦ rw (yes, goes, one) (one_more by_them by_me _ _ [] [] refl (whole e one) refl)
+          | inl split ↦ rw (given, goes, split)
+              (one_more by_them by_me (effective_copy g creator_owner creator_group e) (effective_copy g owner group e)
+              (waiting_copy e ∷ []) (waiting_copy e ∷ []) refl (effective e) (waiting_alone e))
+          | inr alone ↦ rw (given, goes, alone) (one_more by_them by_me (whole_copy e) (whole_copy e) [] [] refl (whole e alone) refl)
         ]
       ]
-      | inr no ↦ elim (cases_Bool (object_inherit e)) [
-        | inl yes ↦ elim (cases_Bool (no_propagate e)) [
-          | inl stops ↦ rw (no, yes, stops) refl
-          | inr goes ↦ rw (no, yes, goes) (one_more by_them by_me _ _ [] [] refl (waiting e) refl)
+      | inr not_given ↦ elim (cases_Bool (object_inherit e)) [
+        | inl for_objects ↦ elim (cases_Bool (no_propagate e)) [
+          | inl stops ↦ rw (not_given, for_objects, stops) refl
+          | inr goes ↦ rw (not_given, for_objects, goes) (waiting_alone e)
         ]
-        | inr none ↦ rw (no, none) refl
+        | inr for_none ↦ rw (not_given, for_none) refl
       ]
     ]
 
     kinds_all : (kind : NodeKind) (es : List Ace) → kind_found by_them (handed g kind es) ≡ kind_found by_me (handed_to g kind owner group es)
+    unfolding kind_found
     kinds_all kind [] = refl
     kinds_all kind (e ∷ es) =
         kinds_append by_them (pass_on g kind creator_owner creator_group e) (handed g kind es)
@@ -238,25 +267,25 @@ more_stands t s h = grind (arith, h, more_counts t.groups s)
 state_stands : (t : TokenValue) (s name other : SidValue) (kind : AceKind)
     → a_group_stands_for (in_its_state t s name) kind other ≡ (same_sid name other && stands_for t kind s)
 state_stands t s name other Allow = elim (cases_Bool (stands_for t Allow s)) [
-  | inl yes ↦ rw yes (or-false (same_sid name other && true))
-  | inr no ↦ elim (cases_Bool (stands_for t Deny s)) [
-    | inl denies ↦ rw (no, denies) (or-false (same_sid name other && false))
-    | inr never ↦ rw (no, never) (sym (and-false (same_sid name other)))
+  | inl so ↦ rw so (or-false (same_sid name other && true))
+  | inr not_so ↦ elim (cases_Bool (stands_for t Deny s)) [
+    | inl denies ↦ rw (not_so, denies) (or-false (same_sid name other && false))
+    | inr never ↦ rw (not_so, never) (sym (and-false (same_sid name other)))
   ]
 ]
 state_stands t s name other Deny = elim (cases_Bool (stands_for t Allow s)) [
-  | inl yes ↦ rw (yes, more_stands t s yes) (or-false (same_sid name other && true))
-  | inr no ↦ elim (cases_Bool (stands_for t Deny s)) [
-    | inl denies ↦ rw (no, denies) (or-false (same_sid name other && true))
-    | inr never ↦ rw (no, never) (sym (and-false (same_sid name other)))
+  | inl so ↦ rw (so, more_stands t s so) (or-false (same_sid name other && true))
+  | inr not_so ↦ elim (cases_Bool (stands_for t Deny s)) [
+    | inl denies ↦ rw (not_so, denies) (or-false (same_sid name other && true))
+    | inr never ↦ rw (not_so, never) (sym (and-false (same_sid name other)))
   ]
 ]
 
 restricting_stands : (t : TokenValue) (s name other : SidValue)
     → list_any (λ one. same_sid one other) (where_restricting t s name) ≡ (same_sid name other && is_restricting t s)
 restricting_stands t s name other = elim (cases_Bool (is_restricting t s)) [
-  | inl yes ↦ rw yes (or-false (same_sid name other) ∙ sym (and-true (same_sid name other)))
-  | inr no ↦ rw no (sym (and-false (same_sid name other)))
+  | inl so ↦ rw so (or-false (same_sid name other) ∙ sym (and-true (same_sid name other)))
+  | inr not_so ↦ rw not_so (sym (and-false (same_sid name other)))
 ]
 
 some_there : (rs : List SidValue) (s : SidValue) → list_any (λ one. same_sid one s) rs ≡ true → (length rs == 0) ≡ false
@@ -267,8 +296,8 @@ some_there (r ∷ rs) s h = eqb-suc-zero (length rs)
 restricted_more : (t : TokenValue) (s name : SidValue) (rest : List SidValue) → (length rest == 0) ≡ (length t.restricting == 0)
     → (length (where_restricting t s name ++ rest) == 0) ≡ (length t.restricting == 0)
 restricted_more t s name rest h = elim (cases_Bool (is_restricting t s)) [
-  | inl yes ↦ rw yes (eqb-suc-zero (length rest) ∙ sym (some_there t.restricting s yes))
-  | inr no ↦ rw no h
+  | inl so ↦ rw so (eqb-suc-zero (length rest) ∙ sym (some_there t.restricting s so))
+  | inr not_so ↦ rw not_so h
 ]
 
 module _ (owner group : SidValue) (t : TokenValue) where

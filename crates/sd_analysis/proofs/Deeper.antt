@@ -71,15 +71,15 @@ module _ (g : MappingValue) (kind : NodeKind) where
 
   below_one : (e : Ace) → no_propagate e ≡ false → flat_map h (pass_on g Container creator_owner creator_group e) ≡ h e
   below_one e goes = elim (cases_Bool (container_inherit e)) [
-    | inl yes ↦ elim (cases_Bool (is_split e)) [
-      | inl split ↦ rw (yes, goes, split)
+    | inl so ↦ elim (cases_Bool (is_split e)) [
+      | inl split ↦ rw (so, goes, split)
           (ap (λ xs. xs ++ (h (waiting_copy e) ++ [])) (effective_hands_nothing g kind creator_owner creator_group creator_owner creator_group e)
           ∙ alone (waiting_copy e) e (waits_alike e goes))
-      | inr one ↦ rw (yes, goes, one) (alone (whole_copy e) e (whole_passes e goes))
+      | inr one ↦ rw (so, goes, one) (alone (whole_copy e) e (whole_passes e goes))
     ]
-    | inr no ↦ elim (cases_Bool (object_inherit e)) [
-      | inl yes ↦ rw (no, yes, goes) (alone (waiting_copy e) e (waits_alike e goes))
-      | inr none ↦ rw (no, none) (sym (unmarked_stays g kind creator_owner creator_group e none no))
+    | inr isnt ↦ elim (cases_Bool (object_inherit e)) [
+      | inl so ↦ rw (isnt, so, goes) (alone (waiting_copy e) e (waits_alike e goes))
+      | inr none ↦ rw (isnt, none) (sym (unmarked_stays g kind creator_owner creator_group e none isnt))
     ]
   ]
 
