@@ -81,8 +81,7 @@ pub fn canonicalize(alloc: Global, entries: &[Ace]) -> Result<Vec<Ace>, AllocErr
     Ok(ordered)
 }
 
-/// The same entries in the same order, each as one that wasn't inherited ([MS-DTYP] 2.4.4.1, INHERITED_ACE). Fails
-/// only where memory for them is refused.
+/// The entries in their order, each without INHERITED_ACE ([MS-DTYP] 2.4.4.1). The only error is out of memory.
 pub fn explicit_of(alloc: Global, entries: &[Ace]) -> Result<Vec<Ace>, AllocError>
     ensures { IfOk result (λ explicit. explicit.items ≡ explicit_entries entries.now) }
 {

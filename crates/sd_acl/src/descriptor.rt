@@ -9,9 +9,9 @@ use sd_sid::Sid;
 /// The discretionary list of a descriptor ([MS-DTYP] 2.4.6, control bit DP and OffsetDacl), wherever its entries are.
 #[derive(Debug, Clone, Copy, Drop)]
 pub enum DaclOf<Entries> {
-    /// There is none: each of the object's own rights and the standard ones is granted.
+    /// No DACL: each of the object's own rights and the standard ones is granted.
     Absent,
-    /// There is one that is null, with the same meaning.
+    /// A null DACL: each of the object's own rights and the standard ones is granted.
     Null,
     /// The entries grant; an empty list grants nothing.
     List(Entries),

@@ -64,7 +64,8 @@ impl<'a> AceRef<'a> {
         &self.sid
     }
 
-    /// As `Ace::is_inherit_only`.
+    /// Whether the entry is there to be inherited only, and has no part in a check ([MS-DTYP] 2.4.4.1,
+    /// INHERIT_ONLY_ACE).
     #[inline(always)]
     pub fn is_inherit_only(&self) -> bool
         ensures { result ≡ is_inherit_only self.now }

@@ -58,7 +58,7 @@ module _ (case : Case) (is : IsCase case) where
   }
 
 module _ (case : Case) (is : IsCase case) where
-  -- the same of the SIDs as a loop takes them
+  -- a denied SID's place, by the list of SIDs that a loop takes
   pub denied_at : (sids : List SidValue) → sids ≡ case.denied.items → (i n at : ℕ) (s : SidValue) → i < length sids → s ≡ get_or sids i s
       → n ≡ length case.allowed.items + i → at ≡ get_or case.table.places.items n at → IsPlace case s at
   denied_at sids same i n at s low here is_n read =

@@ -153,7 +153,7 @@ beyond_next base before access so_far is = All-push (λ (one : Access). IsBeyond
 
 -- ---- all rights
 
--- those of the asked rights that a list can grant
+-- the asked rights that a list can grant
 pub asked_place : (rights r b : ℕ) → r ≡ mask_of (λ k. holds rights k && holds 0x001FFFFF k) 32 → b < 32 → holds r b ≡ (holds rights b && nat_lt b 21)
 asked_place rights r b is low = grind (arith, holds_place, rights_place)
 

@@ -25,6 +25,6 @@ pub record AreGains (g : MappingValue) (base : List (SidValue × GroupState)) (o
   -- a bit that isn't reported is granted by the new one only where the old one grants it, to every token with the base
   pub complete : (t : TokenValue) (b : ℕ) → HasBase base t → is_reported changes b ≡ false
       → is_granted new.owner new.dacl g t b ≡ true → is_granted old.owner old.dacl g t b ≡ true
-  -- and one that is, is granted to the witness by the new one and not by the old one
+  -- a bit that is reported is granted to the witness by the new one and not by the old one
   pub shown : All (λ c. (b : ℕ) → holds c.mask b ≡ true → gains g old new (token_of base c.witness) b ≡ true) changes
   pub some : All (λ c. HasABit c.mask) changes

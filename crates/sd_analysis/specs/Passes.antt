@@ -19,7 +19,7 @@ abbrev pub stands_in : Pass → TokenValue → AceKind → SidValue → Bool
 stands_in First t = stands_for t
 stands_in Second t = λ kind. is_restricting t
 
--- and whom a base with the SIDs stands for: in the second pass the base has no part
+-- whom a base with the SIDs stands for, in entries of a kind: in the second pass the base has no part
 abbrev pub sids_stand : Pass → List (SidValue × GroupState) → PassSids → AceKind → SidValue → Bool
 sids_stand First base sids = λ kind s. same_sid sids.allowed s
     || a_group_stands_for (with_denied base sids.denied) kind s
@@ -34,7 +34,7 @@ about stands kind (Some s) = stands kind s
 abbrev pub lists : MappingValue → Parts → (AceKind → SidValue → Bool) → ℕ → Bool
 lists g parts stands = acl_grants g (λ kind s. about stands kind (subject parts.owner s)) parts.dacl
 
--- or as the owner's
+-- the descriptor grants the bit as the owner's, in a pass for which somebody stands for these
 abbrev pub owns : Parts → (AceKind → SidValue → Bool) → ℕ → Bool
 owns parts stands b = (about stands Allow parts.owner && not (limits_owner parts.dacl)) && (b == 17 || b == 18)
 

@@ -32,7 +32,7 @@ pub record Stays (owner : Option SidValue) (es : List Ace) (g : MappingValue)
   pub list : left ≡ es
   pub marks_stay : now ≡ marks
 
--- and otherwise the list without it, and its mark
+-- what the judging of one entry leaves where it has no effect: the list without it, and its mark
 pub record Goes (owner : Option SidValue) (es : List Ace) (g : MappingValue)
     (base : List (SidValue × GroupState)) (place : ℕ) (marks : List Bool) (left : List Ace)
     (now : List Bool) : Type 0 where

@@ -62,7 +62,7 @@ pub record ArePlaced (case : Case) (pass : Pass) (sids : PassSids) (both : Both)
 abbrev pub token_meets : Case → Pass → Demand → TokenValue → ℕ → Bool
 token_meets case pass demand t = meets case.mapping.now (old_of case) (new_of case) demand (stands_in pass t)
 
--- and the base with these SIDs does
+-- the base with these SIDs meets the demand in the pass
 abbrev pub sids_meet : Case → Pass → Demand → PassSids → ℕ → Bool
 sids_meet case pass demand sids b =
     meets case.mapping.now (old_of case) (new_of case) demand (sids_stand pass case.base.now sids) b
@@ -73,7 +73,7 @@ is_granted_to case pass demand sids b =
     cond demand.by_owner (owns (new_of case) (sids_stand pass case.base.now sids) b)
     (lists case.mapping.now (new_of case) (sids_stand pass case.base.now sids) b)
 
--- and with the SID alone
+-- the new descriptor grants what is demanded to the base with the SID alone
 abbrev pub is_granted_alone : Case → Pass → Demand → SidValue → ℕ → Bool
 is_granted_alone case pass demand s = is_granted_to case pass demand (record { allowed = s; denied = None })
 
@@ -146,7 +146,7 @@ abbrev pub IsRefused : Case → Demand → TokenValue → ℕ → Type 0
 IsRefused case demand t b = (token_meets case First demand t b ≡ false)
     ⊎ (token_meets case Second (rest_of demand) t b ≡ false)
 
--- and so for each demand that leaves something to the second pass
+-- the token meets, in the two passes, no demand that leaves something to the second pass
 pub record IsRefusedAgain (case : Case) (t : TokenValue) (by_owner : Bool) (b : ℕ) : Type 0 where
   pub owner_second : IsRefused case (record { by_owner = by_owner; unlisted = true; unowned = false }) t b
   pub list_second : IsRefused case (record { by_owner = by_owner; unlisted = false; unowned = true }) t b

@@ -110,12 +110,12 @@ abbrev pub unknown_if_any : (SidValue → Risk) → Option SidValue → List Ris
 unknown_if_any risk None = []
 unknown_if_any risk (Some s) = risk_if (not (is_known s.authority s.subs)) (risk s)
 
--- those of the entry at the place, counted from 1
+-- the risks of the entry at a place, which they name by its number, from 1 on
 abbrev pub risks_at : ℕ → Option Ace → List Risk
 risks_at place None = []
 risks_at place (Some e) = risk_if (not (is_known e.sid.authority e.sid.subs)) (UnknownEntry (place + 1) e)
 
--- those of the entries below a place
+-- the risks of the entries below a place
 unfoldable pub entry_risks : List Ace → ℕ → List Risk
 entry_risks es zero = []
 entry_risks es (suc k) = entry_risks es k ++ risks_at k (slice_get es k)

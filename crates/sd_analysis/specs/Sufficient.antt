@@ -71,7 +71,7 @@ abbrev pub has_sid : Option SidValue → SidValue → Bool
 has_sid None s = false
 has_sid (Some one) s = same_sid one s
 
--- as the owner, or in an entry
+-- the descriptor names the SID, as the owner or in an entry
 abbrev pub is_named : Parts → SidValue → Bool
 is_named parts s = has_sid parts.owner s || list_any (λ (e : Ace). same_sid e.sid s) (entries_or_none parts.dacl)
 
@@ -79,7 +79,7 @@ is_named parts s = has_sid parts.owner s || list_any (λ (e : Ace). same_sid e.s
 abbrev pub allowed_sids : SidValue → Parts → List SidValue
 allowed_sids other new = other ∷ (option_to_list new.owner ++ subjects_in true new)
 
--- and whom the old one may deny it through
+-- whom the old descriptor may deny a bit through
 abbrev pub denied_sids : Parts → List SidValue
 denied_sids old = subjects_in false old
 
@@ -91,7 +91,7 @@ pub record MayDecide (other : SidValue) (old new : Parts) (sids : PassSids) : Ty
   pub allowed : is_among (allowed_sids other new) sids.allowed ≡ true
   pub denied : (s : SidValue) → sids.denied ≡ Some s → is_among (denied_sids old) s ≡ true
 
--- those of the user and the groups, and of the restricting SIDs
+-- the witness's SIDs may decide, in the pass of the user and the groups and in that of the restricting SIDs
 pub record WitnessMayDecide (other : SidValue) (old new : Parts) (w : Witness) : Type 0 where
   pub first : MayDecide other old new w.first
   pub second : (sids : PassSids) → w.second ≡ Some sids → MayDecide other old new sids

@@ -33,7 +33,7 @@ abbrev pub place_in : List SidValue → SidValue → ℕ
 place_in [] s = 0
 place_in (one ∷ sids) s = cond (same_sid one s) 0 (suc (place_in sids s))
 
--- its last sub-authority, in which SIDs differ most
+-- the SID's last sub-authority, in which SIDs differ most
 abbrev pub last_sub : SidValue → ℕ
 last_sub s = slice_index s.subs (length s.subs - 1)
 
@@ -68,7 +68,7 @@ abbrev pub applies_in : Pass → Option ℕ → Row → Bool
 applies_in First beside row = row.is_based || is_at beside row.place
 applies_in Second beside row = is_at beside row.place
 
--- and otherwise where its SID is there: a SID beside another denies only, in the first pass
+-- an entry of the kind counts where its SID is there: a SID beside another denies only, in the first pass
 abbrev pub counts_in : Pass → Option ℕ → AceKind → Bool
 counts_in pass None kind = true
 counts_in First (Some one) kind = not (is_allow kind)

@@ -38,14 +38,14 @@ IsWho owner dacl g base rights accesses =
     (t : TokenValue) (b : ℕ) → IsPlain t → HasBase base t → b < 32
     → list_any (has_right t b) accesses ≡ ((holds rights b && nat_lt b 21) && is_granted owner dacl g t b)
 
--- and a restricted token with the base, without privileges, is granted nothing beyond
+-- a token with the base, without privileges, restricted or not, is granted nothing beyond the alternatives
 abbrev pub IsMost : Option SidValue → Option (List Ace) → MappingValue → List (SidValue × GroupState)
     → ℕ → List Access → Type 0
 IsMost owner dacl g base rights accesses =
     (t : TokenValue) (b : ℕ) → t.privileges ≡ no_privileges → HasBase base t → b < 21 → holds rights b ≡ true
     → is_granted owner dacl g t b ≡ true → list_any (has_right t b) accesses ≡ true
 
--- each of those rights is in the mask of just one, and no other bit is in any
+-- each right below place 21 that was asked about is in the mask of just one access, and no other bit is in any
 abbrev pub HasEachOnce : ℕ → List Access → Type 0
 HasEachOnce rights accesses =
     (b : ℕ) → b < 32

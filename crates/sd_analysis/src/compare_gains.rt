@@ -223,7 +223,8 @@ impl Case<'_> {
         Ok(true)
     }
 
-    /// The same, the second pass first. Returns whether any SIDs meet the rest in that.
+    /// Reports what tokens gain that meet the demand in the first pass, and the rest in the second, which is searched
+    /// first. Returns whether any SIDs meet the rest in that.
     fn second_then_first(
         &self,
         alloc: Global,

@@ -30,7 +30,7 @@ pub(crate) struct Case<'a> {
     pub(crate) allowed: Vec<Sid>,
     /// Whom the old one may deny it through.
     pub(crate) denied: Vec<Sid>,
-    /// Of all these together.
+    /// The table of all SIDs of `allowed` and `denied`.
     pub(crate) table: Table,
 }
 
@@ -282,7 +282,7 @@ impl Case<'_> {
         Ok(())
     }
 
-    /// Those of the bits for which the SIDs meet the demand.
+    /// The bits of `among` for which the SIDs meet the demand in the pass.
     fn met(
         &self,
         both: &Both,
@@ -327,7 +327,8 @@ impl Case<'_> {
     }
 }
 
-/// Those of the bits that the lists leave in question at the place: of what the owner may have, all of its own.
+/// The bits of `among` that the lists leave in question at the place: the new one grants them, which with `by_owner`
+/// isn't asked, and the old one doesn't, where `unlisted` demands that.
 #[inline(always)]
 fn in_question(both: &Both, demand: Demand, place: usize, among: Mask) -> Mask
     requires before { place < length both.now.before.own.items }

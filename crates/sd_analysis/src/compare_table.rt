@@ -58,7 +58,7 @@ pub(crate) struct Shares {
     pub(crate) own: Vec<Share>,
 }
 
-/// The same of two descriptors.
+/// What the lists of both descriptors of a comparison come to.
 #[derive(Drop)]
 pub(crate) struct Both {
     pub(crate) before: Shares,
@@ -171,7 +171,7 @@ fn is_same(one: &Sid, sid: &Sid, last: u32) -> bool
     one.is(sid)
 }
 
-/// Its last sub-authority, in which SIDs differ most.
+/// The SID's last sub-authority, in which SIDs differ most.
 #[inline(always)]
 fn last_sub(sid: &Sid) -> u32
     ensures { result ≡ last_sub sid.now }

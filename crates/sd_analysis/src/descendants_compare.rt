@@ -18,9 +18,9 @@ use std::alloc::{AllocError, Global};
 #[derive(Debug, Drop)]
 pub struct DescendantChange {
     pub descendant: Descendant,
-    /// The descendant's list by the old one.
+    /// What the descendant inherits of the container's old list.
     pub before: Vec<Ace>,
-    /// And by the new one.
+    /// What the descendant inherits of the container's new list.
     pub after: Vec<Ace>,
     /// With S-1-3-0 for the owner and S-1-3-1 for the group.
     pub comparison: Comparison,

@@ -57,7 +57,7 @@ impl Case<'_> {
         Ok(accesses)
     }
 
-    /// Of these rights, those that the entries decide as they do the one at the place.
+    /// The rights of `among` that the entries decide as they do the right at the place.
     fn alike(&self, place: u32, among: Mask) -> Mask
         requires { place < 32 }
         ensures { (b : ℕ) → b < 32 → holds result b ≡ (holds among b && is_alike self.now b place) }

@@ -23,7 +23,7 @@ pub enum Holder {
     Everyone,
     /// A token that has the SID as its user or an enabled group.
     Sid(Sid),
-    /// The same, for the owner of the descriptor, who has the right without an entry.
+    /// A token that has this SID, the descriptor's owner, as its user or an enabled group. It needs no entry.
     Owner(Sid),
 }
 

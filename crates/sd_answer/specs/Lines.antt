@@ -47,7 +47,7 @@ abbrev pub lines_at : Spelling → List ℕ → List LineValue → ℕ → List 
 lines_at spelling head lines b =
     flat_map (λ (one : LineValue). if is_lowest one.0 b then bits_line spelling head one else []) lines
 
--- those of the bits below n, in order
+-- the lines whose lowest bit is below n, in order of that bit
 unfoldable pub lines_below : Spelling → List ℕ → List LineValue → ℕ → List ℕ
 lines_below spelling head lines zero = []
 lines_below spelling head lines (suc k) = lines_below spelling head lines k ++ lines_at spelling head lines k

@@ -72,13 +72,13 @@ abbrev pub lines_at : Spelling → List Ace → ℕ → Option Ace → Bool → 
 lines_at spelling es place None mark = []
 lines_at spelling es place (Some e) mark = entry_lines spelling (take place es) e mark
 
--- those of the entries below a place
+-- the lines of the entries below a place
 unfoldable pub list_lines : Spelling → List Ace → List Bool → ℕ → List ℕ
 list_lines spelling es marks zero = []
 list_lines spelling es marks (suc k) =
     list_lines spelling es marks k ++ lines_at spelling es k (slice_get es k) (is_marked marks k)
 
--- those of a DACL of this owner's, of whose entries the redundant ones are marked
+-- the lines on a DACL of this owner's, whose redundant entries are marked
 abbrev pub AreDaclLines : MappingValue → Spelling → List (SidValue × GroupState) → Option SidValue → Dacl → List ℕ
     → Type 0
 AreDaclLines g spelling base owner Absent text = text ≡ line (codes "no DACL grants everything")

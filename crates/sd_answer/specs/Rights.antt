@@ -17,7 +17,7 @@ permission_among (named ∷ rest) kind mask =
     if is_own kind named.1 && named.0.stands_for == mask then Some named.0.letters
     else permission_among rest kind mask
 
--- as Windows lists it, or else as it is printed under `--names`
+-- the mask's name, as Windows lists it, or else as it is printed under `--names`
 abbrev pub permission_named : Option ObjectKind → ℕ → Option (List ℕ)
 permission_named kind mask = permission_among (long_names ++ short_names) kind mask
 

@@ -27,7 +27,7 @@ holder_text (Owner s) = full_canon s ++ codes " as the owner"
 abbrev pub unless_text : List SidValue → List ℕ
 unless_text sids = if length sids == 0 then [] else codes " unless" ++ flat_map (sid_text []) sids
 
--- as ` to S-1-1-0 unless S-1-5-32-546`
+-- an alternative, as ` to S-1-1-0 unless S-1-5-32-546`
 abbrev pub alternative_text : List SidValue → Alternative → List ℕ
 alternative_text denied a = codes " to " ++ holder_text a.holder ++ unless_text (take a.unless denied)
 

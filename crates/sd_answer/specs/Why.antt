@@ -60,7 +60,7 @@ line_at spelling owner es (Some part) =
     line (verb_of part.cause ++ codes " " ++ spelled spelling part.mask ++ codes " "
     ++ cause_text spelling owner es part.cause)
 
--- those of the places below n, in order
+-- the lines of the parts that begin at places below n, in order
 unfoldable pub part_lines : Spelling → Option SidValue → List Ace → (ℕ → Option Reason) → ℕ → List ℕ
 part_lines spelling owner es reasons zero = []
 part_lines spelling owner es reasons (suc k) =

@@ -161,7 +161,7 @@ abbrev pub request_on : CallValue → Option InvocationValue
 request_on call =
     if takes_count call.command (length call.arguments) then request_by call.command.name call call.arguments else None
 
--- the same, or what it asks of the input
+-- what a command asks for with its arguments, or after `--stdin` what it asks of the input
 abbrev pub asked_by : CallValue → Option InvocationValue
 asked_by call =
     if has call.options Stdin then text_request (Ask None) call.command.name call else request_on call

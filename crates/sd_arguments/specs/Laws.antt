@@ -40,7 +40,7 @@ DashesKeepTexts question command = (name word dashes sddl user mask : Bor (List 
     → reading (name ∷ word ∷ dashes ∷ sddl ∷ user ∷ mask ∷ words) ≡ Some (Runs no_options
     (Ask (Some sddl.now) (record { question = Descriptor question; arguments = user ∷ mask ∷ words })))
 
--- the same with options before the command
+-- after `--names`, `--domain` with its SID, `why` and `--` each argument is that of its place, whatever its text
 abbrev pub OptionsKeepTexts : Type 0
 OptionsKeepTexts = (name option domain sid word dashes sddl user mask : Bor (List ℕ)) (words : List (Bor (List ℕ)))
     → option.now ≡ codes "--names" → domain.now ≡ codes "--domain" → word.now ≡ codes "why" → dashes.now ≡ codes "--"

@@ -79,7 +79,7 @@ abbrev pub goes_before : List ℕ → OptionsValue → ProgramOption → Bool
 goes_before name options option =
     takes_option name option.name && not (option_map_or (has options) option.excludes false)
 
--- so may each of the options that the arguments begin with: an option's value is none
+-- each of the options that the arguments begin with may go before the command of this name: an option's value is none
 abbrev pub go_before_from : Bool → List ℕ → OptionsValue → List (Bor (List ℕ)) → Bool
 go_before_from is_value name options [] = true
 go_before_from true name options (value ∷ words) = go_before_from false name options words

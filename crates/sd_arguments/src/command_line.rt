@@ -88,7 +88,7 @@ impl<'a> Call<'a> {
         }
     }
 
-    /// Of another number of arguments than the command takes: the one that is missing, or the first that is too many.
+    /// The mistake of a wrong number of arguments: the one that is missing, or the first that is too many.
     fn miscounted(self, count: usize) -> Mistake {
         let arguments = self.command.arguments;
         let (left, wrong) = match arguments.at(count) {
@@ -166,7 +166,7 @@ impl<'a> Call<'a> {
         call.asks(Invocation::Each { given, request })
     }
 
-    /// The same, or after `--stdin` what it asks of the input.
+    /// What the command asks for with its arguments, or after `--stdin` what it asks of the input.
     fn asked(self) -> Result<Invocation<'a>, Mistake>
         ensures { accepted invocation_of result ≡ asked_by (call_of self.entry) }
     {

@@ -12,7 +12,7 @@ pub struct GivenFlags {
     pub key: bool,
 }
 
-/// None of them.
+/// No option of the command's own is given.
 pub(crate) const NO_FLAGS: GivenFlags = GivenFlags {
     ids: false,
     zero: false,
@@ -30,7 +30,7 @@ impl GivenFlags {
         }
     }
 
-    /// These, and this one.
+    /// The given options, and one more.
     fn with_flag(self, flag: Flag) -> GivenFlags
         ensures { result ≡ with_flag self flag }
     {

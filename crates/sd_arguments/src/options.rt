@@ -39,7 +39,7 @@ pub struct Options<'a> {
 }
 
 impl<'a> Options<'a> {
-    /// None of them.
+    /// No option is given.
     pub(crate) fn none() -> Options<'a>
         ensures { options_of result ≡ no_options }
     {
@@ -61,7 +61,7 @@ impl<'a> Options<'a> {
         self.given(option).is_some()
     }
 
-    /// These and one more, from which on there are so many arguments, unless it is one of these already.
+    /// The options and one more, with `left` arguments from it on; `RepeatedOption` if it is given already.
     fn with_option(self, left: usize, option: OptionName, value: &'a str) -> Result<Self, Mistake>
         ensures { accepted options_of result ≡ with_option (options_of self.entry) option value.now }
     {

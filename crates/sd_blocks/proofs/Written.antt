@@ -50,7 +50,7 @@ get_joined {T} bs at k b start x found in_list is starts here =
     let there = get_or-flat_map (λ (y : ℕ × List T). y.1) bs k (at - start) b x found.inside within in
     here ∙ ap (λ ys. get_or ys (at - start) x) e1 ∙ sym there ∙ ap (λ i. get_or (joined bs) i x) place
 
--- the same lists round a block that keeps its length
+-- the joined list keeps its length where a block becomes another of the block's length
 joined_same_length : {T : Type 0} (bs : List (ℕ × List T)) (k : ℕ) (d b' : ℕ × List T) → k < length bs → length b'.1 ≡ length (get_or bs k d).1 → length (joined (set bs k b')) ≡ length (joined bs)
 joined_same_length bs k d b' h same =
     ap length (joined_set bs k b' h)

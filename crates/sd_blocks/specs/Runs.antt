@@ -14,7 +14,7 @@ without_run from count xs = take from xs ++ drop (from + count) xs
 abbrev pub with_run : {T : Type 0} → ℕ → List T → List T → List T
 with_run at ys xs = take at xs ++ (ys ++ drop at xs)
 
--- so many from the one position on give way, and a run stands at the other, which is counted among those that stay
+-- the list without so many elements from a position on, and with a run at another, which is counted without them
 abbrev pub exchanged : {T : Type 0} → ℕ → ℕ → ℕ → List T → List T → List T
 exchanged from count to ys xs = with_run to ys (without_run from count xs)
 

@@ -108,7 +108,7 @@ impl<T, R: Run<T>> Block<T, R> {
         self.start -= 1;
     }
 
-    /// The same run, in a list that starts at a later position.
+    /// A block that shares this one's run, in a list that starts `by` positions later.
     pub(crate) fn share_from(&self, by: usize) -> Result<Block<T, R>, AllocError>
         requires { by ≤ self.now.0 }
         ensures { IfOk result (λ shared. shared ≡ lowered by self.now) }

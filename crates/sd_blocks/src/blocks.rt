@@ -128,8 +128,8 @@ impl<T: TryCopy> Blocks<T> {
         self.list.insert_run(alloc, at, run)
     }
 
-    /// As many elements from the one position on give way to the run, which goes to the other, counted among those that
-    /// stay. It fails only when memory is out, and then the list is as it was.
+    /// Removes as many elements from `from` on as the run has, and inserts the run at `to`, counted without them. The
+    /// only error is out of memory; then the list is as it was.
     pub fn exchange_run(
         &mut self,
         alloc: Global,

@@ -44,7 +44,7 @@ pub trait Run<T>: Sized + Drop {
         ensures bound { IsSearchInRange result (length (elements self.now)) }
         ensures position { IsBinarySearchResult (S.ord sought.now) (elements self.now) result };
 
-    /// The same elements in the same memory.
+    /// A run that shares this one's elements and memory.
     fn share(&self) -> Result<Self, AllocError>
         ensures { IfOk result (λ run. elements run ≡ elements self.now) };
 

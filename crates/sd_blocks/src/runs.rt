@@ -27,8 +27,8 @@ impl<T: Drop, R: Run<T>> Level<T, R> {
         Ok(())
     }
 
-    /// As many elements from the one position on give way to the run, which goes to the other, counted among those that
-    /// stay. It fails only when memory is out, and then the list is as it was.
+    /// Removes as many elements from `from` on as the run has, and inserts the run at `to`, counted without them. The
+    /// only error is out of memory; then the list is as it was.
     pub(crate) fn exchange_run(
         &mut self,
         alloc: Global,
@@ -52,7 +52,8 @@ impl<T: Drop, R: Run<T>> Level<T, R> {
         Ok(())
     }
 
-    /// The same. After an error some are gone or there.
+    /// Removes as many elements from `from` on as the run has, and inserts the run at `to`, counted without them. After
+    /// an error some elements may be gone or there.
     fn exchange_each(
         &mut self,
         alloc: Global,
@@ -94,7 +95,8 @@ impl<T: Drop, R: Run<T>> Level<T, R> {
         block.exchange(alloc, from - start, to - start, item)
     }
 
-    /// The same, wherever the two positions are: on a copy, since two blocks change.
+    /// Removes the element at `from` and inserts the item at `to`, counted without it, wherever these are: on a copy,
+    /// since two blocks change.
     fn exchange_in_copy(
         &mut self,
         alloc: Global,

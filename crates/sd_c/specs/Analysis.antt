@@ -45,7 +45,7 @@ as_new (Err why) = Err NewHandle
 unfoldable pub descriptors_in : Kept → Kept → Result (DescriptorValue × DescriptorValue) NotRead
 descriptors_in old new = descriptor_in old >>= λ d. (as_new (descriptor_in new) >>= λ e. Ok (d, e))
 
--- the same of two handles
+-- the old and the new descriptor that two handles keep
 unfoldable pub both_kept : Handle → Handle → Result (DescriptorValue × DescriptorValue) NotRead
 both_kept old new =
     is_kept old.is_there DescriptorHandle >>= λ u.

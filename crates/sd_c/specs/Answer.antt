@@ -30,7 +30,7 @@ abbrev pub unread : ℕ → ℕ → ℕ → ℕ → CheckAnswer
 unread status argument fault place =
     record { status = status; argument = argument; fault = fault; kind = 0; place = place; mask = 0 }
 
--- the same reason, of a call that writes nothing
+-- the answer of a call that writes nothing, for the reason in the answer of a check
 abbrev pub unwritten : CheckAnswer → Written
 unwritten told = record { status = told.status; fault = told.fault; place = told.place; length = 0 }
 

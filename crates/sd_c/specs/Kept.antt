@@ -51,7 +51,7 @@ asked_of first second mapping =
     (token_in second >>= λ t.
     (mapping_read mapping >>= λ g. Ok (record { descriptor = d; token = t; mapping = g })))
 
--- the same of two handles
+-- the request of a descriptor's handle and a token's handle
 unfoldable pub kept_request : Handle → Handle → Mapping → Result RequestValue NotRead
 kept_request first second mapping =
     is_kept first.is_there DescriptorHandle >>= λ u.

@@ -48,7 +48,7 @@ abbrev pub IsOwnIn : History → Names → List ℕ → NodeKind → Type 0
 IsOwnIn h names bytes kind =
     (d : DescriptorValue) × (given_at (replay h.opening h.journal) names ≡ Some (kind, d)) × (bytes ≡ wire_of d)
 
--- the same after the journal that was published when the view was made
+-- the self-relative form of what was given to a node, after the journal that was published when the view was made
 abbrev pub IsOwnAt : Kept → List ℕ → List ℕ → NodeKind → Type 0
 IsOwnAt view path bytes kind =
     (h : History) × (names : Names) × (view_in view ≡ Some h) × (path_of path ≡ Ok names) × IsOwnIn h names bytes kind

@@ -16,6 +16,6 @@ asked_over bytes kept mapping =
     (mapping_read mapping >>= λ g.
     (of_wire (descriptor_read bytes) >>= λ d. Ok (record { descriptor = d; token = t; mapping = g })))
 
--- the same of a handle
+-- the request of a token's handle and of the descriptor that bytes hold
 unfoldable pub request_over : List ℕ → Handle → Mapping → Result RequestValue NotRead
 request_over bytes token mapping = is_kept token.is_there TokenHandle >>= λ u. asked_over bytes token.seal.kept mapping

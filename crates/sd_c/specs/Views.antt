@@ -85,7 +85,7 @@ IsFormIn h names bytes =
     (d : DescriptorValue) × (descriptor_at h.opening.mapping (replay h.opening h.journal) names ≡ Some d)
     × (bytes ≡ wire_of d)
 
--- the same after the journal that was published when the view was made
+-- the self-relative form of a node's descriptor, after the journal that was published when the view was made
 abbrev pub IsFormAt : Kept → List ℕ → List ℕ → Type 0
 IsFormAt view path bytes =
     (h : History) × (names : Names) × (view_in view ≡ Some h) × (path_of path ≡ Ok names) × IsFormIn h names bytes

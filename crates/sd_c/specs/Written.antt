@@ -116,7 +116,7 @@ IsSidOf text bytes = (s : SidValue) × Spells sid_text text s × (bytes ≡ byte
 abbrev pub IsSidTextOf : List ℕ → List ℕ → Type 0
 IsSidTextOf bytes printed = (s : SidValue) × (n : ℕ) × (sid_reading bytes ≡ Ok (s, n)) × (printed ≡ sid_canon s)
 
--- the same text in full
+-- the text in full, without aliases, of the SID at the front of the bytes
 abbrev pub IsFullSidTextOf : List ℕ → List ℕ → Type 0
 IsFullSidTextOf bytes printed = (s : SidValue) × (n : ℕ) × (sid_reading bytes ≡ Ok (s, n)) × (printed ≡ full_canon s)
 

@@ -187,7 +187,7 @@ pub(crate) fn not_written(status: u32, fault: u8, place: u64) -> Written
     }
 }
 
-/// The answer of a call that writes nothing, for the same reason.
+/// The answer of a call that writes nothing, for the reason in the answer of a check.
 pub(crate) fn unwritten(told: CheckAnswer) -> Written
     ensures { result ≡ unwritten told }
 {

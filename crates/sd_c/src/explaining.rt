@@ -47,10 +47,10 @@ pub struct Explained {
     pub parts: [PartAnswer; 32],
 }
 
-/// There was no such pass.
+/// What is reported of a pass that wasn't made.
 const NO_PASS: FindingAnswer = FindingAnswer { entry: 0, kind: 0 };
 
-/// There is no part.
+/// What is reported at an index where no part has its lowest bit.
 const NO_PART: PartAnswer = PartAnswer {
     mask: 0,
     cause: 0,

@@ -126,7 +126,7 @@ fn wire_fault(number: u32) -> Option<WireFault>
     }
 }
 
-/// Of the errors of a SID those that its bytes have.
+/// The error of a SID's bytes with this number, if there is one.
 fn sid_fault(number: u32) -> Option<SidError>
     ensures { result ≡ sid_fault number }
 {

@@ -17,7 +17,7 @@ use std::alloc::AllocError;
 /// An argument that is a path.
 #[derive(Clone, Copy)]
 pub enum PathArgument {
-    /// The node's.
+    /// The path of the node.
     Path,
     /// The target of a move.
     Target,

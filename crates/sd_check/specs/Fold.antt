@@ -21,7 +21,7 @@ pub record Asking : Type 0 where
   pub token : TokenValue
   pub asked : ℕ
 
--- the same of a question. `sid` says which SID its owner is
+-- who asks, of an object of whom, for what, in a question. `sid` says which SID its owner is
 abbrev pub asking : {O : Type 0} → (O → SidValue) → Question O → Asking
 asking sid q = record {
   owner = option_map sid q.owner.now;

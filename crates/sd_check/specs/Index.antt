@@ -27,7 +27,7 @@ pub data OnChain (nexts : List ℕ) : ℕ → ℕ → Type 0 where
 abbrev pub IsMarked : List ℕ → List ℕ → SidValue → Type 0
 IsMarked heads nexts s = OnChain nexts (slice_index heads (place_of s)) 0
 
--- and so do those of OWNER RIGHTS, of each restricting SID and of the groups beyond the first 254
+-- the chains of OWNER RIGHTS, of each restricting SID and of the groups beyond the first 254 lead to the user
 abbrev pub MarksEach : List ℕ → List ℕ → List (SidValue × GroupState) → List SidValue → Type 0
 MarksEach heads nexts groups restricting = (kind : AceKind) (s : SidValue)
     → (same_sid s owner_rights || list_any (λ one. same_sid one s) restricting

@@ -47,7 +47,7 @@ MaximumIsEachByItself =
     → verdict owner (Some es) g t (2 ^ 25) ≡ Granted m → b < 21
     → (holds m b ≡ true) ↔ (verdict owner (Some es) g t (2 ^ b) ≡ Granted (2 ^ b))
 
--- and where MAXIMUM_ALLOWED is denied, no such bit is granted by itself
+-- where MAXIMUM_ALLOWED, place 25, is denied, no bit below place 21 is granted by itself
 abbrev pub DeniedMaximumIsNone : Type 0
 DeniedMaximumIsNone =
     (owner : Option SidValue) (es : List Ace) (g : MappingValue) (t : TokenValue) (missing m b : ℕ)
@@ -87,7 +87,7 @@ EntriesGrantRightsAlone =
 
 -- ---- restricting SIDs
 
--- the same token with these restricting SIDs
+-- the token with these restricting SIDs in place of its own
 abbrev pub restricted_to : TokenValue → List SidValue → TokenValue
 restricted_to t sids = record { user = t.user; groups = t.groups; restricting = sids; privileges = t.privileges }
 
@@ -106,8 +106,8 @@ RestrictionGrantsNoBit =
     (owner : Option SidValue) (dacl : Option (List Ace)) (g : MappingValue) (t : TokenValue) (b : ℕ)
     → is_granted owner dacl g t b ≡ true → is_granted owner dacl g (restricted_to t []) b ≡ true
 
--- and a request that it is granted is granted without it, with all that was granted, and perhaps more where
--- MAXIMUM_ALLOWED was asked for
+-- a request that a restricted token is granted is granted without the restriction too, with all that was granted, and
+-- perhaps more where MAXIMUM_ALLOWED was asked for
 abbrev pub RestrictionGrantsNoRequest : Type 0
 RestrictionGrantsNoRequest =
     (owner : Option SidValue) (dacl : Option (List Ace)) (g : MappingValue) (t : TokenValue) (r m : ℕ)
@@ -115,7 +115,7 @@ RestrictionGrantsNoRequest =
     → (more : ℕ) × ((verdict owner dacl g (restricted_to t []) r ≡ Granted more)
     × ((b : ℕ) → b < 32 → holds m b ≡ true → holds more b ≡ true))
 
--- the same restricting SIDs, in whatever order and however often each, give the same verdicts
+-- a verdict doesn't depend on the order of the restricting SIDs, nor on how often each is listed
 abbrev pub OrderOfRestrictingSidsIsFree : Type 0
 OrderOfRestrictingSidsIsFree =
     (owner : Option SidValue) (dacl : Option (List Ace)) (g : MappingValue) (t : TokenValue)

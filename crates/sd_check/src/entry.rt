@@ -28,7 +28,8 @@ pub trait Trustee {
     fn is_of(&self, kind: AceKind, token: &Token) -> bool
         ensures { result ≡ stands_for token.now kind (sid self.now) };
 
-    /// The same, where one look shows it, and that it is neither OWNER RIGHTS nor a restricting SID.
+    /// Whether the token stands for it in an entry of the kind ([MS-DTYP] 2.5.3.1), if one look shows this, and that it
+    /// is neither OWNER RIGHTS nor a restricting SID; else `None`.
     fn is_alone_of(&self, kind: AceKind, token: &Token) -> Option<bool>
         ensures { IfSome result (λ stands. (stands_for token.now kind (sid self.now) ≡ stands)
             × (is_restricting token.now (sid self.now) ≡ false) × (same_sid (sid self.now) owner_rights ≡ false)) };

@@ -96,7 +96,8 @@ impl<O: Trustee> Question<'_, O> {
         self.decided::<BOTH, E>(tally, entry, applies, limits)
     }
 
-    /// The same of an entry that isn't inherit-only, by whether it applies in the first pass and limits the owner.
+    /// What the entries so far come to with this one, which isn't inherit-only, and whether this settles all.
+    /// `applies`: it applies in the first pass; `limits`: it limits the owner.
     #[inline(always)]
     fn decided<const BOTH: bool, E: Entry>(
         &self,
@@ -209,7 +210,7 @@ impl<O: Trustee> Question<'_, O> {
         self.listed::<BOTH>(tally).union(privileged)
     }
 
-    /// Of those bits, what the entries grant, and what is the owner's unless an entry limits the owner.
+    /// Of the bits that are looked for, what the entries grant, and the owner's unless an entry limits the owner.
     #[inline(always)]
     fn listed<const BOTH: bool>(&self, tally: Tally) -> Mask
         requires { BOTH ≡ is_restricted self.now.token.now }

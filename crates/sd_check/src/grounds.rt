@@ -12,9 +12,9 @@ use sd_sid::Sid;
 /// A pass over the list ([MS-DTYP] 2.5.3.2).
 #[derive(Clone, Copy, Debug, PartialEq, Eq)]
 pub enum Pass {
-    /// That of the user and the groups, the only one of a token that nothing restricts.
+    /// The pass for the user and the groups: the only one, unless the token has restricting SIDs.
     First,
-    /// That of the restricting SIDs.
+    /// The pass for the restricting SIDs.
     Second,
 }
 

@@ -118,7 +118,8 @@ impl Index {
         self.heads[sid.last_sub() as usize % PLACES] != 0
     }
 
-    /// As `stands_for`, where the SID's place has one group and isn't marked, as most places with a link.
+    /// Whether the user has the SID, or a group that counts for an entry of the kind: where the SID's place has one
+    /// group and isn't marked, as most places with a link; else `None`.
     #[inline(always)]
     pub(crate) fn lone(
         &self,
@@ -167,7 +168,7 @@ fn place_of(sid: &Sid) -> usize
     last_sub(sid) as usize % PLACES
 }
 
-/// Its last sub-authority, in which SIDs differ most.
+/// The SID's last sub-authority, in which SIDs differ most.
 #[inline(always)]
 pub(crate) fn last_sub(sid: &Sid) -> u32
     ensures { result ≡ slice_index sid.now.subs (length sid.now.subs - 1) }

@@ -94,7 +94,7 @@ impl<O: Trustee> Question<'_, O> {
         }
     }
 
-    /// The same in the second pass.
+    /// Whether an entry for the owner applies in the second pass: the owner is a restricting SID.
     #[inline(never)]
     fn owner_is_restricting(&self) -> bool
         ensures { let q = asking O.sid self.now in result ≡ is_restricting_subject q.token q.owner }

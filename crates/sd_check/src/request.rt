@@ -35,7 +35,7 @@ pub fn check(
     }
 }
 
-/// The same for a descriptor in parts: its owner, and its DACL.
+/// The verdict on a request, for an owner and a DACL ([MS-DTYP] 2.5.3.2). Takes no memory.
 #[tactic(auto, using(crate::proofs::Owned::owned_list))]
 pub fn check_parts(
     owner: Option<Sid>,
@@ -59,8 +59,8 @@ pub fn check_parts(
     }
 }
 
-/// The same for a list in two parts, as a node's own entries and those that it inherits: the first before the second,
-/// and neither copied.
+/// The verdict on a request, for an owner and a DACL in two parts, as a node's own entries and those that it inherits:
+/// `front` before `back`, neither copied ([MS-DTYP] 2.5.3.2). Takes no memory.
 #[tactic(auto, using(crate::proofs::Owned::owned_lists))]
 pub fn check_joined(
     owner: Option<Sid>,

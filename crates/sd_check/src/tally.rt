@@ -19,7 +19,7 @@ pub struct Settled {
 #[derive(Clone, Copy)]
 pub struct Tally {
     pub(crate) first: Settled,
-    /// Of use for a restricted token alone.
+    /// What the second pass has settled; used for a restricted token alone.
     pub(crate) second: Settled,
     pub(crate) kept: Mask,
 }

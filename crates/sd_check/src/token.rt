@@ -36,7 +36,7 @@ impl Default for Privileges {
 
     ghost is_default = { λ privileges. privileges ≡ no_privileges };
 
-    /// Neither.
+    /// No privilege.
     fn default() -> Privileges {
         Privileges {
             security: false,
@@ -159,7 +159,8 @@ impl Token {
         self.restricting.iter().any(|one| one.is(sid))
     }
 
-    /// As `has`, where one look shows it, and that the SID is neither OWNER RIGHTS nor a restricting one.
+    /// Whether the user has the SID, or a group that counts for an entry of the kind, if one look shows this, and that
+    /// the SID is neither OWNER RIGHTS nor a restricting one; else `None`.
     #[inline(always)]
     pub(crate) fn lone(&self, kind: AceKind, sid: &Sid) -> Option<bool>
         ensures { IfSome result (λ stands. (stands_for self.now kind sid.now ≡ stands)

@@ -67,7 +67,7 @@ LeavesAfter line input left old new error =
 
 -- ---- of words
 
--- the same where this holds of the command line that the words are
+-- the words are a command line of which this holds
 abbrev pub OfReading : List (Bor (List ℕ)) → (CommandLineValue → Type 0) → Type 0
 OfReading words Holds = (line : CommandLineValue) × (reading words ≡ Some line) × Holds line
 

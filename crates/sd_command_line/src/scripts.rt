@@ -8,12 +8,12 @@ use sd_questions::Ended;
 use sd_script::Tally;
 use std::alloc::{AllocError, Global};
 
-/// What came of a script, the worst of its lines: a fault where there is none, or where that is asked for one had a
-/// fault or was refused; or else a refusal, where an answer that it expected wasn't given, or where that is asked for a
-/// line imported another node. Standard error is told that there is no line; of the byte order mark that it begins
-/// with; of the first line whose node inherits otherwise than it did, and the first whose node's own entries were put
-/// in order; where that is asked for, of the first fault or refusal; and how many answers were expected, and weren't
-/// given. Of nothing, if out of memory for it: the output stands by then.
+/// The outcome of a script, the worst of its lines: a fault where there is none, or with `strict` where one had a fault
+/// or was refused; else a refusal where an expected answer wasn't given, or with `strict` where a line imported a node
+/// whose entries differ from what they were. The notes for standard error: that there is no line; that the script
+/// begins with a byte order mark; the first line whose node inherits otherwise than it did, and the first whose node's
+/// own entries were put in order; with `strict` the first fault or refusal; how many answers were expected, and weren't
+/// given. No notes if out of memory: the output is there by then.
 #[tactic(auto, unfolding(crate::specs::Scripts::script_outcome))]
 pub(crate) fn end_of_script(alloc: Global, strict: bool, tally: &Tally) -> Ended
     ensures told { IsToldOfScript strict tally.now (string_bytes result.told) }

@@ -160,7 +160,7 @@ without_list Absent = Some (codes "no DACL")
 without_list Null = Some (codes "a null DACL")
 without_list (Entries es) = None
 
--- the same where a list is required, under `--require-dacl`: without one everything is granted ([MS-DTYP] 2.5.3.2)
+-- under `--require-dacl`, what a DACL is in place of a list: without one everything is granted ([MS-DTYP] 2.5.3.2)
 abbrev pub missing_dacl : Bool → Dacl → Option (List ℕ)
 missing_dacl is_required dacl = if is_required then without_list dacl else None
 
@@ -255,7 +255,7 @@ AnswersUser settings form arguments d = AnswersOfSid (codes "USER") settings (ar
 abbrev pub printed_line : Spelling → DescriptorValue → List ℕ
 printed_line spelling d = line (canon_in (right_names_of spelling) d)
 
--- the same with the DACL in canonical order; standard error says what moved
+-- the printed text of a descriptor whose DACL is put in canonical order; standard error says what moved
 abbrev pub IsSorted : Settings → DescriptorValue → AnswerValue → Type 0
 IsSorted settings d = IsAnswer (printed_line settings.spelling (sorted_descriptor d))
     (move_notes settings.spelling d.dacl) Done
@@ -265,7 +265,7 @@ abbrev pub AnswersFit : Settings → Option (List ℕ) → DescriptorValue → A
 AnswersFit settings None d answer = IsDone (printed_line settings.spelling d) answer
 AnswersFit settings (Some missing) d answer = IsMissingDacl (codes "BYTES") missing answer
 
--- the same of what bytes hold, or their fault
+-- the printed text of the descriptor that bytes hold, or their fault
 abbrev pub AnswersRead : Settings → List ℕ → Result DescriptorValue WireFault → AnswerValue → Type 0
 AnswersRead settings bytes (Ok d) answer = AnswersFit settings (missing_dacl settings.require_dacl d.dacl) d answer
 AnswersRead settings bytes (Err fault) answer = IsFault (wire_fault_line fault)
@@ -274,13 +274,13 @@ AnswersRead settings bytes (Err fault) answer = IsFault (wire_fault_line fault)
 abbrev pub AnswersHeld : Settings → List ℕ → AnswerValue → Type 0
 AnswersHeld settings bytes answer = AnswersRead settings bytes (descriptor_read bytes) answer
 
--- the same of bytes in which a SACL is passed over, where that is asked for
+-- the printed text of the descriptor that bytes hold, or their fault; `--without-sacl` leaves a SACL out
 abbrev pub AnswersBytes : Settings → List ℕ → AnswerValue → Type 0
 AnswersBytes settings bytes answer = MatchBool settings.without_sacl
     (Noting (codes "BYTES") (has_sacl bytes) (AnswersHeld settings (without_sacl bytes)) answer)
     (AnswersHeld settings bytes answer)
 
--- the same of the bytes that a text spells, or that it spells none
+-- the printed text of the descriptor that a text spells in bytes, or a fault: it spells none
 abbrev pub AnswersDecoded : Settings → List ℕ → BytesRead → AnswerValue → Type 0
 AnswersDecoded settings written (Ok bytes) answer = AnswersBytes settings bytes answer
 AnswersDecoded settings written (Err (what, place)) answer = IsFault (fault_line (form_name settings.bytes))
@@ -312,7 +312,7 @@ AreOwnChanges settings old new base text =
     × AreGains settings.mapping base (parts_in new) (parts_in old) lost
     × (text ≡ gains_and_losses settings.spelling [] (parts_in old) (parts_in new) gained lost)
 
--- and of all that is made in it, if it is a container
+-- what tokens gain and lose of all that is made in the object, if it is a container
 abbrev pub AreDescendantLines : Settings → DescriptorValue → DescriptorValue → List (SidValue × GroupState) → List ℕ
     → Type 0
 AreDescendantLines settings old new base text =

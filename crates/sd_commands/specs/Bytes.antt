@@ -109,6 +109,6 @@ has_sacl bytes =
     && not (slice_index bytes 12 == 0 && slice_index bytes 13 == 0 && slice_index bytes 14 == 0
     && slice_index bytes 15 == 0)
 
--- the same bytes, but that SP isn't set
+-- the bytes with their SACL left out: control bit SP is cleared ([MS-DTYP] 2.4.6)
 abbrev pub without_sacl : List ℕ → List ℕ
 without_sacl bytes = if has_sacl bytes then slice_set bytes 2 (bit_and (slice_index bytes 2) 0xEF) else bytes

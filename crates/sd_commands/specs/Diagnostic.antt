@@ -28,11 +28,12 @@ at_byte what place = what ++ codes " at " ++ decimal place
 abbrev pub fault_name : TextFault → ℕ → List ℕ
 fault_name fault place = at_byte (decimal (number_of fault) ++ codes " " ++ name_of fault) place
 
--- the same, and where that is asked for, the text there
+-- the first fault of a text, by number and name, and its byte; where that is asked for, the text there
 abbrev pub fault_text : Bool → List ℕ → TextFault → ℕ → List ℕ
 fault_text points text fault place = fault_name fault place ++ pointed points text place
 
--- the same of a descriptor's text, and which kind an entry is that isn't taken
+-- the first fault of an SDDL text, by number and name, its byte, and which kind an entry is that isn't supported; where
+-- that is asked for, the text there
 abbrev pub sddl_fault_text : Bool → List ℕ → TextFault → ℕ → List ℕ
 sddl_fault_text points text fault place = fault_name fault place ++ kind_note text fault place
     ++ pointed points text place
@@ -41,7 +42,7 @@ sddl_fault_text points text fault place = fault_name fault place ++ kind_note te
 abbrev pub wire_fault_text : WireFault → List ℕ
 wire_fault_text fault = decimal (wire_fault_number fault) ++ codes " " ++ wire_fault_name fault
 
--- the same, and which entry and which kind it is that isn't taken
+-- the first test that bytes don't pass, and which entry and which kind it is that isn't supported
 abbrev pub told_wire_fault : List ℕ → WireFault → List ℕ
 told_wire_fault bytes fault = wire_fault_text fault ++ wire_kind_note bytes fault
 

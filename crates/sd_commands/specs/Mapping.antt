@@ -17,8 +17,8 @@ kind_named text =
     else (if bytes_eq text (codes "process") then Some Process
     else None)))
 
--- its generic mapping: what the four generic rights of files, registry keys, services and processes stand for, by the
--- constants of winnt.h and winsvc.h
+-- a kind's generic mapping: what the four generic rights of files, registry keys, services and processes stand for, by
+-- the constants of winnt.h and winsvc.h
 abbrev pub kind_mapping : ObjectKind → MappingValue
 kind_mapping File = file_mapping
 kind_mapping Key = record { read = 0x20019; write = 0x20006; execute = 0x20019; all = 0xF003F }

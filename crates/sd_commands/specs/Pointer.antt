@@ -31,6 +31,6 @@ abbrev pub pointer : List ℕ → ℕ → List ℕ
 pointer text place = lines_of
     (end_shown (chars (take (start_of text place) text))) (start_shown (chars (drop (start_of text place) text)))
 
--- the same where it is asked for
+-- the lines that point to a byte of a text, where they are asked for
 abbrev pub pointed : Bool → List ℕ → ℕ → List ℕ
 pointed points text place = if points then pointer text place else []

@@ -37,7 +37,7 @@ risk_line spelling (UnknownEntry number e) = unknown_line spelling number e
 risk_line spelling (UnknownOwner s) = line (codes "the owner " ++ full_canon s ++ codes " is of no known kind")
 risk_line spelling (UnknownGroup s) = line (codes "the group " ++ full_canon s ++ codes " is of no known kind")
 
--- those of a descriptor, where they are asked for
+-- the lines of a descriptor's risks, where they are asked for
 abbrev pub risk_lines : Settings → DescriptorValue → List (SidValue × GroupState) → List ℕ
 risk_lines settings d base =
     if settings.risks then flat_map (risk_line settings.spelling) (risks_of settings.mapping base d) else []

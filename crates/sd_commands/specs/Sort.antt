@@ -47,7 +47,7 @@ abbrev pub note_at : Spelling → List Ace → ℕ → Option Ace → List ℕ
 note_at spelling es place None = []
 note_at spelling es place (Some e) = note_of spelling es place e
 
--- those of the entries below a place
+-- the notes on the entries below a place
 unfoldable pub notes_below : Spelling → List Ace → ℕ → List ℕ
 notes_below spelling es zero = []
 notes_below spelling es (suc k) = notes_below spelling es k ++ note_at spelling es k (slice_get es k)

@@ -17,7 +17,7 @@ use sd_text::{TextError, TextFault};
 use sd_usage::{DescriptorCommand, TextCommand};
 use std::alloc::{AllocError, Global};
 
-/// What came of a command, the best first.
+/// How a command ended, from best to worst.
 #[derive(Clone, Copy, PartialEq, Eq)]
 pub enum Outcome {
     /// The text was printed, or the right granted.

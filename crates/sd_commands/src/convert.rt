@@ -52,7 +52,7 @@ impl Command {
         }
     }
 
-    /// The same of bytes, in which a SACL is passed over where that is asked for.
+    /// The printed text of a self-relative descriptor ([MS-DTYP] 2.4.6); `--without-sacl` leaves its SACL out.
     fn answer_bytes(self, mut bytes: Vec<u8>) -> Answered
         ensures { IfOk result (λ answer. AnswersBytes self.settings bytes.items (answer_of answer)) }
     {

@@ -31,7 +31,7 @@ fn fault_name(alloc: Global, fault: TextFault, place: u64) -> Result<String, All
     Ok(text)
 }
 
-/// The same, and where that is asked for, the text there.
+/// A text's fault by number and name, and its offset in bytes; with `points` two more lines show the text there.
 pub(crate) fn fault_text(
     alloc: Global,
     points: bool,
@@ -45,7 +45,8 @@ pub(crate) fn fault_text(
     with_pointer(alloc, points, text, place as usize, what)
 }
 
-/// The same of a descriptor's text, and which kind an entry is that isn't taken.
+/// A fault of an SDDL text: number, name, offset in bytes, the kind of an entry that isn't supported, and with `points`
+/// two more lines that show the text there.
 pub(crate) fn sddl_fault_text(
     alloc: Global,
     points: bool,

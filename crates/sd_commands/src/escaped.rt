@@ -13,7 +13,8 @@ pub fn escaped_word(alloc: Global, word: &str) -> Result<String, AllocError>
     escaped_part(alloc, word, 0, word.len())
 }
 
-/// The same of at most `count` characters from the `start`th on, counted from 0.
+/// At most `count` characters of a text from the `start`th on, counted from 0, with control characters and line
+/// separators as `\u{1b}`. The only error is out of memory.
 pub(crate) fn escaped_part(
     alloc: Global,
     text: &str,

@@ -60,7 +60,7 @@ pub(crate) fn kind_note(
     }
 }
 
-/// The same of an entry in bytes, and which it is, counted from 1.
+/// The number, from 1 on, and the kind of an entry in bytes that isn't supported, where this is the fault.
 pub(crate) fn wire_kind_note(
     alloc: Global,
     bytes: &[u8],

@@ -43,7 +43,7 @@ pub dacl_at_here : (g : MappingValue) (t : PlainTree) (path : Names) → dacl_at
 dacl_at_here g t [] = dacl_at_root g t
 dacl_at_here g t (n ∷ path) = dacl_at_up g t (n ∷ path) refl
 
--- the same below a path with that DACL
+-- below a path with that DACL, a node's DACL is made of its row and the DACL of its parent
 pub below_up : (g : MappingValue) (t : PlainTree) (at : Names) (above : Option (List Ace)) (rest : Names) → is_root rest ≡ false
     → dacl_below g t at above rest ≡ dacl_here g (row_at t (at ++ rest)) (dacl_below g t at above (up rest))
 below_up g t at above rest h =

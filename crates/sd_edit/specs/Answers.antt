@@ -28,7 +28,7 @@ kind_at t path = option_map (λ (row : Row). row.kind) (row_at t path)
 abbrev pub descriptor_at : MappingValue → PlainTree → Names → Option DescriptorValue
 descriptor_at g t path = option_map (λ (row : Row). descriptor_of_row row (dacl_at g t path)) (row_at t path)
 
--- its kind, and its descriptor without what it inherits
+-- the kind of the node at a path, if there is one, and its descriptor without what it inherits
 abbrev pub given_at : PlainTree → Names → Option (NodeKind × DescriptorValue)
 given_at t path = option_map (λ (row : Row). (row.kind, own_descriptor_of_row row)) (row_at t path)
 

@@ -15,7 +15,7 @@ abbrev pub handed_on : MappingValue → Row → Option (List Ace) → List Ace
 handed_on g row None = []
 handed_on g row (Some above) = flat_map (pass_on g row.kind row.owner row.group) above
 
--- its own entries, and what it inherits unless it is protected, below a parent with this DACL
+-- a node's own entries, and what it inherits unless it is protected, below a parent with this DACL
 abbrev pub dacl_under : MappingValue → Row → NodeDacl → Option (List Ace) → Option (List Ace)
 dacl_under g row Null above = None
 dacl_under g row (Entries protected entries) above = Some (entries ++ (if protected then [] else handed_on g row above))

@@ -18,7 +18,7 @@ use Rattle.sd_edit.specs.declared.refusal.EditRefusal.TheVariants.{AclTooLarge}
 abbrev pub opening_within : MappingValue → RootSpec → LimitsValue → Opening
 opening_within mapping root limits = record { mapping = mapping; root = root; limits = limits }
 
--- the same within the standard limits
+-- what a tree with the standard limits begins with
 abbrev pub opening_of : MappingValue → RootSpec → Opening
 opening_of mapping root = opening_within mapping root standard_limits
 

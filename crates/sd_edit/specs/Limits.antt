@@ -32,7 +32,7 @@ limits_error_number NoNodes = 1
 limits_error_number TooManyNodes = 2
 limits_error_number TooManyEdits = 3
 
--- and its name
+-- each error's name
 abbrev pub limits_error_name : LimitsError → List ℕ
 limits_error_name NoNodes = codes "NoNodes"
 limits_error_name TooManyNodes = codes "TooManyNodes"

@@ -159,7 +159,7 @@ number_of NodesFull = 11
 number_of JournalFull = 12
 number_of IntoItself = 13
 
--- and its name
+-- each refusal's name
 abbrev pub name_of : EditRefusal → List ℕ
 name_of NoParent = codes "NoParent"
 name_of ParentIsObject = codes "ParentIsObject"

@@ -12,7 +12,7 @@ const MAX_NODES: u64 = 0x100_0000;
 /// The most edits that limits allow, a choice of this profile: it bounds what a replay goes through.
 const MAX_EDITS: u64 = 0x1_0000_0000;
 
-/// The most nodes of a tree, the root counted, and the most edits of its journal.
+/// How large a tree may grow: the most nodes, the root counted, and the most edits of its journal.
 #[derive(Clone, Copy, Debug, PartialEq, Eq)]
 pub struct Limits {
     nodes: u64,

@@ -12,14 +12,14 @@ use std::alloc::{AllocError, Global};
 /// The DACL that is given to a node, without what it inherits ([MS-DTYP] 2.4.6).
 #[derive(Debug, Drop)]
 pub enum NodeDacl {
-    /// A null one: everything is granted, and nothing is inherited or handed on.
+    /// A null DACL: everything is granted, and nothing is inherited or passed down.
     Null,
-    /// Its own entries; where it is protected (control bit PD), nothing is inherited.
+    /// The node's own entries; where the DACL is protected (control bit PD), nothing is inherited.
     List { protected: bool, entries: Entries },
 }
 
 impl NodeDacl {
-    /// The one that a descriptor gives a node ([MS-DTYP] 2.4.6): an absent DACL is an empty list that isn't protected.
+    /// The DACL that a descriptor gives a node ([MS-DTYP] 2.4.6): an absent one is an empty list that isn't protected.
     pub fn of_descriptor(alloc: Global, descriptor: &Descriptor) -> Result<NodeDacl, AllocError>
         ensures { IfOk result (λ given. given ≡ own_dacl descriptor.now.protected descriptor.now.dacl) }
     {
@@ -36,7 +36,7 @@ impl NodeDacl {
         }
     }
 
-    /// An equal one.
+    /// An equal DACL.
     pub fn copy(&self, alloc: Global) -> Result<NodeDacl, AllocError>
         ensures { IfOk result (λ dacl. dacl ≡ self.now) }
     {

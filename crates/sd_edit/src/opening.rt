@@ -15,7 +15,7 @@ pub struct RootSpec {
     pub dacl: NodeDacl,
 }
 
-/// The generic mapping of a tree's nodes ([MS-DTYP] 2.4.3), its root before any edit, and its limits.
+/// A tree before its journal: its nodes' generic mapping ([MS-DTYP] 2.4.3), its root before any edit, its limits.
 #[derive(Debug, Drop)]
 pub struct Opening {
     pub mapping: GenericMapping,
@@ -24,7 +24,7 @@ pub struct Opening {
 }
 
 impl RootSpec {
-    /// An equal one.
+    /// An equal root.
     pub fn copy(&self, alloc: Global) -> Result<RootSpec, AllocError>
         ensures { IfOk result (λ root. root ≡ self.now) }
     {
@@ -38,7 +38,7 @@ impl RootSpec {
 }
 
 impl Opening {
-    /// An equal one.
+    /// An equal opening.
     pub fn copy(&self, alloc: Global) -> Result<Opening, AllocError>
         ensures { IfOk result (λ opening. opening ≡ self.now) }
     {

@@ -66,7 +66,7 @@ NamedCauseIsDue =
     (owner : Option SidValue) (dacl : Option (List Ace)) (g : MappingValue) (t : TokenValue) (b : ℕ)
     → grants (named_cause owner dacl g t b) ≡ is_granted owner dacl g t b
 
--- and that of a bit that MAXIMUM_ALLOWED asks for, where MAXIMUM_ALLOWED takes it in
+-- the cause of a bit that MAXIMUM_ALLOWED asks for grants it just where MAXIMUM_ALLOWED takes it in
 abbrev pub MaximumCauseIsDue : Type 0
 MaximumCauseIsDue =
     (owner : Option SidValue) (dacl : Option (List Ace)) (g : MappingValue) (t : TokenValue) (b : ℕ)

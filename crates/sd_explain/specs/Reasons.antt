@@ -100,7 +100,7 @@ reason_at owner dacl g t r b =
     then Some (record { named = false; cause = maximum_cause owner dacl g t b })
     else None
 
--- those of all places
+-- the reasons of all places, 0 to 31
 abbrev pub reasons_of : Option SidValue → Option (List Ace) → MappingValue → TokenValue → ℕ → List (Option Reason)
 reasons_of owner dacl g t r = map (reason_at owner dacl g t r) (range_with_len 0 32)
 

@@ -73,7 +73,7 @@ fn given_or(given: Implied, place: u32, other: Cause) -> Cause
     }
 }
 
-/// Of a bit that no list grants.
+/// The cause of a bit that no list grants.
 fn high_cause(given: Implied, place: u32) -> Cause
     ensures { result ≡ high_cause given place }
 {
@@ -138,7 +138,7 @@ impl Case<'_> {
         }
     }
 
-    /// The same for the list, where there is one.
+    /// Writes what the pass over the DACL, if it is a list, finds for each of the bits, where nothing is found yet.
     fn find(&self, pass: Pass, bits: Mask, findings: &mut [Finding; 32])
         requires { findings.old ≡ replicate 32 Finding.NoEntry }
         ensures { let applies = applies_in pass self.now.question.token.now self.now.question.owner.now in

@@ -47,7 +47,8 @@ pub fn explain(
     Explanation { reasons }
 }
 
-/// The same for a descriptor ([MS-DTYP] 2.5.3.2): the verdict is that of `check`.
+/// Why a request is answered as it is, for a descriptor ([MS-DTYP] 2.5.3.2): the reason of each bit. The verdict that
+/// follows from the reasons is that of `check`. Takes no memory.
 // (not by `explain`, which would clear and copy the reasons once more)
 #[tactic(auto, using(crate::proofs::Told::told_reasons))]
 pub fn explain_descriptor(

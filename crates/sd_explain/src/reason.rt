@@ -51,15 +51,15 @@ pub struct Reason {
 /// A set of the bits that have a reason.
 #[derive(Clone, Copy, Debug, PartialEq, Eq)]
 pub enum Share {
-    /// The reserved ones.
+    /// The reserved bits.
     Reserved,
-    /// Those that the request names and that aren't granted.
+    /// The bits that the request names and that aren't granted.
     Missing,
-    /// The granted ones.
+    /// The granted bits.
     Granted,
-    /// Those that MAXIMUM_ALLOWED alone asks for.
+    /// The bits that MAXIMUM_ALLOWED alone asks for.
     Unnamed,
-    /// Those of this cause.
+    /// The bits with this cause.
     Because(Cause),
 }
 

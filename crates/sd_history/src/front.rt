@@ -8,8 +8,8 @@ use crate::rule::Chained;
 use logbook::Seen;
 use std::marker::Model;
 
-/// A prefix of a history that was seen. It has no bytes, and any thread may copy it. Contracts see the book and what
-/// was seen of its log, in which `items_from` finds the edits.
+/// A prefix of a history, as a journal is one, that was seen. It has no bytes: it is for the proofs alone, and any
+/// thread may copy it. Contracts see the book and what was seen of its log, in which `items_from` finds the edits.
 #[derive(Drop)]
 pub struct Front<T> {
     pub(crate) seen: Seen<Entry<T>, u64, Chained>,

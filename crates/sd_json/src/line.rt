@@ -35,7 +35,7 @@ fn push_plain(out: &mut Vec<u8>, line: &[u8]) -> Result<(), AllocError>
     Ok(())
 }
 
-/// The same of a line that begins with a tag, which this byte ends, as the first member.
+/// Appends a line that begins with a tag, which the byte `end` ends, as an object of JSON: the tag is its first member.
 fn push_tagged(out: &mut Vec<u8>, name: &[u8], end: u8, line: &[u8]) -> Result<(), AllocError>
     ensures { OnOk result (out.new.items ≡ out.old.items ++ tagged_object name.now end line.now) }
 {

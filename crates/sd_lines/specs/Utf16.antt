@@ -32,7 +32,7 @@ char_text (Some c) = encode_utf8 c
 abbrev pub utf16_text : ByteOrder → List ℕ → List ℕ
 utf16_text order bytes = flat_map char_text (utf16_chars (units_in order bytes)) ++ over_in bytes
 
--- the same of bytes that end before a character does
+-- the text of bytes that end before a character does
 abbrev pub unfinished : List ℕ → List ℕ
 unfinished [] = []
 unfinished (a ∷ b ∷ c ∷ rest) = NO_CHARACTER ∷ NO_CHARACTER ∷ []

@@ -42,7 +42,7 @@ impl Path {
         }
     }
 
-    /// The same path, borrowed.
+    /// The path, borrowed.
     pub fn as_path_ref(&self) -> PathRef<'_>
         ensures { result ≡ self.now }
     {

@@ -108,7 +108,7 @@ AnswersUnder input (Some text) request settings answer = Advising (AnswersText s
 AnswersUnder input None request settings answer =
     (text : List ℕ) × IfSome input (λ bytes. text ≡ bytes) × AnswersInput settings request text answer
 
--- the same under what the options say
+-- what answers a text, or without one the input where it is known, under what the options say
 abbrev pub AnswersOnce : Option (List ℕ) → OptionsValue → Option (List ℕ) → RequestValue → AnswerValue → Type 0
 AnswersOnce input options text request answer =
     (said : Result Settings BadValue) × GivesSettings options said × MatchResult said
@@ -149,7 +149,7 @@ AnswersLineIn true settings request (Some line) printed outcome = MatchBool (has
     ((printed ≡ fault_line (codes "key") ++ after_answer request.question) × (outcome ≡ Fault))
 AnswersLineIn has_keys settings request told printed outcome = AnswersLine settings request told printed outcome
 
--- the same as it is printed, and what came of the lines up to this one
+-- what is printed of a line's answer, plain or as JSON, and the worst outcome of the lines up to this one
 abbrev pub AnswersNext : (has_keys is_json : Bool) → Result Settings BadValue → RequestValue → Option Outcome
     → Option (List ℕ) → List ℕ → Option Outcome → Type 0
 AnswersNext has_keys is_json settings request before told printed after =

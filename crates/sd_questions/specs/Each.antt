@@ -28,7 +28,7 @@ after_key line = drop (key_len line + 1) line
 
 -- ---- what comes of all
 
--- what came of the lines, if there was one, with one more, of which this came: the worst of all
+-- the worst outcome of the lines, if there was one, and of one line more
 abbrev pub with_line : Option Outcome → Outcome → Option Outcome
 with_line None outcome = Some outcome
 with_line (Some lines) outcome = Some (or_worse lines outcome)
@@ -40,7 +40,7 @@ outcome_of_lines lines = unwrap_or lines Fault
 abbrev pub no_line_note : List ℕ
 no_line_note = told_line (codes "standard input") (codes "no line")
 
--- or else advice on the question, which rows of tests show
+-- what standard error says of the lines: that there is none, or else advice on the question, which rows of tests show
 abbrev pub told_of_lines : Option Outcome → List ℕ → List ℕ
 told_of_lines None advice = no_line_note
 told_of_lines (Some outcome) advice = advice

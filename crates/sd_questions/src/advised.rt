@@ -137,7 +137,7 @@ fn descriptor_row(alloc: Global, settings: &Settings, text: &str) -> Option<Row>
     }
 }
 
-/// Of bytes that are no digits.
+/// The row of advice for a text in which a byte is no hexadecimal digit.
 fn hex_row(form: ByteForm, text: &str) -> Option<Row> {
     if form == ByteForm::Hex && text.bytes().any(|byte| !byte.is_ascii_hexdigit()) {
         Some(HEX)
@@ -146,7 +146,7 @@ fn hex_row(form: ByteForm, text: &str) -> Option<Row> {
     }
 }
 
-/// Of the first argument after the descriptor that can't be parsed.
+/// The row of advice for the first argument after the descriptor that can't be parsed.
 fn argument_row(
     alloc: Global,
     settings: &Settings,

@@ -27,7 +27,7 @@ use std::alloc::{AllocError, Global};
 use std::io::{Read, Write};
 use std::str::from_utf8;
 
-/// What came of a run, and what standard error is told beside its output.
+/// The outcome of a run, and what standard error says beside its output.
 #[derive(Drop)]
 pub struct Ended {
     /// Whole lines, or nothing.
@@ -55,7 +55,7 @@ struct LineQuestion<'a> {
 }
 
 impl AnswersLines for LineQuestion<'_> {
-    /// What came of the lines so far, if there was one.
+    /// The worst outcome of the lines so far, if there was one.
     type State = Option<Outcome>;
 
     ghost answers = { λ question before told printed after. AnswersNext question.has_keys question.is_json
@@ -184,7 +184,7 @@ fn after_answer(question: TextCommand) -> &'static str
     }
 }
 
-/// What came of the lines, if there was one, with one more, of which this came: the worst of all.
+/// The worst outcome of the lines, if there was one, and of one line more.
 fn with_line(lines: Option<Outcome>, outcome: Outcome) -> Option<Outcome>
     ensures { result ≡ with_line lines outcome }
 {

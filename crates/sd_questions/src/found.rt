@@ -30,7 +30,7 @@ pub(crate) fn found_in_descriptor(text: &str, fault: TextFault, place: u64) -> O
     }
 }
 
-/// Of an alias that is none, or a domain's.
+/// The row of advice for an alias that is none, or a domain's.
 fn alias_row(fault: TextFault, after: &[u8]) -> Option<Row> {
     match (fault, after) {
         (TextFault::DomainAlias, _) => Some(DOMAIN_ALIAS),
@@ -64,7 +64,7 @@ fn is_newer(alias: [u8; 2]) -> bool {
     )
 }
 
-/// Of a sign that is part of nothing.
+/// The row of advice for a sign that is part of nothing.
 fn sign_row(after: &[u8]) -> Option<Row> {
     match after {
         [b'"' | b'\'', ..] => Some(QUOTE),
@@ -78,7 +78,7 @@ fn sign_row(after: &[u8]) -> Option<Row> {
     }
 }
 
-/// Of a text that begins with no section.
+/// The row of advice for a text that begins with no section.
 fn start_row(text: &[u8]) -> Row {
     match text {
         [b'-', ..] => OPTION,
@@ -90,7 +90,7 @@ fn start_row(text: &[u8]) -> Row {
     }
 }
 
-/// Of a text that goes on otherwise within an entry.
+/// The row of advice for an entry that goes on otherwise than entries do.
 fn entry_row(before: &[u8], after: &[u8]) -> Option<Row> {
     match (fields_before(before), after) {
         (_, []) => Some(END),

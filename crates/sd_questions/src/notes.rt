@@ -44,7 +44,7 @@ pub(crate) fn notes_on(
     Ok(notes)
 }
 
-/// Of an empty text, as of an unset variable.
+/// Notes that the text is empty, as of an unset variable.
 fn push_empty(alloc: Global, text: &str, notes: &mut String) -> Result<(), AllocError> {
     if text.is_empty() {
         let what =
@@ -55,7 +55,7 @@ fn push_empty(alloc: Global, text: &str, notes: &mut String) -> Result<(), Alloc
     Ok(())
 }
 
-/// Of FA as a flag, of failed accesses, in an entry without rights.
+/// Notes that FA is a flag, of failed accesses, in an entry without rights.
 fn push_flag(alloc: Global, text: &str, notes: &mut String) -> Result<(), AllocError> {
     if text.split_once(";FA;;;;").is_some() {
         let what =
@@ -66,7 +66,7 @@ fn push_flag(alloc: Global, text: &str, notes: &mut String) -> Result<(), AllocE
     Ok(())
 }
 
-/// Of a mandatory label in a SACL that is left out: Windows checks it before the DACL ([MS-DTYP] 2.5.3.3).
+/// Notes a mandatory label in a SACL that is left out: Windows checks it before the DACL ([MS-DTYP] 2.5.3.3).
 fn push_label(
     alloc: Global,
     settings: &Settings,
@@ -90,7 +90,7 @@ fn push_label(
     notes.push_str(note.as_str())
 }
 
-/// Of entries that are inherited by what is made in a container ([MS-DTYP] 2.4.4.1): only the object is looked at.
+/// Notes entries that are inherited by what is made in a container ([MS-DTYP] 2.4.4.1): only the object is looked at.
 fn push_children(alloc: Global, text: &str, notes: &mut String) -> Result<(), AllocError> {
     if text.split('(').any(is_inherited) {
         let note = told_line(alloc, "SDDL", CHILDREN)?;
@@ -110,7 +110,7 @@ fn is_inherited(entry: &str) -> bool {
     }
 }
 
-/// Of a mask whose letters are also an alias, before groups, and of one in decimal digits.
+/// Notes a mask whose letters are also an alias, before groups, or that has decimal digits.
 fn push_mask(
     alloc: Global,
     mask: &str,
@@ -134,7 +134,7 @@ fn is_decimal(mask: &str) -> bool {
     5 <= mask.len() && !mask.starts_with('0') && mask.bytes().all(|byte| byte.is_ascii_digit())
 }
 
-/// Of a token without Everyone and Authenticated Users, with which the verdict is another.
+/// Notes that the token lacks Everyone and Authenticated Users, with which the verdict is another.
 fn push_lacking(
     alloc: Global,
     settings: &Settings,

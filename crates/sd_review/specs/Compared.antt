@@ -22,7 +22,7 @@ IsOf g before after c =
 abbrev pub IsRight : MappingValue → Compared → Type 0
 IsRight g c = IsOf g (parts_in (descriptor_of c.before)) (parts_in (descriptor_of c.after)) c
 
--- the same of two nodes, if both are there
+-- what all tokens gain and lose where one node takes the place of another, if both are there
 abbrev pub IsOfBoth : MappingValue → Option DescriptorValue → Option DescriptorValue → Option Compared → Type 0
 IsOfBoth g (Some before) (Some after) (Some c) = IsOf g (parts_in before) (parts_in after) c
 IsOfBoth g (Some before) (Some after) None = ⊥

@@ -6,7 +6,7 @@ use Rattle.sd_answer.specs.declared.answer.Spelling.{Spelling}
 use Rattle.sd_answer.specs.Parts.{parts_in}
 use Rattle.sd_review.specs.declared.compared.Compared.{Compared}
 
--- those of `compare`, each after a head
+-- the lines of `compare`, each after a head
 abbrev pub lines : Spelling → List ℕ → Compared → List ℕ
 lines spelling head c =
     gains_and_losses spelling head (parts_in (descriptor_of c.before)) (parts_in (descriptor_of c.after))

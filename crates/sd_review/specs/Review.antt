@@ -19,7 +19,7 @@ pub record Trees : Type 0 where
   pub new : PlainTree
   pub pending : List Edit
 
--- those of a store: its opening, its published edits, and those that are pending
+-- the trees of a store: its opening, its published edits, and those that are pending
 abbrev pub trees_after : Opening → List Edit → List Edit → Trees
 trees_after opening published pending = record {
   mapping = opening.mapping;

@@ -21,7 +21,7 @@ use Rattle.sd_script.specs.Reply.{reply_line}
 abbrev pub entries_by : Option DescriptorValue → List Ace
 entries_by d = option_map_or (λ (d : DescriptorValue). entries_in d.dacl) d []
 
--- those of the node of a path, by all edits that were accepted
+-- the entries of the node of a path, after all edits that were accepted
 abbrev pub entries_at : Machine → Names → List Ace
 entries_at m path = entries_by (descriptor_at m.opening.mapping (replay m.opening (accepted m)) path)
 

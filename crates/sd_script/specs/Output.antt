@@ -130,7 +130,7 @@ IsMade old asked new = (printed : List ℕ) × IsDone old asked printed new
 abbrev pub IsUntold : Session → List ℕ → Session → Type 0
 IsUntold old line new = (new ≡ old) ⊎ ((asked : Asked) × line_asks_in old line (Ok asked) × IsMade old asked new)
 
--- and it isn't counted, and has no answer that could be expected
+-- a line isn't answered, out of memory: it isn't counted, and has no answer that could be expected
 abbrev pub IsUnanswered : Carried → List ℕ → Carried → Type 0
 IsUnanswered old line new =
     (new.tally ≡ old.tally) × (new.last ≡ old.last) × IsUntold old.session line new.session

@@ -145,7 +145,7 @@ impl Parser {
         }
     }
 
-    /// Without an argument.
+    /// What a command without arguments asks for.
     fn alone(self, name: ScriptCommand) -> Parsed
         ensures { Parses self.notation (asks_taking name []) result }
     {
@@ -159,7 +159,7 @@ impl Parser {
         }
     }
 
-    /// On a path.
+    /// What a command with a path asks for.
     fn on_one(self, name: ScriptCommand, path: &str) -> Parsed
         ensures { Parses self.notation (asks_taking name (path.now ∷ [])) result }
     {
@@ -180,7 +180,7 @@ impl Parser {
         }
     }
 
-    /// On two arguments.
+    /// What a command with two arguments asks for.
     fn on_two(self, name: ScriptCommand, first: &str, second: &str) -> Parsed
         ensures { Parses self.notation (asks_taking name (first.now ∷ second.now ∷ [])) result }
     {
@@ -228,7 +228,7 @@ impl Parser {
         edit(Edit::addition(kind, path, node))
     }
 
-    /// On a kind, a path and a descriptor.
+    /// What a command with a kind, a path and a descriptor asks for.
     fn on_three(self, name: ScriptCommand, kind: &str, path: &str, sddl: &str) -> Parsed
         ensures { Parses self.notation (asks_taking name (kind.now ∷ path.now ∷ sddl.now ∷ [])) result }
     {
@@ -241,7 +241,7 @@ impl Parser {
         }
     }
 
-    /// On a reader, a path and a question.
+    /// What a command with a reader, a path, a user, a mask and the words of a token asks for.
     fn on_question(
         self,
         name: ScriptCommand,

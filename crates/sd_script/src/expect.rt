@@ -28,7 +28,7 @@ impl LastAnswer {
         LastAnswer { first_line: None }
     }
 
-    /// Of this answer. The only error is out of memory.
+    /// The first line of this answer. The only error is out of memory.
     pub(crate) fn of(alloc: Global, answer: &[u8]) -> Result<LastAnswer, AllocError>
         ensures { IfOk result (λ last. last ≡ Some (first_line_of answer.now)) }
     {

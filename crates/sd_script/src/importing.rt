@@ -74,7 +74,7 @@ fn entries_in(alloc: Global, dacl: &Dacl) -> Result<Vec<Ace>, AllocError>
     }
 }
 
-/// Those that were inherited ([MS-DTYP] 2.4.4.1, INHERITED_ACE).
+/// The entries that were inherited ([MS-DTYP] 2.4.4.1, INHERITED_ACE).
 fn inherited_in(alloc: Global, entries: &[Ace]) -> Result<Vec<Ace>, AllocError>
     ensures { IfOk result (λ inherited. inherited.items ≡ filter is_inherited entries.now) }
 {
@@ -82,7 +82,7 @@ fn inherited_in(alloc: Global, entries: &[Ace]) -> Result<Vec<Ace>, AllocError>
     Ok(inherited.copied().collect(alloc)?)
 }
 
-/// Those that weren't.
+/// The entries that weren't inherited ([MS-DTYP] 2.4.4.1, INHERITED_ACE).
 fn explicit_in(alloc: Global, entries: &[Ace]) -> Result<Vec<Ace>, AllocError>
     ensures { IfOk result (λ explicit. explicit.items ≡ filter is_explicit entries.now) }
 {

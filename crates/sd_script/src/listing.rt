@@ -22,9 +22,9 @@ use std::alloc::{AllocError, Global};
 /// Which nodes have a line.
 #[derive(Debug, Drop)]
 pub(crate) enum Which {
-    /// All, each with its descriptor.
+    /// All nodes, each with its descriptor.
     All,
-    /// Those that grant a token what is asked for ([MS-DTYP] 2.5.3.2), each by its path.
+    /// The nodes that grant a token what is asked for ([MS-DTYP] 2.5.3.2), each by its path.
     Granting { token: Token, asked: Mask },
 }
 

@@ -89,7 +89,7 @@ impl ReviewText<'_> {
         Ok(text)
     }
 
-    /// Those of a node.
+    /// The lines of one node of the new tree.
     fn changes_at(
         &self,
         last: &mut Option<Compared>,

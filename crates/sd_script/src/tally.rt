@@ -17,16 +17,16 @@ pub struct Tally {
     pub first_reordered: Option<u64>,
     /// How many lines expected an answer.
     pub expected: u64,
-    /// How many of these weren't met.
+    /// How many of the expected answers weren't given.
     pub unmet: u64,
-    /// The first of these.
+    /// The first line whose expected answer wasn't given.
     pub first_unmet: Option<u64>,
     /// Whether the first line begins with UTF-8's byte order mark.
     pub begins_with_mark: bool,
 }
 
 impl Tally {
-    /// Of no line.
+    /// The tally before the first line.
     pub fn of_no_lines() -> Tally
         ensures { result ≡ no_lines }
     {

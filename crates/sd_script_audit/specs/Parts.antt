@@ -51,7 +51,7 @@ progress notation opening readers writer queries = record {
   queries = queries;
 }
 
--- and what is counted so far
+-- a store that is open, the queries so far, and what is counted so far
 abbrev pub audited : Notation → Opening → ℕ → StoreState → List Query → Tally → Audited
 audited notation opening readers writer queries tally = record {
   progress = progress notation opening readers writer queries;

@@ -12,19 +12,19 @@ use sd_tree::RootSpec;
 use sd_versions::Desk;
 use std::alloc::{AllocError, Global};
 
-/// How these lines are answered.
+/// How the lines up to the one that opens the store are answered.
 #[derive(Clone, Copy)]
 pub(crate) struct Openings {
     pub(crate) manner: Manner,
     pub(crate) workers: u64,
 }
 
-/// What stands between two of them.
+/// What is kept between two lines before the store is open.
 #[derive(Drop)]
 pub(crate) struct Unopened {
-    /// The root of the store, where the last of them opens it.
+    /// The root of the store, where the last line opens it.
     pub(crate) root: Option<RootSpec>,
-    /// What is counted of them.
+    /// What is counted of the lines so far.
     pub(crate) tally: Tally,
 }
 

@@ -17,7 +17,7 @@ use std::alloc::{AllocError, Global};
 use std::marker::PhantomData;
 use std::sync::Wait;
 
-/// How these lines are answered.
+/// How the lines after the one that opens the store are answered.
 #[derive(Drop)]
 pub(crate) struct Queries<'a, J, T> {
     pub(crate) rt: &'a T,
@@ -26,7 +26,7 @@ pub(crate) struct Queries<'a, J, T> {
     pub(crate) of: PhantomData<J>,
 }
 
-/// What stands between two of them.
+/// What is kept between two lines once the store is open.
 pub(crate) struct Open<J: Naming> {
     /// The writer of the store.
     pub(crate) writer: StoreWriter<J>,

@@ -43,7 +43,7 @@ sid_error_number Count = 2
 sid_error_number Short = 3
 sid_error_number Authority = 4
 
--- and its name
+-- each error's name
 abbrev pub sid_error_name : SidError → List ℕ
 sid_error_name Revision = codes "Revision"
 sid_error_name Count = codes "Count"

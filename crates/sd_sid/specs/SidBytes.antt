@@ -13,7 +13,7 @@ abbrev pub u32_at : List ℕ → ℕ → ℕ
 u32_at bytes o = from_le_bytes w32 (slice_index bytes o ∷ slice_index bytes (o + 1) ∷ slice_index bytes (o + 2)
     ∷ slice_index bytes (o + 3) ∷ [])
 
--- so many of them, one after the other
+-- so many numbers of four bytes from an offset on, little-endian, one after the other
 abbrev pub u32s_at : List ℕ → ℕ → ℕ → List ℕ
 u32s_at bytes o n = map (λ k. u32_at bytes (o + 4 * k)) (range_with_len 0 n)
 

@@ -55,7 +55,7 @@ pub(crate) fn subs_of(bytes: &[u8], count: usize) -> [u32; MAX_SUBS]
     each_sub_of(bytes, count)
 }
 
-/// The same, one after the other.
+/// The first `count` sub-authorities of a SID's bytes ([MS-DTYP] 2.4.2.2), read in a loop; zeros follow them.
 #[inline(always)]
 fn each_sub_of(bytes: &[u8], count: usize) -> [u32; MAX_SUBS]
     requires few { count ≤ 15 }
@@ -71,8 +71,8 @@ fn each_sub_of(bytes: &[u8], count: usize) -> [u32; MAX_SUBS]
     subs
 }
 
-/// The same for five, the number in SIDs of a domain's accounts. Only for speed: without a loop, the larger part of the
-/// cost.
+/// The five sub-authorities of a domain account's SID ([MS-DTYP] 2.4.2.4); ten zeros follow them. Only for speed: the
+/// loop was the larger part of the cost.
 #[inline(always)]
 fn five_subs_of(bytes: &[u8]) -> [u32; MAX_SUBS]
     requires { 28 ≤ length bytes.now }

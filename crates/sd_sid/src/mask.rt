@@ -45,7 +45,7 @@ impl Mask {
         Mask(self.0 & !other.0)
     }
 
-    /// The bits that both masks have.
+    /// The bits that both masks have: their intersection, `&`.
     #[tactic(auto, using(crate::proofs::Masks::and_is))]
     pub fn common(self, other: Mask) -> Mask
         ensures { result ≡ mask_of (λ b. holds self b && holds other b) 32 }

@@ -24,17 +24,18 @@ use sd_versions::Answer;
 use std::fmt;
 use std::marker::Model;
 
-/// A reader of a store. Contracts see its view, the journal and the marks that it found last, and its floor, the
-/// journal that it has seen or learned of, which never falls.
+/// A reader of a store: it answers access checks ([MS-DTYP] 2.5.3.2) from the published tree. Contracts see its view,
+/// the journal and the marks that it found last, and its floor, the journal that it has seen or learned of, which never
+/// falls.
 #[derive(Drop)]
 pub struct Checker<J: Naming> {
-    /// The place in the shared store; away during a read alone.
+    /// The reader's place in the shared store; away during a read alone.
     pub(crate) seat: Option<Seat<J>>,
-    /// What it has seen or learned of.
+    /// The journal that it has seen or learned of.
     pub(crate) floor: Floor<J>,
     /// Its answers in the last audit.
     pub(crate) drawn: Vec<Answer>,
-    /// Why it has none.
+    /// Why it has no answers of the last audit, if it has none.
     pub(crate) failed: Option<AuditError>,
 }
 

@@ -49,7 +49,7 @@ pub struct Gone;
 /// Why no descriptor was returned.
 #[derive(Clone, Copy, Debug, PartialEq, Eq, Error)]
 pub enum ShowError {
-    /// As `Gone`.
+    /// The shared store gave nothing to read, or less than the checker has seen, as once its writer has ended.
     #[error("the store is gone")]
     Gone,
     /// Memory was refused.

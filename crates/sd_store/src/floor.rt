@@ -12,7 +12,8 @@ use sd_history::Front;
 use sd_tree::Edit;
 use std::marker::{Model, PhantomData};
 
-/// A journal of the store, as a prefix of the history of accepted edits. Contracts see its edits.
+/// A journal that was published, as a prefix of the history of accepted edits. A reader keeps the longest that it has
+/// seen or learned of, and answers from no shorter one. Contracts see its edits.
 #[derive(Drop)]
 pub(crate) struct Floor<J: Naming> {
     len: u64,

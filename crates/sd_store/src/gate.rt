@@ -2,7 +2,7 @@
 
 ghost use Rattle.std.specs.Prelude.{IsTrue};
 
-/// Called round each worker's k-th check, counted from 0: to hold workers back, to stop an audit, to count.
+/// What an audit calls round each worker's k-th check, from 0 on: to hold workers back, to stop the audit, to count.
 pub trait Gate {
     // What shows that `before` never answers false, if anything does.
     ghost always: { Type 0 } = { ⊥ };
@@ -11,7 +11,7 @@ pub trait Gate {
     fn before(&self, worker: u64, k: u64) -> bool
         ensures { always → IsTrue result };
 
-    /// The check was made.
+    /// Called after the worker's k-th check was made.
     fn after(&self, worker: u64, k: u64);
 }
 

@@ -9,8 +9,8 @@ use boxcar::tag::{Names, Tag};
 use std::fmt;
 use std::marker::Model;
 
-/// A publish that readers may learn of, on any thread and any number of times. Contracts see the journal that was then
-/// published, and its marks.
+/// A publish, to be passed to readers on any thread, any number of times: once a reader has learned it, it answers from
+/// no earlier journal. Contracts see the journal that was then published, and its marks.
 #[derive(Drop)]
 pub struct Notice<J: Naming> {
     pub(crate) journal: Floor<J>,

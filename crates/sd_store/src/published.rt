@@ -17,7 +17,7 @@ pub(crate) struct Published {
     pub tree: Shared<Tree>,
     /// 0, and then the journal's length after each publish.
     pub marks: Vec<u64>,
-    /// Of the history of accepted edits, the beginning that the journal is.
+    /// The journal, as a prefix of the history of accepted edits.
     pub front: Front<Edit>,
 }
 

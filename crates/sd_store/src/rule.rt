@@ -39,8 +39,8 @@ impl<J: Naming> Outcome<Published, View> for Sees<J> {
 /// The writer's side of the shared store, with the pending operations.
 pub(crate) type Cell<J> = Writer<Published, Operation, View, Law<J>>;
 
-/// A reader's side.
+/// A reader's place in the shared store, from which it enters the active copy to read.
 pub(crate) type Seat<J> = Reader<Published, View, Law<J>>;
 
-/// A reader's side during a read.
+/// A reader's place in the shared store during a read.
 pub(crate) type Entered<J> = Reading<Published, View, Law<J>>;

@@ -111,7 +111,7 @@ fn ask<J: Naming, G: Gate>(
 }
 
 impl<J: Naming> Checker<J> {
-    /// These are its answers.
+    /// Leaves the answers of an audit in the checker.
     fn keep(&mut self, answers: Vec<Answer>)
         ensures seen { (self.new.view ≡ self.old.view) × (self.new.floor ≡ self.old.floor) }
         ensures drawn { (self.new.drawn ≡ answers.items) × (self.new.failed ≡ None) }
@@ -120,7 +120,7 @@ impl<J: Naming> Checker<J> {
         self.failed = None;
     }
 
-    /// It has none.
+    /// Leaves in the checker why an audit has no answers.
     fn fail(&mut self, error: AuditError)
         ensures seen { (self.new.view ≡ self.old.view) × (self.new.floor ≡ self.old.floor) }
         ensures failed { self.new.failed ≡ Some error }

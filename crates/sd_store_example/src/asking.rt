@@ -36,7 +36,8 @@ pub fn answer_behind<J: Naming, R: Wait>(
     answer
 }
 
-/// The same on a store that was just started. The writer is borrowed, so a `?` leads back to where it is ended.
+/// The answer of a store that was just started to a query after these edits are published ([MS-DTYP] 2.5.3.2), or the
+/// first error. The writer is borrowed, so a `?` leads back to where it is ended.
 fn asked<J: Naming, R: Wait>(
     rt: &R,
     writer: &mut StoreWriter<J>,

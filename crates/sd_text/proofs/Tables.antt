@@ -25,7 +25,7 @@ use Rattle.sd_text.proofs.Loops.{Reaches, reaches_start, reaches_more, reaches_e
 pub named_at : {T : Type 0} (rs : List (Row T)) (i : ℕ) (r : Row T) (text : List ℕ) → i < length rs → r ≡ get_or rs i r → named (rows (drop i rs)) text ≡ cond (begins text r.0.now) (Some (r.1, drop (length r.0.now) text)) (named (rows (drop (i + 1) rs)) text)
 named_at rs i r text lt is = rw (drop-cons rs i r lt, sym is, add-one) refl
 
--- the same of the table of printed rights, looked up by the mask
+-- a row of the table of printed rights, looked up by the mask, and the rows after it
 pub name_at : (names : RightNames) (rs : List (Bor (List ℕ) × ℕ × RightNames)) (i : ℕ) (r : Bor (List ℕ) × ℕ × RightNames) (mask : ℕ) → i < length rs → r ≡ get_or rs i r → name_in names (map printed_right (drop i rs)) mask ≡ cond (has names r.2 && r.1 == mask) (Some r.0.now) (name_in names (map printed_right (drop (i + 1) rs)) mask)
 unfolding name_in
 name_at names rs i r mask lt is = rw (drop-cons rs i r lt, sym is, add-one) refl

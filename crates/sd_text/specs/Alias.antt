@@ -30,7 +30,7 @@ aliases =
     ∷ builtin (codes "MU") 558 ∷ builtin (codes "LU") 559 ∷ builtin (codes "IS") 568 ∷ builtin (codes "CY") 569
     ∷ builtin (codes "ER") 573 ∷ builtin (codes "CD") 574 ∷ []
 
--- those of newer versions of Windows, which a text may have or not
+-- the aliases of newer versions of Windows, which a text may have or not
 abbrev pub later_aliases : Bool → List (Name SidValue)
 later_aliases false = []
 later_aliases true =
@@ -47,7 +47,7 @@ early_domain_aliases =
     ∷ name_for (codes "SA") 518 ∷ name_for (codes "PA") 520 ∷ name_for (codes "LA") 500
     ∷ name_for (codes "LG") 501 ∷ []
 
--- those that a text may have, where it may have those of newer versions or not
+-- the aliases of a domain's accounts and groups that a text may have: all, or all but those of newer versions
 abbrev pub domain_aliases : Bool → List (Name ℕ)
 domain_aliases false = early_domain_aliases
 domain_aliases true = early_domain_aliases ++ name_for (codes "RO") 498 ∷ name_for (codes "CN") 522

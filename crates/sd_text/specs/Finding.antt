@@ -62,7 +62,8 @@ abbrev pub Gives : {X A : Type 0} → (X → A) → Result X TextFault → List 
 Gives view (Ok x) rest found = found ≡ Ok (view x, rest)
 Gives view (Err fault) rest found = found ≡ Err (fault, rest)
 
--- the same of a parser that takes memory for values that pass the test: None if an allocation failed
+-- a parser returns what the grammar finds, or None if an allocation failed, which happens only for values that pass the
+-- test; it leaves the text after it, or stops at the fault
 abbrev pub GivesUnlessMemory : {X A : Type 0}
     → (X → A) → (A → Bool) → Result (Option X) TextFault → List ℕ → Found A → Type 0
 GivesUnlessMemory view takes (Ok (Some x)) rest found = found ≡ Ok (view x, rest)

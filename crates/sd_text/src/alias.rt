@@ -25,7 +25,7 @@ pub struct Aliases {
 }
 
 impl Aliases {
-    /// Those of this domain, if there is one, and none of newer versions.
+    /// Allows the aliases of this domain, if there is one, and none of newer versions of Windows.
     pub fn in_domain(domain: Option<Domain>) -> Aliases
         ensures { result ≡ in_domain domain }
     {
@@ -181,7 +181,7 @@ static LATER_ALIASES: [(&str, WellKnown); 7] = [
     ("UD", WellKnown::Drivers),
 ];
 
-/// Those of them that a text may have.
+/// The aliases of newer versions of Windows that always stand for one SID: none, where `later` is false.
 fn later_aliases(later: bool) -> &'static [(&'static str, WellKnown)]
     ensures { renamed well_known (rows result.now) ≡ later_aliases later }
 {
@@ -209,7 +209,7 @@ static DOMAIN_ALIASES: [(&str, u32); 16] = [
     ("KA", 526),
 ];
 
-/// Those of them that a text may have.
+/// The aliases of a domain's accounts and groups: the first twelve, where `later` is false.
 fn domain_aliases(later: bool) -> &'static [(&'static str, u32)]
     ensures { rows result.now ≡ domain_aliases later }
 {
@@ -232,7 +232,7 @@ impl Cursor<'_> {
         }
     }
 
-    /// One that isn't in the first table, or the fault here.
+    /// A SID whose alias isn't in the first table, or the fault here.
     fn other_alias(&mut self, known: Aliases) -> Result<Sid, TextFault>
         ensures { Gives (λ sid. sid) result self.new.rest.now (find (other_alias known) self.old.rest.now) }
     {

@@ -122,7 +122,8 @@ impl<'a> Cursor<'a> {
     }
 }
 
-/// The same of a text. Only for speed a function of slices: a loop over the cursor's field was slower.
+/// Whether a text begins with these letters, at least one, of either case. Only for speed a function of slices: a loop
+/// over the cursor's field was slower.
 #[tactic(auto, using(crate::proofs::Letters::begins_nothing, crate::proofs::Letters::begins_short))]
 fn begins(text: &[u8], letters: &[u8]) -> bool
     ensures value { result ≡ begins text.now letters.now }
@@ -173,8 +174,8 @@ fn run_of(text: &[u8], radix: u32, limit: u64) -> (u64, usize)
 /// its length is known at compile time, so no digit needs a test for the text's end.
 const NUMBER_FRONT: usize = 11;
 
-/// The same for a text of at most 15 bytes, whose digits fit a number of 64 bits in any radix up to 16. Only for speed:
-/// no digit needs a test of the limit.
+/// The value of the digits at the front of at most 15 bytes, which fits 64 bits in any radix up to 16, and how many
+/// there are. Only for speed: no digit needs a test of the limit.
 #[inline(always)]
 fn short_run_of(text: &[u8], radix: u32) -> (u64, usize)
     requires low { 2 ≤ radix }
@@ -194,7 +195,8 @@ fn short_run_of(text: &[u8], radix: u32) -> (u64, usize)
     (value, text.len())
 }
 
-/// The same for a run of any length: digits after the limit is reached don't count.
+/// The value of the digits at the front, or any number at or above the limit if the value is; and how many there are.
+/// Digits after the limit is reached don't count.
 #[cold]
 fn long_run_of(text: &[u8], radix: u32, limit: u64) -> (u64, usize)
     requires low { 2 ≤ radix }

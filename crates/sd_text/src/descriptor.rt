@@ -59,7 +59,9 @@ pub fn read_sddl(alloc: Global, text: &str) -> Result<Descriptor, TextError>
     read_sddl_in(alloc, Aliases::in_domain(None), text)
 }
 
-/// The same, with the aliases that the text may have.
+/// Parses the text of a descriptor with the aliases that it may have ([MS-DTYP] 2.5.1): the whole text, letters of
+/// either case. Returns the first fault from the left, with its offset in bytes. `Memory` comes only for a valid text,
+/// and only if its DACL has an entry.
 pub fn read_sddl_in(alloc: Global, known: Aliases, text: &str) -> Result<Descriptor, TextError>
     ensures value { IfOk result (λ d. Spells (sddl_in known) text.now (descriptor_of d)) }
     ensures fault { IfErr result (λ e. StandsIn (sddl_in known) text.now e) }

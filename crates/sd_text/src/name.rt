@@ -25,7 +25,8 @@ impl Cursor<'_> {
         None
     }
 
-    /// The same for names of two letters, of which only the one that can be here is compared.
+    /// Consumes the name of two letters that is here, if the table has it, and returns its meaning. Only the one name
+    /// that can be here is compared.
     pub(crate) fn name_of_two<T: Copy>(&mut self, names: &[(&str, T)], places: &Places) -> Option<T>
         requires { are_placed places.now 0 (rows names.now) ≡ true }
         ensures none { IfNone result

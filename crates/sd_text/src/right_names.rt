@@ -6,13 +6,13 @@ ghost use Rattle.sd_text.specs.RightNames.{has, name_in, printed_right, printed_
 /// The names that rights have in a printed entry ([MS-DTYP] 2.5.1.1, ace-rights).
 #[derive(Clone, Copy, Debug, PartialEq, Eq)]
 pub enum RightNames {
-    /// Of files, of registry keys and of all objects, as in the canonical text.
+    /// The names of files, of registry keys and of all objects, as in the canonical text.
     All,
-    /// Of files and of all objects.
+    /// The names of files and of all objects.
     Files,
-    /// Of registry keys and of all objects.
+    /// The names of registry keys and of all objects.
     Keys,
-    /// Of all objects.
+    /// The names of all objects.
     Common,
 }
 

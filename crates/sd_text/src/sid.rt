@@ -26,7 +26,8 @@ pub fn read_sid_text(text: &str) -> Result<Sid, TextError>
     read_sid_text_in(Aliases::in_domain(None), text)
 }
 
-/// The same, with the aliases that the text may have.
+/// Parses a SID, in full or by an alias that the text may have ([MS-DTYP] 2.4.2.1). Allocates nothing: an error is the
+/// text's first fault from the left, with its offset in bytes.
 pub fn read_sid_text_in(known: Aliases, text: &str) -> Result<Sid, TextError>
     ensures value { IfOk result (λ sid. Spells (sid_text_in known) text.now sid) }
     ensures fault { IfErr result (λ e. StandsIn (sid_text_in known) text.now e) }

@@ -26,7 +26,7 @@ use Rattle.sd_tree.specs.declared.plan.Plan.TheVariants.{Insert, Set, Remove, Ex
 
 -- ---- a node that stays where it is
 
--- its row after a change
+-- a node's row after a change
 abbrev pub changed_row : RowChange → Row → Row
 changed_row (Owner owner) row = record row { owner = owner }
 changed_row (Group group) row = record row { group = group }

@@ -30,7 +30,7 @@ impl Model for Addition {
 }
 
 impl Addition {
-    /// That of a journal.
+    /// The addition that is this edit of a journal.
     pub(crate) fn of(edit: Shared<Edit>) -> Addition
         requires { is_addition edit ≡ true }
         ensures { result ≡ added edit }
@@ -38,7 +38,7 @@ impl Addition {
         Addition { edit }
     }
 
-    /// One of its own, of a row at a path.
+    /// A new addition, of a row at a path.
     pub(crate) fn new(alloc: Global, path: Path, row: Row) -> Result<Addition, AllocError>
         ensures { IfOk result (λ addition. addition ≡ record { path = path; row = row }) }
     {
@@ -60,7 +60,7 @@ impl Addition {
         Ok(Addition { edit })
     }
 
-    /// The same, for one holder more.
+    /// The addition, for one holder more.
     pub(crate) fn share(&self) -> Result<Addition, AllocError>
         ensures { IfOk result (λ addition. addition ≡ self.now) }
     {

@@ -12,7 +12,7 @@ use sd_inheritance::{Heir, hand_on};
 use sd_sid::GenericMapping;
 use std::alloc::{AllocError, Global};
 
-/// Nothing.
+/// No inherited entries.
 pub(crate) fn nothing(alloc: Global) -> Result<Shared<Entries>, AllocError>
     ensures { IfOk result (λ inherited. inherited ≡ []) }
 {

@@ -40,7 +40,7 @@ impl Edits {
         self.kept.len() + self.last.len()
     }
 
-    /// The same edits, in blocks that both share.
+    /// A copy of the edits, which shares their blocks.
     pub(crate) fn copy(&self, alloc: Global) -> Result<Edits, AllocError>
         ensures { IfOk result (λ copy. edits_in copy ≡ edits_in self.now) }
     {
@@ -100,7 +100,7 @@ impl<'a> Journal<'a> {
     }
 }
 
-/// The same edits, in a vector of their own.
+/// The edits in a new vector, each with one holder more.
 fn share_edits(alloc: Global, edits: &[Shared<Edit>]) -> Result<Vec<Shared<Edit>>, AllocError>
     ensures { IfOk result (λ shared. shared.items ≡ edits.now) }
 {

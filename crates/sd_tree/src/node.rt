@@ -43,7 +43,7 @@ impl RowRef<'_> {
         Ok(self.with_dacl(dacl))
     }
 
-    /// One that is equal but for the DACL.
+    /// A copy of the row, with another DACL.
     fn with_dacl(&self, dacl: NodeDacl) -> Row
         ensures { result ≡ record self.now { dacl = dacl } }
     {
@@ -55,7 +55,7 @@ impl RowRef<'_> {
         }
     }
 
-    /// One that is equal but for the change.
+    /// A copy of the row after the change.
     pub(crate) fn with(&self, alloc: Global, change: RowChange) -> Result<Row, AllocError>
         ensures { IfOk result (λ row. row ≡ changed_row change self.now) }
     {
@@ -136,7 +136,7 @@ impl Node {
         })
     }
 
-    /// The same node at another path.
+    /// A copy of the node, at another path.
     pub(crate) fn at(&self, alloc: Global, path: Path) -> Result<Node, AllocError>
         ensures { IfOk result (λ node. node ≡ record self.now { path = path }) }
     {
@@ -148,7 +148,8 @@ impl Node {
         })
     }
 
-    /// The same node, but for what it inherits; `AclTooLarge` as above.
+    /// The node with another inherited part; `AclTooLarge` where its whole DACL would take more than 65,535 bytes
+    /// ([MS-DTYP] 2.4.5).
     pub(crate) fn inheriting(&self, inherited: Shared<Entries>) -> Result<Node, TreeError>
         ensures node { IfOk result (λ node. node ≡ record self.now { whole = whole_with self.now.row inherited }) }
         ensures fits { IfOk result (λ node. dacl_size node.whole ≤ 65535) }
@@ -164,7 +165,7 @@ impl Node {
         self.stored_path().as_path_ref()
     }
 
-    /// The same, as it is stored.
+    /// The node's path, as it is stored.
     pub(crate) fn stored_path(&self) -> &Path
         ensures { result.now ≡ self.now.path }
     {

@@ -25,8 +25,7 @@ pub(crate) enum Plan {
     Remove {
         at: usize,
     },
-    /// As many nodes from the one place on give way to the run, which goes to the other, counted among the nodes that
-    /// stay.
+    /// As many nodes from `from` on as the run has are removed, and the run is inserted at `to`, counted without them.
     Exchange {
         from: usize,
         to: usize,

@@ -48,7 +48,7 @@ impl<T: Drop> Shared<T> {
         }
     }
 
-    /// The same value, for one holder more. `AllocError` only where its count of holders is full.
+    /// The value, for one holder more. `AllocError` only where its count of holders is full.
     pub fn share(&self) -> Result<Shared<T>, AllocError>
         ensures { IfOk result (λ shared. shared ≡ self.now) }
     {

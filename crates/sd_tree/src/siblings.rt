@@ -97,7 +97,8 @@ impl TreeView<'_> {
         None
     }
 
-    /// The same: one of the row's owner and group first, and else any, where owner and group don't matter.
+    /// A sibling near the place that inherits what the row does, and its place: one with the row's owner and group
+    /// first, and else any, where owner and group don't matter.
     pub(crate) fn sibling_with(
         &self,
         path: &PathRef<'_>,
@@ -124,7 +125,8 @@ impl TreeView<'_> {
         self.sibling_among(path, row, above, false, at)
     }
 
-    /// The same, where the node right before the place is at hand.
+    /// A sibling near the place that inherits what the row does, and its place; `before`, the node right before the
+    /// place, is tried first.
     pub(crate) fn sibling_behind<'b>(
         &'b self,
         path: &PathRef<'_>,
@@ -148,8 +150,8 @@ impl TreeView<'_> {
         self.sibling_with(path, row, above, at)
     }
 
-    /// The same, where the node at the place may be the sibling: what stands at the path, or what comes right behind
-    /// it.
+    /// A sibling near the place that inherits what the row does, and its place. First the node at the place is tried:
+    /// it stands at the path or comes right after it.
     pub(crate) fn sibling_around(
         &self,
         path: &PathRef<'_>,

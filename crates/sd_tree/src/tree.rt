@@ -69,7 +69,8 @@ impl Tree {
         Tree::opening_within(alloc, mapping, root, Limits::standard())
     }
 
-    /// The same, of a tree within these limits.
+    /// The tree of the root alone, which is a container, within these limits; or the first refusal of the root:
+    /// `InheritedEntry`, `NotCanonical`, `AclTooLarge`.
     pub fn opening_within(
         alloc: Global,
         mapping: &GenericMapping,

@@ -80,7 +80,7 @@ behind own after before r = record {
   is_before = ap (λ xs. own ++ xs) r.is_before ∙ sym (append_assoc own r.front r.back);
 }
 
--- the same of DACLs
+-- both DACLs are null, or the first is the second with its last entries put in canonical order
 abbrev pub AreReordered : Option (List Ace) → Option (List Ace) → Type 0
 AreReordered None None = Unit {0}
 AreReordered None (Some before) = ⊥

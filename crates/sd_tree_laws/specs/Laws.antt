@@ -107,7 +107,7 @@ abbrev pub KeepsList : PlainTree → Names → Names → Names → Type 0
 KeepsList t source target path =
     (g : MappingValue) → dacl_at g (edited g t (Move source target)) (moved_path source target path) ≡ dacl_at g t path
 
--- so does, after an accepted move, each node at or below a moved one that was given such a DACL
+-- after an accepted move each node at or below a moved one that was given such a DACL keeps its DACL
 abbrev pub GivenKeepLists : (NodeDacl → Type 0) → Type 0
 GivenKeepLists IsGiven =
     (opening : Opening) (journal : List Edit) (source target top path : Names) (row : Row)
@@ -121,7 +121,7 @@ ProtectedKeepLists = GivenKeepLists (λ dacl. is_protected dacl ≡ true)
 abbrev pub NullKeepLists : Type 0
 NullKeepLists = GivenKeepLists (λ dacl. dacl ≡ Null)
 
--- and each moved node, where the parent stays
+-- after an accepted move each moved node keeps its DACL, where the parent stays
 abbrev pub RenamedKeepLists : Type 0
 RenamedKeepLists =
     (opening : Opening) (journal : List Edit) (source target path : Names)
@@ -230,7 +230,7 @@ KeepingLetsNobodyIn =
     → is_granted_at g (edited g t (ProtectKeeping protected)) path token b ≡ true
     → is_granted_at g t path token b ≡ true
 
--- and a request without MAXIMUM_ALLOWED, place 25, that a check grants afterwards, it granted before
+-- a request without MAXIMUM_ALLOWED, place 25, that a check grants after a node was protected, it granted before
 abbrev pub KeepingGrantsNoNewRequest : Type 0
 KeepingGrantsNoNewRequest =
     (g : MappingValue) (t : PlainTree) (protected path : Names) (token : TokenValue) (asked m : ℕ)
@@ -253,7 +253,7 @@ ProtectingFirstKeepsLists =
     → dacl_at g (replay opening (protected_then_moved journal source target)) (moved_path source target path)
     ≡ dacl_at g (replay opening (journal ++ ProtectKeeping source ∷ [])) path
 
--- so what is granted after both edits, at a node's new path, was granted at its path before them
+-- what is granted after a node was protected and moved, at a node's new path, was granted at its path before both edits
 abbrev pub ProtectingFirstLetsNobodyIn : Type 0
 ProtectingFirstLetsNobodyIn =
     (opening : Opening) (journal : List Edit) (source target path : Names) (token : TokenValue) (b : ℕ)
@@ -262,7 +262,8 @@ ProtectingFirstLetsNobodyIn =
     (moved_path source target path) token b ≡ true
     → is_granted_at opening.mapping (replay opening journal) path token b ≡ true
 
--- and so was a request without MAXIMUM_ALLOWED
+-- a request without MAXIMUM_ALLOWED, place 25, that is granted after a node was protected and moved, at a node's new
+-- path, was granted at its path before both edits
 abbrev pub ProtectingFirstGrantsNoNewRequest : Type 0
 ProtectingFirstGrantsNoNewRequest =
     (opening : Opening) (journal : List Edit) (source target path : Names) (token : TokenValue) (asked m : ℕ)

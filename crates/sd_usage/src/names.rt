@@ -14,9 +14,9 @@ use std::alloc::{AllocError, Global};
 #[derive(Clone, Copy)]
 pub enum Commands {
     All,
-    /// Those that answer a text: what `each` and `--stdin` take.
+    /// The commands that answer a text: what `each` and `--stdin` take.
     Answering,
-    /// Those before which the option may go.
+    /// The commands before which the option may go.
     Taking(OptionName),
 }
 

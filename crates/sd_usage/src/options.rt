@@ -2,7 +2,7 @@
 
 use crate::row::OptionName;
 
-/// Of commands that parse a descriptor's text.
+/// The options of commands that parse a descriptor's text.
 pub(crate) const TEXT_OPTIONS: &[OptionName] = &[
     OptionName::Stdin,
     OptionName::WithoutSacl,
@@ -14,7 +14,7 @@ pub(crate) const TEXT_OPTIONS: &[OptionName] = &[
     OptionName::StrictStatus,
 ];
 
-/// Of those that also print masks, or entries.
+/// The options of commands that parse a descriptor's text and also print masks, or entries.
 pub(crate) const NAMED_TEXT_OPTIONS: &[OptionName] = &[
     OptionName::Stdin,
     OptionName::Names,

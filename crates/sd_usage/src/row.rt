@@ -23,7 +23,7 @@ pub type OptionRow = (&'static str, ProgramOption, &'static str);
 /// A command of the program.
 #[derive(Clone, Copy, PartialEq, Eq)]
 pub enum CommandName {
-    /// One that answers its arguments, of which the first can be a line of `each`.
+    /// A command that answers its arguments, of which the first can be a line of `each`.
     Ask(TextCommand),
     /// `script`.
     Script,
@@ -38,7 +38,7 @@ pub enum CommandName {
 /// A command that answers its arguments.
 #[derive(Clone, Copy, PartialEq, Eq)]
 pub enum TextCommand {
-    /// One whose first argument is a descriptor in SDDL.
+    /// A command whose first argument is a descriptor in SDDL.
     Descriptor(DescriptorCommand),
     /// `frombin`.
     FromBinary,
@@ -158,9 +158,9 @@ pub enum Arguments {
 pub enum Argument {
     /// `SDDL`: a descriptor in SDDL ([MS-DTYP] 2.5.1.1).
     Descriptor,
-    /// `OLD`: the same, before a change.
+    /// `OLD`: a descriptor in SDDL ([MS-DTYP] 2.5.1.1), before a change.
     Old,
-    /// `NEW`: the same, after it.
+    /// `NEW`: a descriptor in SDDL ([MS-DTYP] 2.5.1.1), after a change.
     New,
     /// `BYTES`: a descriptor in self-relative form ([MS-DTYP] 2.4.6).
     Bytes,
@@ -178,7 +178,7 @@ pub enum Argument {
     Workers,
     /// `COMMAND`: the command of `each`.
     Command,
-    /// `ARG`: an argument of that command.
+    /// `ARG`: an argument of the command of `each`.
     CommandArgument,
 }
 

@@ -396,7 +396,7 @@ pub(crate) fn command_rows() -> &'static [CommandRow] {
     COMMANDS
 }
 
-/// The options, likewise.
+/// The options, for texts: no contract speaks of these, so their proofs don't carry the table along.
 pub(crate) fn option_rows() -> &'static [OptionRow] {
     OPTIONS
 }

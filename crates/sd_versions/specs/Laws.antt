@@ -23,7 +23,7 @@ pub record IsSound (m : Machine) : Type 0 where
   pub floors : (reader : ℕ) → Extends m.published (floor_of m reader)
   pub lawful : IsLawful m.opening (accepted m)
 
--- so it is with every machine that comes from a start
+-- every machine that comes from a start is sound
 abbrev pub RunsAreSound : Type 0
 RunsAreSound =
     (opening : Opening) (readers : ℕ) (requests : List Request) (replies : List Reply) (m : Machine)

@@ -13,8 +13,9 @@ use sd_tree::{Edit, Journal, Limits, Path, RootSpec, Tree, TreeError};
 use std::alloc::{AllocError, Global};
 use std::marker::Model;
 
-/// A store of one thread. Contracts see the machine: the opening, the edits that are seen, those that are pending, and
-/// for each reader the journal that it has seen.
+/// A store of security descriptors for one thread, with numbered readers: edits are pending until a publish. Contracts
+/// see the machine: the opening, the edits that are published, those that are pending, and for each reader the journal
+/// that it has seen.
 #[derive(Drop)]
 pub struct Desk {
     alloc: Global,
@@ -37,7 +38,7 @@ impl Model for Desk {
 }
 
 impl Desk {
-    /// A desk with no edit yet, and 1 to 64 readers that have seen none: `Readers` for another number, and else the
+    /// A store with no edit yet, and 1 to 64 readers that have seen none: `Readers` for another number, and else the
     /// root's first refusal.
     pub fn start(
         alloc: Global,
@@ -53,7 +54,8 @@ impl Desk {
         Desk::start_within(alloc, mapping, root, Limits::standard(), readers)
     }
 
-    /// The same, of a desk whose tree is within these limits.
+    /// A store with no edit yet whose tree keeps these limits, and 1 to 64 readers that have seen none: `Readers` for
+    /// another number, and else the root's first refusal.
     pub fn start_within(
         alloc: Global,
         mapping: &GenericMapping,

@@ -14,7 +14,7 @@ use Rattle.sd_wire.specs.declared.fault.WireFault.{WireFault}
 abbrev pub checked : List ℕ → MappingValue → TokenValue → ℕ → Result Verdict WireFault
 checked bytes g t r = descriptor_read bytes >>= λ d. Ok (verdict d.owner (dacl_entries d.dacl) g t r)
 
--- the same of a list, from what reading its entries gives
+-- the verdict on an owner and a list, or the first test that reading its entries doesn't pass
 abbrev pub entries_checked : Result (List Ace) WireFault → Option SidValue → MappingValue → TokenValue → ℕ
     → Result Verdict WireFault
 entries_checked read owner g t r = read >>= λ es. Ok (verdict owner (Some es) g t r)

@@ -31,7 +31,7 @@ pub fn read_descriptor(alloc: Global, bytes: &[u8]) -> Result<Descriptor, WireEr
     read_parts(alloc, bytes)
 }
 
-/// The same, part by part.
+/// Parses header, owner, group, DACL and entries in this order ([MS-DTYP] 2.4.6), up to the first test that fails.
 #[tactic(auto, unfolding(crate::specs::Reading::descriptor_read))]
 fn read_parts(alloc: Global, bytes: &[u8]) -> Result<Descriptor, WireError>
     ensures read { Gives descriptor_of result (descriptor_read bytes.now) }

@@ -21,7 +21,7 @@ pub fn odd_entry(bytes: &[u8]) -> Option<(usize, u8)>
     odd_from(bytes, offset + 8, read_u16(bytes, offset + 4) as usize)
 }
 
-/// The same of so many entries from an offset on.
+/// The number, from 1 on, and the AceType of the first of `count` entries at `place` that neither allows nor denies.
 fn odd_from(bytes: &[u8], place: usize, count: usize) -> Option<(usize, u8)>
     requires within { place ≤ length bytes.now }
     requires few { count ≤ 65535 }

@@ -17,7 +17,7 @@ use std::thread::Threads;
 /// After a request for so many bytes and N more the Nth one is refused.
 const ARMING: usize = 0x4000_0000_0000_0000;
 
-/// The same, with all that come after it.
+/// After a request for so many bytes and N more the Nth one is refused, and all that come after it.
 const ARMING_LASTING: usize = 0x5000_0000_0000_0000;
 
 /// A request that is granted where one was refused since. No further one is.

@@ -40,7 +40,7 @@ pub(super) fn is_right<R: Threads + Wait + Sync>(
     started::<Brand, R>(rt, alloc, Opened::new(), &mapping, &root, checkers, play)
 }
 
-/// The same under the name of the store.
+/// Whether all answers of a store with this name, history and root were right; none when out of memory.
 fn started<J: Naming + Send + Sync + 'static, R: Threads + Wait + Sync>(
     rt: &R,
     alloc: Global,

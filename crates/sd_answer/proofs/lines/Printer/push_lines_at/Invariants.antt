@@ -1,4 +1,4 @@
--- Those of the lines so far stand behind the text.
+-- The text is what it was, and after it the lines so far whose lowest bit is at the place.
 use Rattle.std.proofs.Common.{◌≡◌, ◌++◌, string_bytes, take}
 use Rattle.sd_answer.specs.Lines.{lines_at, values}
 use Rattle.sd_answer.proofs.lines.Printer.push_lines_at.Given as goal
