@@ -2,7 +2,7 @@
 ghost use Rattle.std.specs.Prelude.{◌≡◌, ◌<◌, IfOk, length};
 ghost use Rattle.sd_acl.specs.Descriptor.{descriptor_of};
 ghost use Rattle.sd_answer.specs.Word.{IsFirstNoWord, texts};
-ghost use Rattle.sd_commands.specs.Answer.{AnswersUser, IsVerdict, IsWordFault, answer_of};
+ghost use Rattle.sd_commands.specs.Answer.{AnswersUser, AnswersWithLogon, IsVerdict, IsWordFault, answer_of};
 ghost use Rattle.sd_commands.specs.Answer.{verdict_outcome};
 
 use crate::answer::{Answer, Answered, Outcome};
@@ -12,7 +12,7 @@ use crate::words::{argument, items_from};
 use sd_acl::Descriptor;
 use sd_answer::{TokenError, read_mask_in, read_token, verdict_line, why_text};
 use sd_check::{Token, Verdict, check};
-use sd_sid::Mask;
+use sd_sid::{Mask, Sid};
 use sd_text::read_sid_text_in;
 use std::alloc::AllocError;
 
@@ -41,8 +41,24 @@ impl Command {
             Ok(asked) => asked,
             Err(error) => return self.text_fault("mask", "MASK", mask, error),
         };
-        let words = words_for(self.alloc, self.settings.logon, items_from(arguments, 2))?;
-        match read_token(self.alloc, self.settings.aliases, sid, &words) {
+        self.with_words(form, descriptor, sid, asked, items_from(arguments, 2))
+    }
+
+    /// The verdict for the token of the user and of these words, with the groups of the logon behind them, or the fault
+    /// of the first that is no word.
+    fn with_words(
+        self,
+        form: Form,
+        descriptor: &Descriptor,
+        user: Sid,
+        asked: Mask,
+        words: &[&str],
+    ) -> Answered
+        ensures { IfOk result (λ answer. AnswersWithLogon self.settings form (descriptor_of descriptor.now) user asked
+            words.now (answer_of answer)) }
+    {
+        let words = words_for(self.alloc, self.settings.logon, words)?;
+        match read_token(self.alloc, self.settings.aliases, user, &words) {
             Ok(token) => self.verdict_for(form, descriptor, &token, asked),
             Err(TokenError::NoWord { place }) => self.word_fault(&words, place),
             Err(TokenError::Memory) => Err(AllocError),
