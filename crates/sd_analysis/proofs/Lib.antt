@@ -16,3 +16,5 @@ pub mod Unnamed
 pub mod Effects
 pub mod Restricted
 pub mod Judged
+pub mod Creators
+pub mod Deeper

@@ -10,3 +10,4 @@ pub mod Effect
 pub mod Redundant
 pub mod Risks
 pub mod Descendants
+pub mod Creators

@@ -43,7 +43,9 @@ pub use compare_sides::DescriptorRef;
 pub use descendants::{Descendant, descendants_of, inherited_list};
 pub use descendants_compare::{DescendantChange, compare_descendants, descendant_ref};
 pub use effect::has_effect;
-pub use laws::bit_is_its_check;
+pub use laws::{
+    below_is_as_in_it, bit_is_its_check, creators_stand_for_all, unnamed_users_are_alike,
+};
 pub use redundancy::redundant;
 pub use risks::{Right, Risk, risks_in};
 pub use who_has::{Access, Alternative, Holder, who};

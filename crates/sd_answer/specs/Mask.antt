@@ -20,7 +20,7 @@ between_pluses text = slice_split (λ b. b == 43) text
 abbrev pub rights_word : Grammar ℕ
 rights_word = choose (λ text. length text == 0) (refused Syntax) mask_text
 
--- the word is a name of the kind, in exactly its letters, or else a rights field
+-- the word is a name of the kind, in any case, or else a rights field
 abbrev pub IsWordMask : Option ObjectKind → List ℕ → ℕ → Type 0
 IsWordMask kind word mask =
     (mask_named kind word ≡ Some mask) ⊎ ((mask_named kind word ≡ None) × Spells rights_word word mask)

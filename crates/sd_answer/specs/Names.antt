@@ -1,6 +1,7 @@
 -- The names of masks, by kind of object ([MS-DTYP] 2.4.3): one table for masks that are printed and parsed.
 use Rattle.std.specs.Prelude.{ℕ, Bool, true, false, ◌&&◌, if◌then◌else◌, List, [], ◌∷◌, ◌++◌, Option, Some, None}
 use Rattle.std.specs.Prelude.{bytes_eq, codes}
+use Rattle.std.specs.Str.{str_eq_ignore_ascii_case}
 use Rattle.std.specs.Borrow.{Bor}
 use Rattle.sd_text.specs.Grammar.{Name}
 use Rattle.sd_text.specs.MaskNames.{named_from}
@@ -104,11 +105,11 @@ names_of kind (named ∷ rest) = if is_of kind named.1 then named.0 ∷ names_of
 abbrev pub mask_names : Option ObjectKind → ℕ → List ℕ
 mask_names kind mask = named_from (names_of kind (short_names ++ rights)) mask 0 []
 
--- the bits of the first of these names that the word is
+-- the bits of the first of these names that the word is, in any case
 abbrev pub bits_among : List NamedBits → Option ObjectKind → List ℕ → Option ℕ
 bits_among [] kind word = None
 bits_among (named ∷ rest) kind word =
-    if is_of kind named.1 && bytes_eq named.0.letters word then Some named.0.stands_for
+    if is_of kind named.1 && str_eq_ignore_ascii_case named.0.letters word then Some named.0.stands_for
     else bits_among rest kind word
 
 -- the mask that the word names

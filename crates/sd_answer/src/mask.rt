@@ -10,7 +10,7 @@ use sd_sid::Mask;
 use sd_text::{TextError, TextFault, read_mask};
 
 /// Parses a mask: as a number it is a rights field ([MS-DTYP] 2.5.1.1, ace-rights); by names it is words joined by `+`,
-/// each a name of the kind of object in exactly its letters, as `Full control`, or else a rights field that isn't
+/// each a name of the kind of object in any case, as `Full control`, or else a rights field that isn't
 /// empty. Allocates nothing: an error is the text's first fault from the left, with its offset in bytes.
 #[tactic(auto, using(crate::proofs::WordsLeft::joined_only, crate::proofs::WordsLeft::never_memory))]
 pub fn read_mask_in(spelling: Spelling, text: &str) -> Result<Mask, TextError>

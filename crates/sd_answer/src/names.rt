@@ -1,5 +1,6 @@
 //! The names of masks, by kind of object ([MS-DTYP] 2.4.3): one table for masks that are printed and parsed.
 ghost use Rattle.std.specs.Prelude.{◌≡◌, ◌++◌, ◌&&◌, [], IfOk, OnOk, map, option_map, string_bytes};
+ghost use Rattle.std.specs.Str.{str_eq_ignore_ascii_case};
 ghost use Rattle.sd_text.specs.MaskNames.{is_due, named_from, with_rest, with_word};
 ghost use Rattle.sd_answer.specs.Names.{bits_among, is_of, long_names, mask_named, mask_names, named_bits};
 ghost use Rattle.sd_answer.specs.Names.{names_of, rights, short_names};
@@ -208,15 +209,22 @@ pub(crate) fn mask_named(kind: Option<ObjectKind>, word: &str) -> Option<u32>
     bits_among(all_names(), kind, word)
 }
 
-/// The bits of the first of these names that the word is.
+/// The bits of the first of these names that the word is, in any case.
 fn bits_among(rows: &[NamedBits], kind: Option<ObjectKind>, word: &str) -> Option<u32>
     ensures { result ≡ bits_among (map named_bits rows.now) kind word.now }
 {
     match rows {
         [] => None,
-        [row, _rows @ ..] if is_of(kind, row.2) && row.0 == word => Some(row.1),
+        [row, _rows @ ..] if is_named(row, kind, word) => Some(row.1),
         [_row, rows @ ..] => bits_among(rows, kind, word),
     }
+}
+
+/// Whether the word is this name, in any case, and the kind of object has it.
+fn is_named(row: &NamedBits, kind: Option<ObjectKind>, word: &str) -> bool
+    ensures { result ≡ (is_of kind row.now.2 && str_eq_ignore_ascii_case row.now.0.now word.now) }
+{
+    is_of(kind, row.2) && row.0.eq_ignore_ascii_case(word)
 }
 
 /// Whether a name is one for objects of this kind; of no kind only that of every object is.

@@ -4,6 +4,7 @@ use Rattle.std.specs.Prelude.{⊤, ◌⊎◌, ◌&&◌, is_some, if◌then◌els
 use Rattle.std.specs.Prelude.{MatchResult}
 use Rattle.std.specs.Option.{option_and_then, option_map_or}
 use Rattle.std.specs.Borrow.{Bor}
+use Rattle.sd_sid.specs.Mapping.{MappingValue}
 use Rattle.sd_text.specs.Domain.{domain_sid}
 use Rattle.sd_text.specs.Grammar.{Spells}
 use Rattle.sd_text.specs.Sid.{sid_text}
@@ -17,14 +18,15 @@ use Rattle.sd_answer.specs.declared.verdict_lines.Spelling.TheVariants.{Number, 
 use Rattle.sd_usage.specs.Table.{option_named, place, takes_option}
 use Rattle.sd_usage.specs.declared.row.OptionName.{OptionName}
 use Rattle.sd_usage.specs.declared.row.OptionName.TheVariants.{Aliases, Base64, Caret, Domain, Edits, Json}
-use Rattle.sd_usage.specs.declared.row.OptionName.TheVariants.{Loose, Mapping, Names, Nodes, Percent, RequireDacl}
+use Rattle.sd_usage.specs.declared.row.OptionName.TheVariants.{Logon, Loose, Mapping, Names, Nodes, Percent, RequireDacl}
 use Rattle.sd_usage.specs.declared.row.OptionName.TheVariants.{Risks, WithoutSacl}
 use Rattle.sd_usage.specs.declared.row.ProgramOption.{ProgramOption}
 use Rattle.sd_usage.specs.declared.row.TheConstants.{OPTION_COUNT}
+use Rattle.sd_commands.specs.Logon.{GivesLogon, GivesNoLogon}
 use Rattle.sd_commands.specs.Mapping.{GivesMapping, GivesNoMapping, kind_given}
 use Rattle.sd_commands.specs.declared.settings.ByteForm.TheVariants as forms
 use Rattle.sd_arguments.specs.declared.options.BadValue.{BadValue}
-use Rattle.sd_arguments.specs.declared.options.BadValue.TheVariants.{NoDomain, NoEdits, NoMapping, NoNodes}
+use Rattle.sd_arguments.specs.declared.options.BadValue.TheVariants.{NoDomain, NoEdits, NoLogon, NoMapping, NoNodes}
 use Rattle.sd_arguments.specs.declared.options.Options.{Options}
 use Rattle.sd_commands.specs.declared.settings.Settings.{Settings}
 
@@ -113,6 +115,7 @@ pub record AreSettings (options : OptionsValue) (settings : Settings) : Type 0 w
   pub later : settings.aliases.later ≡ has options Aliases
   pub mapping : GivesMapping (given options Mapping) settings.mapping
   pub kind : settings.kind ≡ kind_given (given options Mapping)
+  pub logon : GivesLogon (given options Logon) settings.logon
   pub without_sacl : settings.without_sacl ≡ has options WithoutSacl
   pub require_dacl : settings.require_dacl ≡ has options RequireDacl
   pub risks : settings.risks ≡ has options Risks
@@ -120,12 +123,15 @@ pub record AreSettings (options : OptionsValue) (settings : Settings) : Type 0 w
       else (if has options Loose then forms.Loose else forms.Hex))
   pub points : settings.points ≡ has options Caret
 
--- the value of an option isn't read: the domain's, or else the mapping's
+-- the value of an option isn't read: the domain's, or else the mapping's, or else that of the logon
 abbrev pub HasBadValue : OptionsValue → BadValue → Type 0
 HasBadValue options (NoDomain text points) =
     (given options Domain ≡ Some text.now) × IsNoDomain text.now × (points ≡ has options Caret)
 HasBadValue options NoMapping = ((domain : Option DomainValue) × GivesDomain (given options Domain) domain)
     × GivesNoMapping (given options Mapping)
+HasBadValue options NoLogon = ((domain : Option DomainValue) × GivesDomain (given options Domain) domain)
+    × ((mapping : MappingValue) × GivesMapping (given options Mapping) mapping)
+    × GivesNoLogon (given options Logon)
 HasBadValue options bad = ⊥
 
 -- these settings, or this value that isn't read

@@ -10,7 +10,7 @@ ghost use Rattle.sd_arguments.specs.UsageError.{accepted};
 
 use crate::usage_error::{UsageError, UsageErrorKind};
 use sd_answer::Spelling;
-use sd_commands::{ByteForm, Settings, kind_given, mapping_given};
+use sd_commands::{ByteForm, Settings, kind_given, logon_given, mapping_given};
 use sd_script::{Notation, PathSpelling, ScriptOptions, number_in};
 use sd_text::{Aliases, Domain, read_sid_text};
 use sd_tree::{Limits, LimitsError};
@@ -23,6 +23,8 @@ pub enum BadValue<'a> {
     NoDomain { text: &'a str, points: bool },
     /// The value of `--mapping` is no mapping.
     NoMapping,
+    /// The value of `--logon` is no kind of logon.
+    NoLogon,
     /// The value of `--nodes` is no number of nodes that limits allow.
     NoNodes,
     /// The value of `--edits` is no number of edits that limits allow.
@@ -86,6 +88,9 @@ impl<'a> Options<'a> {
         let Some(mapping) = mapping_given(given) else {
             return Err(BadValue::NoMapping);
         };
+        let Some(logon) = logon_given(self.given(OptionName::Logon)) else {
+            return Err(BadValue::NoLogon);
+        };
         let kind = kind_given(given);
         Ok(Settings {
             aliases: Aliases {
@@ -94,6 +99,7 @@ impl<'a> Options<'a> {
             },
             mapping,
             kind,
+            logon,
             without_sacl: self.has(OptionName::WithoutSacl),
             require_dacl: self.has(OptionName::RequireDacl),
             risks: self.has(OptionName::Risks),

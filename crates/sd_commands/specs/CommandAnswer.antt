@@ -41,6 +41,7 @@ use Rattle.sd_answer.specs.Who.{rights_asked, who_text}
 use Rattle.sd_answer.specs.Why.{why_text}
 use Rattle.sd_answer.specs.Word.{AreGroups, IsFirstNoGroup, IsFirstNoWord, IsToken, texts}
 use Rattle.sd_commands.specs.Analysis.{AreAccesses}
+use Rattle.sd_commands.specs.Logon.{words_for}
 use Rattle.sd_commands.specs.Bytes.{BytesRead, bytes_read, form_name, has_sacl, without_sacl}
 use Rattle.sd_usage.specs.declared.row.TextCommand.{TextCommand}
 use Rattle.sd_usage.specs.declared.row.TextCommand.TheVariants as questions
@@ -235,11 +236,18 @@ AnswersWords settings form d user asked words answer =
     × IsVerdict settings form d token asked answer)
     ⊎ IsWordFault settings words answer
 
+-- so do the words with the groups of the logon behind them
+abbrev pub AnswersWithLogon : Settings → Form → DescriptorValue → SidValue → ℕ → List (Bor (List ℕ)) → AnswerValue
+    → Type 0
+AnswersWithLogon settings form d user asked words answer =
+    (all : List (Bor (List ℕ))) × (texts all ≡ words_for settings.logon (texts words))
+    × AnswersWords settings form d user asked all answer
+
 -- the arguments are the user, the mask and words
 abbrev pub AnswersUser : Settings → Form → List (Bor (List ℕ)) → DescriptorValue → AnswerValue → Type 0
 AnswersUser settings form arguments d = AnswersOfSid (codes "USER") settings (argument arguments 0)
     (λ user. AnswersOfMask settings (argument arguments 1)
-    (λ asked. AnswersWords settings form d user asked (drop 2 arguments)))
+    (λ asked. AnswersWithLogon settings form d user asked (drop 2 arguments)))
 
 -- ---- other forms
 

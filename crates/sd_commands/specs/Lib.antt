@@ -4,6 +4,7 @@ pub mod Bytes
 pub mod Diagnostic
 pub mod Escaped
 pub mod Kinds
+pub mod Logon
 pub mod Mapping
 pub mod Pointer
 pub mod Risks

@@ -1,5 +1,6 @@
 //! What the options before a command about a descriptor say.
 
+use crate::logon::Logon;
 use sd_answer::{ObjectKind, Spelling};
 use sd_sid::GenericMapping;
 use sd_text::Aliases;
@@ -27,6 +28,8 @@ pub struct Settings {
     pub mapping: GenericMapping,
     /// The kind of object whose rights are named, if any.
     pub kind: Option<ObjectKind>,
+    /// How the user logged on, if that is said.
+    pub logon: Option<Logon>,
     /// Whether a SACL is left out.
     pub without_sacl: bool,
     /// Whether a descriptor without a list of entries is a fault.

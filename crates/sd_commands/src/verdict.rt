@@ -2,16 +2,17 @@
 ghost use Rattle.std.specs.Prelude.{◌≡◌, ◌<◌, IfOk, length};
 ghost use Rattle.sd_acl.specs.Descriptor.{descriptor_of};
 ghost use Rattle.sd_answer.specs.Word.{IsFirstNoWord, texts};
-ghost use Rattle.sd_commands.specs.CommandAnswer.{AnswersUser, IsVerdict, IsWordFault, answer_of};
+ghost use Rattle.sd_commands.specs.CommandAnswer.{AnswersUser, AnswersWithLogon, IsVerdict, IsWordFault, answer_of};
 ghost use Rattle.sd_commands.specs.CommandAnswer.{verdict_outcome};
 
 use crate::command_answer::{Answer, Answered, Outcome};
+use crate::logon::words_for;
 use crate::settings::CommandContext;
 use crate::words::{argument, items_from};
 use sd_acl::Descriptor;
 use sd_answer::{TokenError, read_mask_in, read_token, verdict_line, why_text};
 use sd_check::{Token, Verdict, check};
-use sd_sid::Mask;
+use sd_sid::{Mask, Sid};
 use sd_text::read_sid_text_in;
 use std::alloc::AllocError;
 
@@ -25,8 +26,8 @@ pub(crate) enum Form {
 }
 
 impl CommandContext {
-    /// The verdict on a descriptor, where the user, the mask and words are the arguments; or the fault of the first
-    /// from the left that is invalid.
+    /// The verdict on a descriptor, where the user, the mask and words are the arguments, with the groups of the logon
+    /// behind them; or the fault of the first from the left that is invalid.
     pub(crate) fn verdict(self, form: Form, descriptor: &Descriptor, arguments: &[&str]) -> Answered
         ensures { IfOk result (λ answer. AnswersUser self.settings form arguments.now (descriptor_of descriptor.now)
             (answer_of answer)) }
@@ -40,10 +41,26 @@ impl CommandContext {
             Ok(asked) => asked,
             Err(error) => return self.text_fault("mask", "MASK", mask, error),
         };
-        let words = items_from(arguments, 2);
-        match read_token(self.alloc, self.settings.aliases, sid, words) {
+        self.with_words(form, descriptor, sid, asked, items_from(arguments, 2))
+    }
+
+    /// The verdict for the token of the user and of these words, with the groups of the logon behind them, or the fault
+    /// of the first that is no word.
+    fn with_words(
+        self,
+        form: Form,
+        descriptor: &Descriptor,
+        user: Sid,
+        asked: Mask,
+        words: &[&str],
+    ) -> Answered
+        ensures { IfOk result (λ answer. AnswersWithLogon self.settings form (descriptor_of descriptor.now) user asked
+            words.now (answer_of answer)) }
+    {
+        let words = words_for(self.alloc, self.settings.logon, words)?;
+        match read_token(self.alloc, self.settings.aliases, user, &words) {
             Ok(token) => self.verdict_for(form, descriptor, &token, asked),
-            Err(TokenError::NoWord { place }) => self.word_fault(words, place),
+            Err(TokenError::NoWord { place }) => self.word_fault(&words, place),
             Err(TokenError::Memory) => Err(AllocError),
         }
     }

@@ -25,7 +25,7 @@ use Rattle.sd_arguments.specs.CommandLine.{RequestValue}
 use Rattle.sd_arguments.specs.Options.{OptionsValue, GivesSettings, has}
 use Rattle.sd_arguments.specs.declared.flags.GivenFlags.{GivenFlags}
 use Rattle.sd_arguments.specs.declared.options.BadValue.{BadValue}
-use Rattle.sd_arguments.specs.declared.options.BadValue.TheVariants.{NoDomain, NoEdits, NoMapping, NoNodes}
+use Rattle.sd_arguments.specs.declared.options.BadValue.TheVariants.{NoDomain, NoEdits, NoLogon, NoMapping, NoNodes}
 use Rattle.sd_questions.specs.Each.{after_key, has_key, key_of, outcome_of_lines, told_of_lines, with_line}
 use Rattle.sd_questions.specs.Input.{is_blank, is_utf16, without_end}
 
@@ -42,6 +42,8 @@ IsBadValue (NoDomain text points) answer =
     × IsBadOption (codes "domain") reason answer
 IsBadValue NoMapping answer = IsBadOption (codes "mapping")
     (codes "no such mapping: file, key, service, process, or four masks R,W,X,A") answer
+IsBadValue NoLogon answer = IsBadOption (codes "logon")
+    (codes "no such logon: interactive, network, batch, service, anonymous") answer
 IsBadValue NoNodes answer = IsBadOption (codes "nodes") (codes "no number of nodes, 1 to 16777216") answer
 IsBadValue NoEdits answer = IsBadOption (codes "edits") (codes "no number of edits, 0 to 4294967296") answer
 

@@ -145,6 +145,9 @@ fn push_lacking(
     let [user, mask, words @ ..] = arguments else {
         return Ok(());
     };
+    if settings.logon.is_some() {
+        return Ok(());
+    }
     let known = settings.aliases;
     let (Ok(read), Ok(sid), Ok(asked)) = (
         read_sddl_argument(alloc, known, settings.without_sacl, text),

@@ -63,6 +63,10 @@ pub fn bad_value(alloc: Global, bad: BadValue<'_>) -> Result<Answer, AllocError>
             let reason = "no such mapping: file, key, service, process, or four masks R,W,X,A";
             bad_option(alloc, "mapping", reason)
         }
+        BadValue::NoLogon => {
+            let reason = "no such logon: interactive, network, batch, service, anonymous";
+            bad_option(alloc, "logon", reason)
+        }
         BadValue::NoNodes => bad_option(alloc, "nodes", "no number of nodes, 1 to 16777216"),
         BadValue::NoEdits => bad_option(alloc, "edits", "no number of edits, 0 to 4294967296"),
     }

@@ -28,6 +28,21 @@ pub(crate) const NAMED_TEXT_OPTIONS: &[OptionName] = &[
     OptionName::StrictStatus,
 ];
 
+/// Of those about one user's access.
+pub(crate) const VERDICT_OPTIONS: &[OptionName] = &[
+    OptionName::Stdin,
+    OptionName::Names,
+    OptionName::WithoutSacl,
+    OptionName::RequireDacl,
+    OptionName::Domain,
+    OptionName::Aliases,
+    OptionName::Mapping,
+    OptionName::Logon,
+    OptionName::Json,
+    OptionName::Caret,
+    OptionName::StrictStatus,
+];
+
 pub(crate) const LINT_OPTIONS: &[OptionName] = &[
     OptionName::Stdin,
     OptionName::Names,

@@ -106,10 +106,12 @@ pub enum OptionName {
     Caret,
     /// `--strict-status`.
     StrictStatus,
+    /// `--logon`.
+    Logon,
 }
 
 /// How many options there are.
-pub const OPTION_COUNT: usize = 17;
+pub const OPTION_COUNT: usize = 18;
 
 /// A command, and what follows it.
 #[derive(Clone, Copy)]
@@ -197,6 +199,8 @@ pub enum Value {
     Sid,
     /// `KIND`: a generic mapping ([MS-DTYP] 2.4.3).
     Kind,
+    /// `LOGON`: how a user logs on.
+    Logon,
     /// `N`: a number in decimal digits.
     Number,
 }

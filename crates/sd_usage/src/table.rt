@@ -2,7 +2,7 @@
 
 use crate::options::{
     BYTES_OPTIONS, LINT_OPTIONS, NAMED_TEXT_OPTIONS, RIGHTS_OPTIONS, SCRIPT_OPTIONS, SID_OPTIONS,
-    TEXT_OPTIONS,
+    TEXT_OPTIONS, VERDICT_OPTIONS,
 };
 use crate::row::{
     Argument, Arguments, Command, CommandName, CommandRow, DescriptorCommand, Flag, Flags,
@@ -19,7 +19,7 @@ pub const COMMANDS: &[CommandRow] = &[
             arguments: Arguments::Three(Argument::Descriptor, Argument::User, Argument::Mask),
             repeated: Some(Argument::Word),
         },
-        NAMED_TEXT_OPTIONS,
+        VERDICT_OPTIONS,
         "Prints whether a descriptor grants an access mask to a user",
         "\
 sdstore verdict 'D:(D;;0x2;;;S-1-5-21-1-2-3-1001)(A;;0x1f01ff;;;S-1-5-21-1-2-3-1001)' S-1-5-21-1-2-3-1001 0x1",
@@ -32,7 +32,7 @@ sdstore verdict 'D:(D;;0x2;;;S-1-5-21-1-2-3-1001)(A;;0x1f01ff;;;S-1-5-21-1-2-3-1
             arguments: Arguments::Three(Argument::Descriptor, Argument::User, Argument::Mask),
             repeated: Some(Argument::Word),
         },
-        NAMED_TEXT_OPTIONS,
+        VERDICT_OPTIONS,
         "Prints whether a descriptor grants an access mask to a user, and why",
         "sdstore why 'D:(D;;0x2;;;BU)(A;;FR;;;BU)' S-1-5-21-1-2-3-1001 0x10003 BU",
     ),
@@ -344,6 +344,17 @@ domain AP, CN, KA and RO",
         "\
 the generic mapping, that of a 'file' (the default), of a registry 'key', of a 'service' or of a
 'process', or R,W,X,A, the four masks of GR, GW, GX and GA",
+    ),
+    (
+        "--logon",
+        ProgramOption {
+            name: OptionName::Logon,
+            value: Some(Value::Logon),
+            excludes: None,
+        },
+        "\
+adds the groups that Windows gives to a user who logs on so, 'interactive', 'network', 'batch',
+'service' or 'anonymous', as Everyone, Authenticated Users and NETWORK",
     ),
     (
         "--json",

@@ -109,6 +109,7 @@ fn value_name(value: Value) -> &'static str {
     match value {
         Value::Sid => "SID",
         Value::Kind => "KIND",
+        Value::Logon => "LOGON",
         Value::Number => "N",
     }
 }
