@@ -14,7 +14,8 @@ use Rattle.sd_check.specs.declared.token.GroupState.TheVariants.{Enabled, DenyOn
 use Rattle.sd_inheritance.specs.Inheritance.{creator_group, creator_owner, pass_on}
 use Rattle.sd_inheritance.specs.declared.kind.NodeKind.{NodeKind}
 use Rattle.sd_analysis.specs.Descendants.{inherited_entries, list_of, stops_somewhere}
-use Rattle.sd_analysis.specs.declared.descendants.Descendant.TheVariants.{Object, Container, ObjectBelow, ContainerBelow}
+use Rattle.sd_analysis.specs.declared.descendants.Descendant.TheVariants.{Object, Container}
+use Rattle.sd_analysis.specs.declared.descendants.Descendant.TheVariants.{ObjectBelow, ContainerBelow}
 use Rattle.sd_analysis.specs.Sufficient.{Parts, gains, is_named}
 
 -- ---- below new containers

@@ -18,8 +18,8 @@ use Rattle.sd_answer.specs.declared.verdict_lines.Spelling.TheVariants.{Number, 
 use Rattle.sd_usage.specs.Table.{option_named, place, takes_option}
 use Rattle.sd_usage.specs.declared.row.OptionName.{OptionName}
 use Rattle.sd_usage.specs.declared.row.OptionName.TheVariants.{Aliases, Base64, Caret, Domain, Edits, Json}
-use Rattle.sd_usage.specs.declared.row.OptionName.TheVariants.{Logon, Loose, Mapping, Names, Nodes, Percent, RequireDacl}
-use Rattle.sd_usage.specs.declared.row.OptionName.TheVariants.{Risks, WithoutSacl}
+use Rattle.sd_usage.specs.declared.row.OptionName.TheVariants.{Logon, Loose, Mapping, Names, Nodes, Percent}
+use Rattle.sd_usage.specs.declared.row.OptionName.TheVariants.{RequireDacl, Risks, WithoutSacl}
 use Rattle.sd_usage.specs.declared.row.ProgramOption.{ProgramOption}
 use Rattle.sd_usage.specs.declared.row.TheConstants.{OPTION_COUNT}
 use Rattle.sd_commands.specs.Logon.{GivesLogon, GivesNoLogon}
