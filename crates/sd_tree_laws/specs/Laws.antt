@@ -44,7 +44,7 @@ DaclIsOfParent =
 abbrev pub RootInheritsNothing : Type 0
 RootInheritsNothing =
     (g : MappingValue) (t : PlainTree) (row : NodeRow) → row_at t [] ≡ Some row → dacl_at g t []
-        ≡ dacl_of_row g row None
+    ≡ dacl_of_row g row None
 
 -- after a valid journal the root exists, and the parent of each node exists and is a container
 abbrev pub LawfulTreesAreClosed : Type 0
@@ -182,7 +182,7 @@ NothingWaitsInAnObject =
 abbrev pub InheritedHasId : Type 0
 InheritedHasId =
     (g : MappingValue) (row : NodeRow) (above : Option (List Ace)) → list_any is_explicit (handed_on g row above)
-        ≡ false
+    ≡ false
 
 -- after a valid journal no node's own entries have it
 abbrev pub OwnHasNoId : Type 0
