@@ -141,14 +141,19 @@ class Connection(asyncio.BufferedProtocol):
         """Answers what can be answered now, and reads on if all is."""
         if self.transport.is_closing():
             return
+        self._turn.begin()
         if self._unsent:
             self._give()
         if self._finishes:
             self.finish()
-            return
-        waits = self.answer_waiting()
-        if self.transport.is_closing() or self._finishes:
-            return
+        else:
+            waits = self.answer_waiting()
+            if not self.transport.is_closing() and not self._finishes:
+                self._go_on(waits)
+        self._turn.end()
+
+    def _go_on(self, waits: bool) -> None:
+        """Reads on, if no request waits; ends, if that is all."""
         if not waits:
             self.transport.resume_reading()
         elif self.received > _PIECE:

@@ -51,6 +51,8 @@ class Maker:
         self._file, self._mapping, self._warn, self._wake = file, mapping, warn, wake
         self._thread: threading.Thread | None = None
         self._made: Epoch | None = None
+        #: One is made.
+        self.has_made = False
         self._not_before = 0.0
         self._stop = threading.Event()
 
@@ -68,6 +70,7 @@ class Maker:
         if made is None:
             return None
         self._made = self._thread = None
+        self.has_made = False
         if last.number - made.state.last.number > MOST_LEFT:
             self._run(functools.partial(self._go_on, made))
             return None
@@ -105,5 +108,5 @@ class Maker:
         while count > MOST_LEFT and not self._stop.is_set():
             with Journal(self._file, only_reads=True) as journal:
                 count = made.go_on(journal)
-        self._made = made
+        self._made, self.has_made = made, True
         self._wake()

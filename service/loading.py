@@ -48,7 +48,7 @@ class Moment:
 
     def __init__(self, state: Loaded) -> None:
         tree = state.tree
-        self.last, self._state = state.last, dict(vars(state))
+        self._state = dict(vars(state))
         self._view, self._length, self._pending = tree.view, tree.length, tree.pending_view()
 
     def __enter__(self) -> "Moment":

@@ -24,6 +24,7 @@ _AT_ONCE = 64
 RECORD_SECONDS = 2.0
 #: After a failed write the next one is tried after so many seconds.
 _RETRY_SECONDS = 0.5
+_ENCODE = json.JSONEncoder().encode
 #: So many events of one name are written in so many seconds: what somebody without a role causes fills no disk.
 _FEW, _FEW_SECONDS = 600, 60
 
@@ -45,7 +46,8 @@ class Log:
         self._is_file = stat.S_ISREG(os.fstat(out).st_mode)
         self._ready = select.poll()
         self._ready.register(out, select.POLLOUT)
-        self._changed = threading.Condition()
+        self._lock = threading.Lock()
+        self._changed = threading.Condition(self._lock)
         #: What isn't on the stream, its bytes, and whether another thread than that of the log writes the first.
         self._waiting: deque[_Waiting] = deque()
         self._bytes, self._is_written = 0, False
@@ -105,7 +107,7 @@ class Log:
         """A line each. Returns whether they are on the stream; otherwise `then` is called, by any thread, with whether
         they are in time. If they aren't, they are written once the stream takes them."""
         waiting = _Waiting(_lines(what, many), time.monotonic(), then)
-        with self._changed:
+        with self._lock:
             is_failing = self._is_failing
             is_first = not self._waiting and not is_failing
             self._is_written = self._is_written or is_first
@@ -129,7 +131,7 @@ class Log:
             # (a ready pipe takes so many bytes; each look at it, and each write, gives other threads a turn)
             while rest and (self._is_file or self._ready.poll(0)):
                 rest = rest[os.write(self._out, rest if self._is_file else rest[: select.PIPE_BUF]) :]
-        with self._changed:
+        with self._lock:
             self._bytes -= len(first.text) - len(rest)
             first.text, is_waited_for = bytes(rest), first.then is not None
             if not rest:
@@ -207,5 +209,5 @@ def _call(thens: Sequence[Callable[[bool], object]], is_written: bool) -> None:
 
 def _lines(what: str, many: Sequence[dict[str, object]]) -> bytes:
     """A line each. Texts may come from outside: JSON escapes what would make a line of its own."""
-    head = json.dumps({"time": round(time.time(), 3), "event": what})[:-1]
-    return "".join([f"{head}{', ' if fields else ''}{json.dumps(fields)[1:]}\n" for fields in many]).encode()
+    head = f'{{"time": {round(time.time(), 3)}, "event": "{what}"'
+    return "".join([f"{head}{', ' if fields else ''}{_ENCODE(fields)[1:]}\n" for fields in many]).encode()

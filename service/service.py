@@ -249,8 +249,9 @@ class Service:
 
     def _begin(self, task: Task) -> None:
         """The edits are in progress. Fault: they aren't taken now."""
-        each = task.parts or (task,)
-        count, length = len(each), sum([len(one.line) for one in each])
+        count, length = len(task.parts) or 1, len(task.line)
+        for part in task.parts:
+            length += len(part.line)
         if not self._writer.leads:
             raise Fault(NO_LEADER)
         if self.is_stopping:

@@ -2,10 +2,9 @@
 
 import asyncio
 import time
-from typing import Protocol
+from typing import Protocol, cast
 
-#: A client with many requests at once has the loop for so long. Then others have it, for a round of the loop or for as
-#: long.
+#: A client has so much of twice the time. Then others have the loop, for a round of it or for the rest of that time.
 _SECONDS = 0.004
 
 
@@ -17,21 +16,35 @@ class Worker(Protocol):
 
 
 class Turn:
-    """The turns of one client. One begins with a question, unless the last one has just ended."""
+    """The turns of one client. Only the time counts in which its connections are at work."""
 
     def __init__(self) -> None:
         self._loop = asyncio.get_running_loop()
-        #: Until then it isn't over; and from then on another one begins by itself.
+        #: When it is over, if the connection at work goes on; and from then on another one begins by itself.
         self.ends = self._next = 0.0
+        #: The time that was used of it, and since when a connection is at work.
+        self._used, self._since = 0.0, cast("float | None", None)
         #: The connections that proceed in the next turn, in their order.
         self._later: dict[Worker, None] = {}
 
-    def is_over(self) -> bool:
-        """Whether others have the loop now."""
-        now = time.perf_counter()
+    def begin(self) -> None:
+        """A connection is at work from here on, up to `end`."""
+        now = self._since = time.perf_counter()
         if now >= self._next:
-            self.ends, self._next = now + _SECONDS, now + 2 * _SECONDS
-        return now >= self.ends
+            self._used, self._next = 0.0, now + 2 * _SECONDS
+        self.ends = now + _SECONDS - self._used
+
+    def end(self) -> None:
+        """It waits for others."""
+        if self._since is not None:
+            self._used += time.perf_counter() - self._since
+        self._since = None
+
+    def is_over(self) -> bool:
+        """Whether others have the loop now. If no connection is at work, the one that asks is from here on."""
+        if self._since is None or time.perf_counter() >= self._next:
+            self.begin()
+        return time.perf_counter() >= self.ends
 
     def again(self, worker: Worker) -> None:
         """The connection proceeds in the next round of the loop, or later, after those that have asked for it."""

@@ -18,13 +18,14 @@ from hudarin import View
 
 import clock
 from analysis import Pending
+from checkpoint import Checkpoint
 from edits import Edit, is_same
 from entry import Batch, Line, Place
 from epochs import Maker
 from errors import Fault, Mismatch, ServiceError
 from journal import Journal
 from leading import Lines
-from loading import Loaded, Moment, load
+from loading import Loaded, load
 from shown import Shown
 from stream import Stream
 from task import NO_MEMORY, Task, make_together
@@ -69,7 +70,7 @@ class Writer:
     _thread: threading.Thread | None = None
     #: The store isn't the journal's since a commit failed; and what it was before that, or before the one in progress.
     is_lost: bool = False
-    _before: Moment | None = None
+    _before: Checkpoint = field(default_factory=Checkpoint)
 
     def __post_init__(self) -> None:
         #: What readers see: only what is on disk.
@@ -107,6 +108,7 @@ class Writer:
         self.waiting.put(None)
         if self._thread is not None:
             self._thread.join()
+        self._before.forget()
         self._maker.stop()
         if self.stream is not None:
             self.stream.resign()
@@ -138,7 +140,8 @@ class Writer:
         if other is not None:
             other()
         if not is_last:
-            self._start_epoch_if_made()
+            if self._maker.has_made:
+                self._start_epoch_if_made()
             self._make_epoch_if_due()
         return not is_last
 
@@ -160,7 +163,7 @@ class Writer:
             return tasks, self._try_again, False
         while isinstance(item, Task):
             tasks.append(item)
-            count += len(item.each)
+            count += len(item.parts) or 1
             if count >= MOST_AT_ONCE:
                 return tasks, None, False
             try:
@@ -175,7 +178,7 @@ class Writer:
         try:
             if self.is_lost:
                 self._reload()
-            last = self._begin_commit()
+            last = self._before.begin(self.state)
             for task in tasks:
                 self._make(task, batch)
             if self.stream is not None and self.leads:
@@ -183,7 +186,7 @@ class Writer:
                 self.stream.append(last, batch.lines)
             if batch.lines:
                 self.journal.append(batch.lines)
-            self._end_commit()
+            self._before.end(batch.lines)
         except (sqlite3.Error, OSError, ServiceError, MemoryError) as error:
             self.is_lost = True
             # A replica asks whether it leads.
@@ -255,25 +258,11 @@ class Writer:
         if view is not self.shown.view:
             view.close()
 
-    def _begin_commit(self) -> Place:
-        """The last line, after which others are made. Until the end of the commit they can be taken back."""
-        self._before = Moment(self.state)
-        return self._before.last
-
-    def _end_commit(self) -> None:
-        if self._before is not None:
-            self._before.close()
-        self._before = None
-
     def _reload(self) -> None:
-        """Makes the store that of the journal, which has all of the commit that failed or nothing of it; if that isn't
-        known, it is read again, as at a start. Readers keep what was published, which is on disk."""
-        before, last = self._before, self.journal.last_place()
-        if before is not None and last == before.last:
-            before.restore(self.state)
-        elif before is None or last != self.state.last:
+        """Makes the store that of the journal; if it isn't known how that ends, it is read again, as at a start.
+        Readers keep what was published, which is on disk."""
+        if not self._before.restore(self.state, self.journal.last_place()):
             self._go_on_in(load(self.journal))
-        self._end_commit()
         self.is_lost = False
 
     def _may_try_again(self) -> bool:
@@ -291,6 +280,7 @@ class Writer:
         self._answer([])
 
     def _go_on_in(self, state: Loaded) -> None:
+        self._before.forget()
         old, self.state = self.state.tree, state
         self._drop(old.view)
         old.close_store()
@@ -318,14 +308,14 @@ class Writer:
                 self._reload()
                 return
             # What it has appended itself since it asked is there too.
-            last = self._begin_commit()
+            last = self._before.begin(self.state)
             lines = [each for each in following.lines if each[0].number > last.number]
             for line, chain in lines:
                 self._require_next(line, chain)
                 self.state.replay(line, chain, self._drop)
             if lines:
                 self.journal.append(lines)
-            self._end_commit()
+            self._before.end(lines)
             has_all = self.state.last.number >= following.last
             led, self.leads = self.leads, following.leads and has_all
             if self.leads and not led:
@@ -367,6 +357,7 @@ class Writer:
             self.journal.start_epoch(epoch.snapshot, state.last.number)
         except (sqlite3.Error, OSError, ServiceError, MemoryError) as error:
             # It may be on disk all the same, so the journal is read again.
+            self._before.forget()
             self.is_lost = True
             self.warn(f"no new epoch: {error}")
             following.tree.close()
