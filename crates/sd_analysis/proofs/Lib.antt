@@ -14,5 +14,6 @@ pub mod Searched
 pub mod Placed
 pub mod Unnamed
 pub mod Effects
+pub mod Alike
 pub mod Restricted
 pub mod Judged

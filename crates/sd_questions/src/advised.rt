@@ -73,10 +73,7 @@ pub(crate) fn advice_on_each(
         let note = told_line(alloc, "SDDL", LABELS)?;
         advice.push_str(note.as_str())?;
     }
-    if matches!(
-        request.question,
-        TextCommand::Descriptor(DescriptorCommand::Lint)
-    ) {
+    if options.has(OptionName::Risks) {
         let note = told_line(alloc, "SDDL", CHILDREN)?;
         advice.push_str(note.as_str())?;
     }

@@ -36,7 +36,7 @@ pub(crate) fn notes_on(
             push_mask(alloc, mask, words, &mut notes)?;
             push_children(alloc, text, &mut notes)?;
         }
-        (TextCommand::Descriptor(DescriptorCommand::Lint), _) => {
+        (TextCommand::Descriptor(DescriptorCommand::Lint), _) if settings.risks => {
             push_children(alloc, text, &mut notes)?;
         }
         _ => {}
