@@ -66,10 +66,10 @@ def mapped(mask, generic=GENERIC):
     return own
 
 
-def handed_on(e, child):
+def handed_on(e, child, generic=GENERIC):
     kept = e.flags & (SA | FA)
     subject = {CREATOR_OWNER: child.owner, CREATOR_GROUP: child.group}.get(e.sid, e.sid)
-    effective = Entry(e.kind, ID | kept, mapped(e.mask), subject)
+    effective = Entry(e.kind, ID | kept, mapped(e.mask, generic), subject)
     waiting = replace(e, flags=(e.flags & (OI | CI)) | IO | ID | kept)
     whole = replace(e, flags=(e.flags & (OI | CI)) | ID | kept)
     objects, containers, stops = e.flags & OI, e.flags & CI, e.flags & NP

@@ -1,8 +1,7 @@
 -- Verdicts on all requests are the same just where the same bits are granted.
-use Rattle.std.proofs.Common.{subst, suc, length, [], ◌∷◌, ◌++◌, take, drop, append-nil, ◌≡◌, ℕ, ◌^◌, ◌<◌, ◌≤◌, Bool, true, false, not, ◌&&◌, ◌||◌, ◌==◌, nat_lt, List, Option, Some, refl, sym, ◌∙◌, ap, arith, remove}
+use Rattle.std.proofs.Common.{subst, length, [], ◌∷◌, ◌≡◌, ℕ, ◌^◌, ◌<◌, ◌≤◌, Bool, true, false, not, ◌&&◌, ◌||◌, ◌==◌, nat_lt, List, Option, Some, refl, sym, ◌∙◌, ap, arith}
 use Rattle.std.proofs.Math.Dec.{eqb-suc-zero}
 use Rattle.std.proofs.lemmas.Bool.{false≢true, le-ltb, or_right}
-use Rattle.std.proofs.lemmas.List.{take_all, drop_all}
 use Rattle.std.proofs.lemmas.List.Elements.{All-head}
 use Rattle.sd_sid.specs.Mask.{holds, mask_of}
 use Rattle.sd_sid.specs.Mapping.{MappingValue}
@@ -17,8 +16,8 @@ use Rattle.sd_check.specs.declared.verdict.Verdict.TheVariants.{Granted}
 use Rattle.sd_check.proofs.LawProofs.{one_test}
 use Rattle.sd_analysis.specs.Base.{HasBase}
 use Rattle.sd_analysis.specs.Compare.{AreGains, HasABit}
-use Rattle.sd_analysis.specs.Effect.{HasEffect, HasNoEffect, parts_with}
-use Rattle.sd_analysis.specs.Sufficient.{Parts, gains, token_of, with_denied}
+use Rattle.sd_analysis.specs.Effect.{DecideAlike, Differ}
+use Rattle.sd_analysis.specs.Sufficient.{Parts, gains, parts_with, token_of, with_denied}
 use Rattle.sd_analysis.specs.declared.compare_report.Change.{Change}
 use Rattle.sd_analysis.proofs.BitChecks.{bit_is_its_check}
 
@@ -36,12 +35,12 @@ both_or_neither : (a b : Bool) → (a ≡ true → b ≡ true) → (b ≡ true �
 both_or_neither a b h j = grind arith
 
 -- neither list grants a token more than the other
-pub no_effect : (owner : Option SidValue) (es : List Ace) (g : MappingValue) (base : List (SidValue × GroupState)) (place : ℕ)
-    → ((t : TokenValue) (b : ℕ) → HasBase base t → is_granted owner (Some (remove es place)) g t b ≡ true → is_granted owner (Some es) g t b ≡ true)
-    → ((t : TokenValue) (b : ℕ) → HasBase base t → is_granted owner (Some es) g t b ≡ true → is_granted owner (Some (remove es place)) g t b ≡ true)
-    → HasNoEffect owner es g base place
-no_effect owner es g base place none_gained none_lost t r has =
-    same_verdicts owner es (remove es place) g t (λ b. both_or_neither _ _ (none_gained t b has) (none_lost t b has)) r
+alike : (owner : Option SidValue) (es others : List Ace) (g : MappingValue) (base : List (SidValue × GroupState))
+    → ((t : TokenValue) (b : ℕ) → HasBase base t → is_granted owner (Some others) g t b ≡ true → is_granted owner (Some es) g t b ≡ true)
+    → ((t : TokenValue) (b : ℕ) → HasBase base t → is_granted owner (Some es) g t b ≡ true → is_granted owner (Some others) g t b ≡ true)
+    → DecideAlike owner g base es others
+alike owner es others g base none_gained none_lost t r has =
+    same_verdicts owner es others g t (λ b. both_or_neither _ _ (none_gained t b has) (none_lost t b has)) r
 
 -- from place 21 on no list grants anything, and the owner has nothing
 high_bit : (low first again restricted own limited take security : Bool) (b : ℕ) → low ≡ false → 21 ≤ b
@@ -99,46 +98,34 @@ pub none_gains : (g : MappingValue) (base : List (SidValue × GroupState)) (old 
 none_gains g base old new [] are none t b has granted = are.complete t b has refl granted
 none_gains g base old new (c ∷ cs) are none t b has granted = absurd (false≢true (sym (eqb-suc-zero (length cs)) ∙ none))
 
-module _ (owner : Option SidValue) (es others : List Ace) (g : MappingValue) (base : List (SidValue × GroupState)) (place : ℕ) (is : others ≡ remove es place) where
+module _ (owner : Option SidValue) (es others : List Ace) (g : MappingValue) (base : List (SidValue × GroupState)) where
   -- a token that gains a bit, or loses one
-  pub effect_by_gain : (changes : List Change) → AreGains g base (parts_with owner es) (parts_with owner others) changes → (length changes == 0) ≡ false
-      → HasEffect owner es g base place
-  effect_by_gain changes are some =
+  pub differ_by_gain : (changes : List Change) → AreGains g base (parts_with owner es) (parts_with owner others) changes → (length changes == 0) ≡ false
+      → Differ owner g base es others
+  differ_by_gain changes are some =
       let shown = gains_show g base (parts_with owner es) (parts_with owner others) changes are some in
+      let parts = gained_parts _ _ shown.2.1 in
       record {
         token = shown.0;
         has_base = shown.2.0;
         request = 2 ^ shown.1;
-        differs =
-            let parts = gained_parts _ _ (subst (λ (list : List Ace). gains g (parts_with owner es) (parts_with owner list) shown.0 shown.1 ≡ true) is shown.2.1) in
-            two_verdicts owner (remove es place) es g shown.0 shown.1 parts.0 parts.1;
+        differs = two_verdicts owner others es g shown.0 shown.1 parts.0 parts.1;
       }
 
-  pub effect_by_loss : (changes : List Change) → AreGains g base (parts_with owner others) (parts_with owner es) changes → (length changes == 0) ≡ false
-      → HasEffect owner es g base place
-  effect_by_loss changes are some =
+  pub differ_by_loss : (changes : List Change) → AreGains g base (parts_with owner others) (parts_with owner es) changes → (length changes == 0) ≡ false
+      → Differ owner g base es others
+  differ_by_loss changes are some =
       let shown = gains_show g base (parts_with owner others) (parts_with owner es) changes are some in
+      let parts = gained_parts _ _ shown.2.1 in
       record {
         token = shown.0;
         has_base = shown.2.0;
         request = 2 ^ shown.1;
-        differs = λ same.
-            let parts = gained_parts _ _ (subst (λ (list : List Ace). gains g (parts_with owner list) (parts_with owner es) shown.0 shown.1 ≡ true) is shown.2.1) in
-            two_verdicts owner es (remove es place) g shown.0 shown.1 parts.0 parts.1 (sym same);
+        differs = λ same. two_verdicts owner es others g shown.0 shown.1 parts.0 parts.1 (sym same);
       }
 
-  pub no_effect_by_none : (gained lost : List Change) → AreGains g base (parts_with owner es) (parts_with owner others) gained → AreGains g base (parts_with owner others) (parts_with owner es) lost
-      → (length gained == 0) ≡ true → (length lost == 0) ≡ true → HasNoEffect owner es g base place
-  no_effect_by_none gained lost are_gained are_lost none nothing =
-      no_effect owner es g base place
-      (λ t b has granted. none_gains g base (parts_with owner es) (parts_with owner others) gained are_gained none t b has
-      (subst (λ (list : List Ace). is_granted owner (Some list) g t b ≡ true) (sym is) granted))
-      (λ t b has granted. subst (λ (list : List Ace). is_granted owner (Some list) g t b ≡ true) is
-      (none_gains g base (parts_with owner others) (parts_with owner es) lost are_lost nothing t b has granted))
-
--- there is no entry at a place beyond the list
-pub no_effect_beyond : (owner : Option SidValue) (es : List Ace) (g : MappingValue) (base : List (SidValue × GroupState)) (place : ℕ)
-    → length es ≤ place → HasNoEffect owner es g base place
-no_effect_beyond owner es g base place beyond t r has =
-    ap (λ (some : List Ace). verdict owner (Some some) g t r)
-    (ap (λ (front : List Ace). front ++ drop (suc place) es) (take_all place es beyond) ∙ ap (λ (back : List Ace). es ++ back) (drop_all (suc place) es (omega arith)) ∙ append-nil es)
+  pub alike_by_none : (gained lost : List Change) → AreGains g base (parts_with owner es) (parts_with owner others) gained → AreGains g base (parts_with owner others) (parts_with owner es) lost
+      → (length gained == 0) ≡ true → (length lost == 0) ≡ true → DecideAlike owner g base es others
+  alike_by_none gained lost are_gained are_lost none nothing =
+      alike owner es others g base (none_gains g base (parts_with owner es) (parts_with owner others) gained are_gained none)
+      (none_gains g base (parts_with owner others) (parts_with owner es) lost are_lost nothing)

@@ -1,24 +1,22 @@
 -- One entry more is judged, before those that were.
-use Rattle.std.proofs.Common.{◌≡◌, ℕ, suc, zero, ◌<◌, ◌≤◌, ◌+◌, ◌-◌, Bool, true, false, List, [], ◌∷◌, ◌++◌, length, get_or, set, take, drop, replicate, Option, Some, ◌⊎◌, inl, inr, refl, sym, ◌∙◌, ap, subst, arith}
+use Rattle.std.proofs.Common.{◌≡◌, ℕ, suc, zero, ◌<◌, ◌≤◌, ◌+◌, ◌-◌, Bool, true, false, List, [], ◌∷◌, ◌++◌, length, get_or, set, take, drop, replicate, Option, ◌⊎◌, inl, inr, refl, sym, ◌∙◌, ap, subst, arith}
 use Rattle.std.specs.List.{remove}
 use Rattle.std.proofs.lemmas.Bool.{cases_eq, cases_lt, false_from_ne_true, false≢true}
 use Rattle.std.proofs.lemmas.List.{append-nil, drop-set-lt, drop_all, get_or-drop, get_or-set_other, get_or-set_same, get_or_past, length-append, length-drop, length-replicate, length-set, length-take-le, take-append-drop, take_all}
 use Rattle.sd_sid.specs.Mapping.{MappingValue}
 use Rattle.sd_sid.specs.Sid.{SidValue}
 use Rattle.sd_acl.specs.declared.ace.Ace.{Ace}
-use Rattle.sd_check.specs.Check.{verdict}
-use Rattle.sd_check.specs.Token.{TokenValue}
 use Rattle.sd_check.specs.declared.token.GroupState.{GroupState}
-use Rattle.sd_analysis.specs.Base.{HasBase}
-use Rattle.sd_analysis.specs.Effect.{HasEffect, HasNoEffect}
+use Rattle.sd_analysis.specs.Effect.{ActAlike, HasEffect, HasNoEffect}
 use Rattle.sd_analysis.specs.Redundant.{AreRedundant, Goes, Stays, is_marked, judged_in, unmarked}
+use Rattle.sd_analysis.proofs.Alike.{act_after, act_same, not_both}
 
 -- the entries from a place on are judged
 pub record IsJudged (owner : Option SidValue) (es : List Ace) (g : MappingValue) (base : List (SidValue × GroupState))
     (from : ℕ) (marks : List Bool) (list : List Ace) : Type 0 where
   pub each : length marks ≡ length es
   pub left : list ≡ take from es ++ unmarked (drop from marks) (drop from es)
-  pub together : (t : TokenValue) (r : ℕ) → HasBase base t → verdict owner (Some list) g t r ≡ verdict owner (Some es) g t r
+  pub together : ActAlike owner g base es list
   pub no_effect : (place : ℕ) → from ≤ place → place < length es → is_marked marks place ≡ true
       → HasNoEffect owner (judged_in marks es place) g base place
   pub effect : (place : ℕ) → from ≤ place → place < length es → is_marked marks place ≡ false
@@ -77,7 +75,7 @@ module _ (owner : Option SidValue) (es : List Ace) (g : MappingValue) (base : Li
         each = room;
         left = is ∙ sym (ap (λ ms. take from es ++ unmarked ms (drop from es)) (drop_all from marks (omega (arith, all, room)))
             ∙ ap (λ xs. take from es ++ xs) (drop_all from es all) ∙ append-nil (take from es) ∙ take_all from es all);
-        together = λ t r has. ap (λ xs. verdict owner (Some xs) g t r) is;
+        together = act_same g base owner es left is;
         no_effect = λ place high low. absurd (omega (arith, is_from, high, low));
         effect = λ place high low. absurd (omega (arith, is_from, high, low));
         rest = λ place low. none place;
@@ -132,7 +130,7 @@ module _ (owner : Option SidValue) (es : List Ace) (g : MappingValue) (base : Li
         each = ap length is ∙ length-set marks place true ∙ before.each;
         left = is_rest ∙ ap (λ xs. remove xs place) before.left ∙ gone_split place marks es low before.each
             ∙ ap (λ ms. take place es ++ unmarked (drop place ms) (drop place es)) (sym is);
-        together = λ t r base_has. ap (λ xs. verdict owner (Some xs) g t r) is_rest ∙ has t r base_has ∙ before.together t r base_has;
+        together = subst (ActAlike owner g base es) (sym is_rest) (act_after g base owner es left (remove left place) before.together has);
         no_effect = λ p high inside marked. elim (cases_eq p place) [
           | inl here ↦ subst (λ n. HasNoEffect owner (judged_in now es n) g base n) (sym here)
               (subst (λ xs. HasNoEffect owner xs g base place) (before.left ∙ same place (omega arith)) has)
@@ -168,8 +166,7 @@ module _ (owner : Option SidValue) (es : List Ace) (g : MappingValue) (base : Li
     | inr past ↦ get_or_past marks place false (omega (arith, room, past))
     | inl low ↦ false_from_ne_true _ (λ marked.
         let whole = judged_whole marks es place room (λ later after. none_marked marks room no_effect each k later (omega (arith, high, after))) in
-        let effect = each place low in
-        effect.differs (subst (λ xs. HasNoEffect owner xs g base place) whole (no_effect place low marked) effect.token effect.request effect.has_base))
+        not_both g base owner es (remove es place) (each place low) (subst (λ xs. HasNoEffect owner xs g base place) whole (no_effect place low marked)))
   ]
 
   -- all are judged
@@ -182,7 +179,7 @@ module _ (owner : Option SidValue) (es : List Ace) (g : MappingValue) (base : Li
       let is_left : left ≡ unmarked marks es = subst (λ n. left ≡ take n es ++ unmarked (drop n marks) (drop n es)) is before.left in
       record {
         each = before.each;
-        together = λ t r has. ap (λ xs. verdict owner (Some xs) g t r) (sym is_left) ∙ before.together t r has;
+        together = subst (ActAlike owner g base es) is_left before.together;
         no_effect = no_effect;
         effect = effect;
         none = (

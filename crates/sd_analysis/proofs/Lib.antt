@@ -14,6 +14,7 @@ pub mod Searched
 pub mod Placed
 pub mod Unnamed
 pub mod Effects
+pub mod Alike
 pub mod Restricted
 pub mod Judged
 pub mod Creators

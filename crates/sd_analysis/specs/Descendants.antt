@@ -11,8 +11,7 @@ use Rattle.sd_inheritance.specs.Inheritance.{creator_group, creator_owner, no_pr
 use Rattle.sd_inheritance.specs.declared.kind.NodeKind.{NodeKind}
 use Rattle.sd_inheritance.specs.declared.kind.NodeKind.TheVariants as kinds
 use Rattle.sd_analysis.specs.Compare.{AreGains}
-use Rattle.sd_analysis.specs.Effect.{parts_with}
-use Rattle.sd_analysis.specs.Sufficient.{Parts}
+use Rattle.sd_analysis.specs.Sufficient.{Parts, parts_with}
 use Rattle.sd_analysis.specs.declared.descendants.Descendant.{Descendant}
 use Rattle.sd_analysis.specs.declared.descendants.Descendant.TheVariants.{Object, Container}
 use Rattle.sd_analysis.specs.declared.descendants.Descendant.TheVariants.{ObjectBelow, ContainerBelow}

@@ -1,14 +1,11 @@
 -- Which entries of a list can all go: judged from the last to the first, each in the list without those that can.
-use Rattle.std.specs.Prelude.{◌≡◌, ◌↔◌, ℕ, suc, ◌<◌, Bool, true, false, List, [], ◌∷◌, ◌++◌, Option, Some, length}
+use Rattle.std.specs.Prelude.{◌≡◌, ◌↔◌, ℕ, suc, ◌<◌, Bool, true, false, List, [], ◌∷◌, ◌++◌, Option, length}
 use Rattle.std.specs.Prelude.{take, drop, remove, slice_index_or, slice_set}
 use Rattle.sd_sid.specs.Mapping.{MappingValue}
 use Rattle.sd_sid.specs.Sid.{SidValue}
 use Rattle.sd_acl.specs.declared.ace.Ace.{Ace}
-use Rattle.sd_check.specs.Check.{verdict}
-use Rattle.sd_check.specs.Token.{TokenValue}
 use Rattle.sd_check.specs.declared.token.GroupState.{GroupState}
-use Rattle.sd_analysis.specs.Base.{HasBase}
-use Rattle.sd_analysis.specs.Effect.{HasEffect, HasNoEffect}
+use Rattle.sd_analysis.specs.Effect.{ActAlike, HasEffect, HasNoEffect}
 
 -- the entries that aren't marked
 abbrev pub unmarked : List Bool → List Ace → List Ace
@@ -44,9 +41,8 @@ pub record Goes (owner : Option SidValue) (es : List Ace) (g : MappingValue)
 pub record AreRedundant (owner : Option SidValue) (es : List Ace) (g : MappingValue)
     (base : List (SidValue × GroupState)) (marks : List Bool) : Type 0 where
   pub each : length marks ≡ length es
-  -- without all of these every request of each token with the base has the same verdict
-  pub together : (t : TokenValue) (r : ℕ) → HasBase base t
-      → verdict owner (Some (unmarked marks es)) g t r ≡ verdict owner (Some es) g t r
+  -- without all of these the list acts as the whole one does
+  pub together : ActAlike owner g base es (unmarked marks es)
   -- an entry is one of these where it has no effect beside those that stay after it, and no other is
   pub no_effect : (place : ℕ) → place < length es → is_marked marks place ≡ true
       → HasNoEffect owner (judged_in marks es place) g base place

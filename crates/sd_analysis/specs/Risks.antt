@@ -1,11 +1,11 @@
--- The risks in a descriptor: whom it shuts out, what it grants to nearly everybody, and SIDs of no known kind. Each is
--- found if and only if its condition here holds.
+-- The risks in a descriptor: whom it shuts out, what it grants to nearly everybody, of the object or of what is made in
+-- it, and SIDs of no known kind. Each is found if and only if its condition here holds.
 use Rattle.std.specs.Prelude.{ℕ, zero, suc, ◌+◌, Bool, false, not, ◌&&◌, ◌||◌, ◌==◌, nat_le, if◌then◌else◌}
-use Rattle.std.specs.Prelude.{List, [], ◌∷◌, ◌++◌, length, slice_get, Option, Some, None}
-use Rattle.std.specs.List.{list_any}
+use Rattle.std.specs.Prelude.{List, [], ◌∷◌, ◌++◌, fold, length, slice_get, Option, Some, None}
+use Rattle.std.specs.List.{flat_map, list_any}
 use Rattle.sd_sid.specs.Mask.{holds, mask_of}
 use Rattle.sd_sid.specs.Mapping.{MappingValue, mapped}
-use Rattle.sd_sid.specs.Sid.{SidValue}
+use Rattle.sd_sid.specs.Sid.{SidValue, same_sid}
 use Rattle.sd_acl.specs.Dacl.{Dacl}
 use Rattle.sd_acl.specs.Descriptor.{DescriptorValue}
 use Rattle.sd_acl.specs.declared.ace.Ace.{Ace}
@@ -13,7 +13,11 @@ use Rattle.sd_acl.specs.declared.descriptor.DaclOf.TheVariants.{Absent, Null, Li
 use Rattle.sd_check.specs.Check.{verdict}
 use Rattle.sd_check.specs.Token.{no_privileges}
 use Rattle.sd_check.specs.declared.token.GroupState.{GroupState}
+use Rattle.sd_inheritance.specs.Inheritance.{creator_owner}
+use Rattle.sd_analysis.specs.Descendants.{descendants_of, list_of, stops_somewhere}
 use Rattle.sd_analysis.specs.Effect.{granted_by}
+use Rattle.sd_analysis.specs.Sufficient.{is_among}
+use Rattle.sd_analysis.specs.declared.descendants.Descendant.{Descendant}
 use Rattle.sd_analysis.specs.declared.risks.Right.TheVariants.{FullControl, Write, Delete, ChangePermissions}
 use Rattle.sd_analysis.specs.declared.risks.Risk.{Risk}
 use Rattle.sd_analysis.specs.declared.risks.Risk.TheVariants.{EmptyList, OwnerCannotRead, Grants, UnknownEntry}
@@ -47,26 +51,68 @@ has_delete g granted = holds granted 16 || (holds granted 6 && has_delete_child 
 abbrev pub has_permissions : ℕ → Bool
 has_permissions granted = holds granted 18 || holds granted 19
 
+-- ---- SIDs of concern: tokens of anybody have them, or of nearly everybody ([MS-DTYP] 2.4.2.4)
+
+abbrev pub everyone : SidValue
+everyone = record { authority = 1; subs = 0 ∷ [] }
+
+abbrev pub anonymous : SidValue
+anonymous = record { authority = 5; subs = 7 ∷ [] }
+
+-- Everyone, Anonymous, Authenticated Users, Users, Guests, INTERACTIVE, NETWORK and This Organization
+abbrev pub wide_sids : List SidValue
+wide_sids =
+    everyone ∷ anonymous ∷ record { authority = 5; subs = 11 ∷ [] }
+    ∷ record { authority = 5; subs = 32 ∷ 545 ∷ [] } ∷ record { authority = 5; subs = 32 ∷ 546 ∷ [] }
+    ∷ record { authority = 5; subs = 4 ∷ [] } ∷ record { authority = 5; subs = 2 ∷ [] }
+    ∷ record { authority = 5; subs = 15 ∷ [] } ∷ []
+
+-- Domain Users, Domain Guests and Domain Computers of any domain: S-1-5-21, three numbers, and 513, 514 or 515
+abbrev pub is_wide_in_domain : List ℕ → Bool
+is_wide_in_domain (kind ∷ x ∷ y ∷ z ∷ rid ∷ []) = kind == 21 && (nat_le 513 rid && nat_le rid 515)
+is_wide_in_domain subs = false
+
+-- of these those that the entries name, each once
+abbrev pub with_sid_of : List SidValue → Ace → List SidValue
+with_sid_of sids e =
+    if (e.sid.authority == 5 && is_wide_in_domain e.sid.subs) && not (is_among sids e.sid) then sids ++ e.sid ∷ []
+    else sids
+
+abbrev pub sids_of_concern : List Ace → List SidValue
+sids_of_concern es = fold with_sid_of wide_sids es
+
 -- ---- what a list grants
 
--- what a token is granted whose user has the SID and whose groups are the base, without privileges
+-- the groups of a token whose user has the SID: the base, of which Anonymous is in Everyone alone
+abbrev pub where_everyone : SidValue × GroupState → List (SidValue × GroupState)
+where_everyone group = if same_sid group.0 everyone then group ∷ [] else []
+
+abbrev pub groups_beside : List (SidValue × GroupState) → SidValue → List (SidValue × GroupState)
+groups_beside base s = if same_sid s anonymous then flat_map where_everyone base else base
+
+-- what such a token is granted, without privileges
 abbrev pub rights_of : Option SidValue → List Ace → MappingValue → List (SidValue × GroupState) → SidValue → ℕ
 rights_of owner es g base s = granted_by (verdict owner (Some es) g
-    (record { user = s; groups = base; restricting = []; privileges = no_privileges }) 0x02000000)
+    (record { user = s; groups = groups_beside base s; restricting = []; privileges = no_privileges }) 0x02000000)
 
 abbrev pub risk_if : Bool → Risk → List Risk
 risk_if test risk = if test then risk ∷ [] else []
 
--- full control, or else of the other rights those that the SID has
-abbrev pub grants : MappingValue → SidValue → ℕ → List Risk
-grants g s granted =
-    if has_full_control g granted then Grants s FullControl ∷ []
-    else risk_if (has_write g granted) (Grants s Write)
-    ++ risk_if (has_delete g granted) (Grants s Delete)
-    ++ risk_if (has_permissions granted) (Grants s ChangePermissions)
+-- full control, or else of the other rights those that the SID has, of the object or of a descendant
+abbrev pub grants : MappingValue → Option Descendant → SidValue → ℕ → List Risk
+grants g whose s granted =
+    if has_full_control g granted then Grants whose s FullControl ∷ []
+    else risk_if (has_write g granted) (Grants whose s Write)
+    ++ risk_if (has_delete g granted) (Grants whose s Delete)
+    ++ risk_if (has_permissions granted) (Grants whose s ChangePermissions)
 
-abbrev pub grants_to : Option SidValue → List Ace → MappingValue → List (SidValue × GroupState) → SidValue → List Risk
-grants_to owner es g base s = grants g s (rights_of owner es g base s)
+abbrev pub grants_to : Option Descendant → Option SidValue → List Ace → MappingValue → List (SidValue × GroupState)
+    → SidValue → List Risk
+grants_to whose owner es g base s = grants g whose s (rights_of owner es g base s)
+
+-- of a descendant, which S-1-3-0 owns, to each of the SIDs
+abbrev pub grants_in : List Ace → MappingValue → List (SidValue × GroupState) → List SidValue → Descendant → List Risk
+grants_in es g base sids d = flat_map (grants_to (Some d) (Some creator_owner) (list_of g d es) g base) sids
 
 -- neither all that GENERIC_READ stands for nor WRITE_DAC, by which the list could be made to grant it
 abbrev pub cannot_read : MappingValue → ℕ → Bool
@@ -75,19 +121,6 @@ cannot_read g granted = not (has_all granted (mapped g 0x80000000)) && not (hold
 abbrev pub owner_risks : Option SidValue → List Ace → MappingValue → List (SidValue × GroupState) → List Risk
 owner_risks None es g base = []
 owner_risks (Some s) es g base = risk_if (cannot_read g (rights_of (Some s) es g base s)) (OwnerCannotRead s)
-
--- Everyone, Anonymous, Authenticated Users and Users ([MS-DTYP] 2.4.2.4)
-abbrev pub everyone : SidValue
-everyone = record { authority = 1; subs = 0 ∷ [] }
-
-abbrev pub anonymous : SidValue
-anonymous = record { authority = 5; subs = 7 ∷ [] }
-
-abbrev pub authenticated_users : SidValue
-authenticated_users = record { authority = 5; subs = 11 ∷ [] }
-
-abbrev pub users : SidValue
-users = record { authority = 5; subs = 32 ∷ 545 ∷ [] }
 
 -- ---- kinds of SIDs
 
@@ -126,10 +159,8 @@ unfoldable pub list_risks : Option SidValue → List Ace → MappingValue → Li
 list_risks owner es g base =
     risk_if (length es == 0) EmptyList
     ++ owner_risks owner es g base
-    ++ grants_to owner es g base everyone
-    ++ grants_to owner es g base anonymous
-    ++ grants_to owner es g base authenticated_users
-    ++ grants_to owner es g base users
+    ++ flat_map (grants_to None owner es g base) (sids_of_concern es)
+    ++ flat_map (grants_in es g base (sids_of_concern es)) (descendants_of (stops_somewhere es))
     ++ entry_risks es (length es)
 
 -- an absent or a null DACL grants everything to everybody, which is a finding of its own

@@ -28,6 +28,10 @@ pub record Parts : Type 0 where
 abbrev pub parts_of : DescriptorRef → Parts
 parts_of d = record { owner = d.owner; dacl = entries_of d.dacl }
 
+-- one with this owner and this list
+abbrev pub parts_with : Option SidValue → List Ace → Parts
+parts_with owner es = record { owner = owner; dacl = Some es }
+
 -- the token is granted the bit by the new descriptor, and not by the old one
 abbrev pub gains : MappingValue → Parts → Parts → TokenValue → ℕ → Bool
 gains g old new t b = is_granted new.owner new.dacl g t b && not (is_granted old.owner old.dacl g t b)

@@ -24,6 +24,7 @@ mod compare_report;
 mod compare_search;
 mod compare_sides;
 mod compare_table;
+mod concern;
 mod descendants;
 mod descendants_compare;
 mod effect;

@@ -1,16 +1,19 @@
 //! The risks in a descriptor.
 
-ghost use Rattle.std.specs.Prelude.{◌≡◌, ◌&&◌, ◌==◌, ◌++◌, not, IfOk, OnOk, length};
-ghost use Rattle.std.specs.List.{list_any};
+ghost use Rattle.std.specs.Prelude.{◌≡◌, ◌&&◌, ◌==◌, ◌++◌, not, IfOk, OnOk, None, length};
+ghost use Rattle.std.specs.List.{flat_map, list_any};
 ghost use Rattle.sd_acl.specs.Descriptor.{descriptor_of};
-ghost use Rattle.sd_analysis.specs.Risks.{cannot_read, dacl_risks, entry_risks, grants_to, has_all, has_delete};
-ghost use Rattle.sd_analysis.specs.Risks.{has_delete_child, has_full_control, has_permissions, has_write, is_known};
-ghost use Rattle.sd_analysis.specs.Risks.{is_of_kind, known_kinds, list_risks, owner_risks, rights_of, risk_if};
-ghost use Rattle.sd_analysis.specs.Risks.{risks_of, unknown_if_any, writing};
+ghost use Rattle.sd_analysis.specs.Descendants.{descendants_of, stops_somewhere};
+ghost use Rattle.sd_analysis.specs.Risks.{cannot_read, dacl_risks, entry_risks, grants_in, grants_to, has_all};
+ghost use Rattle.sd_analysis.specs.Risks.{has_delete, has_delete_child, has_full_control, has_permissions, has_write};
+ghost use Rattle.sd_analysis.specs.Risks.{is_known, is_of_kind, known_kinds, list_risks, owner_risks, rights_of};
+ghost use Rattle.sd_analysis.specs.Risks.{risk_if, risks_of, unknown_if_any, writing};
 ghost use Rattle.sd_analysis.specs.declared.risks.Risk.TheVariants.{UnknownGroup, UnknownOwner};
 
 use crate::base::Base;
 use crate::compare_sides::sid_from_parts;
+use crate::concern::{groups_beside, sids_of_concern};
+use crate::descendants::{Descendant, descendants_of, inherited_list};
 use crate::trial::granted_by;
 use crate::who_case::Case;
 use sd_acl::{Ace, Dacl, Descriptor};
@@ -57,8 +60,8 @@ pub enum Risk {
     EmptyList,
     /// This owner is granted neither all that GENERIC_READ stands for nor WRITE_DAC.
     OwnerCannotRead(Sid),
-    /// Everyone, Anonymous, Authenticated Users or Users has the right.
-    Grants(Sid, Right),
+    /// A SID of concern has the right: of the object, or of a descendant if it is a container.
+    Grants(Option<Descendant>, Sid, Right),
     /// The entry, counted from 1, is for a SID of no known kind.
     UnknownEntry(usize, Ace),
     /// The owner's SID is of no known kind.
@@ -92,7 +95,8 @@ static KNOWN_KINDS: [Kind; 16] = [
 ];
 
 /// The risks in a descriptor, each where it stands and no other: of its list, entry by entry last, then of its owner's
-/// and its group's SID. What a list grants is what a token with the SID and the base is granted ([MS-DTYP] 2.5.3.2). An
+/// and its group's SID. What a list grants is what a token with the SID and the base is granted ([MS-DTYP] 2.5.3.2); of
+/// Anonymous with the base's Everyone alone. What is made in it if it is a container is looked at too (2.5.3.4). An
 /// absent and a null DACL have no risk of a list, since they grant everything to everybody. Fails only where an
 /// allocation fails.
 pub fn risks_in(
@@ -145,10 +149,9 @@ fn list_risks(alloc: Global, case: &Case<'_>) -> Result<Vec<Risk>, AllocError>
     let mut found = Vec::new(alloc);
     push_if(&mut found, case.entries.is_empty(), Risk::EmptyList)?;
     add_owner_risks(alloc, &mut found, case)?;
-    add_grants(alloc, &mut found, case, sid_from_parts(1, &[0]))?;
-    add_grants(alloc, &mut found, case, sid_from_parts(5, &[7]))?;
-    add_grants(alloc, &mut found, case, sid_from_parts(5, &[11]))?;
-    add_grants(alloc, &mut found, case, sid_from_parts(5, &[32, 545]))?;
+    let sids = sids_of_concern(alloc, case.entries)?;
+    add_grants(alloc, &mut found, case, None, &sids)?;
+    add_grants_below(alloc, &mut found, case, &sids)?;
     let of_entries = entry_risks(alloc, case.entries)?;
     found.extend_from_slice(&of_entries)?;
     Ok(found)
@@ -177,27 +180,82 @@ fn add_owner_risks(alloc: Global, found: &mut Vec<Risk>, case: &Case<'_>) -> Res
     Ok(())
 }
 
-/// Adds which rights to change the object the SID has.
+/// Adds which rights to change the object, or the descendant, each of the SIDs has.
 fn add_grants(
     alloc: Global,
     found: &mut Vec<Risk>,
     case: &Case<'_>,
+    whose: Option<Descendant>,
+    sids: &[Sid],
+) -> Result<(), AllocError>
+    ensures { let case = case.now in OnOk result (found.new.items ≡ found.old.items
+        ++ flat_map (grants_to whose case.owner.now case.entries.now case.mapping.now case.base.now) sids.now) }
+{
+    for sid in sids {
+        add_grants_to(alloc, found, case, whose, *sid)?;
+    }
+    Ok(())
+}
+
+fn add_grants_to(
+    alloc: Global,
+    found: &mut Vec<Risk>,
+    case: &Case<'_>,
+    whose: Option<Descendant>,
     sid: Sid,
 ) -> Result<(), AllocError>
     ensures { let case = case.now in OnOk result (found.new.items ≡ found.old.items
-        ++ grants_to case.owner.now case.entries.now case.mapping.now case.base.now sid) }
+        ++ grants_to whose case.owner.now case.entries.now case.mapping.now case.base.now sid) }
 {
     let granted = rights_of(alloc, case, sid)?;
     if has_full_control(case.mapping, granted) {
-        found.push(Risk::Grants(sid, Right::FullControl))?;
+        found.push(Risk::Grants(whose, sid, Right::FullControl))?;
         return Ok(());
     }
-    let write = Risk::Grants(sid, Right::Write);
+    let write = Risk::Grants(whose, sid, Right::Write);
     push_if(found, has_write(case.mapping, granted), write)?;
-    let delete = Risk::Grants(sid, Right::Delete);
+    let delete = Risk::Grants(whose, sid, Right::Delete);
     push_if(found, has_delete(case.mapping, granted), delete)?;
-    let change = Risk::Grants(sid, Right::ChangePermissions);
+    let change = Risk::Grants(whose, sid, Right::ChangePermissions);
     push_if(found, has_permissions(granted), change)
+}
+
+/// Adds which rights to change what is made in a container each of the SIDs has.
+fn add_grants_below(
+    alloc: Global,
+    found: &mut Vec<Risk>,
+    case: &Case<'_>,
+    sids: &[Sid],
+) -> Result<(), AllocError>
+    ensures { let case = case.now in OnOk result (found.new.items ≡ found.old.items
+        ++ flat_map (grants_in case.entries.now case.mapping.now case.base.now sids.now)
+        (descendants_of (stops_somewhere case.entries.now))) }
+{
+    for descendant in descendants_of(&[], case.entries) {
+        add_grants_in(alloc, found, case, *descendant, sids)?;
+    }
+    Ok(())
+}
+
+fn add_grants_in(
+    alloc: Global,
+    found: &mut Vec<Risk>,
+    case: &Case<'_>,
+    descendant: Descendant,
+    sids: &[Sid],
+) -> Result<(), AllocError>
+    ensures { let case = case.now in OnOk result (found.new.items ≡ found.old.items
+        ++ grants_in case.entries.now case.mapping.now case.base.now sids.now descendant) }
+{
+    let list = inherited_list(alloc, case.mapping, descendant, case.entries)?;
+    let owner = Some(sid_from_parts(3, &[0]));
+    let inheriting = Case {
+        owner: &owner,
+        entries: &list,
+        mapping: case.mapping,
+        base: case.base,
+    };
+    add_grants(alloc, found, &inheriting, Some(descendant), sids)
 }
 
 /// The entries for SIDs of no known kind.
@@ -213,13 +271,12 @@ fn entry_risks(alloc: Global, entries: &[Ace]) -> Result<Vec<Risk>, AllocError>
     Ok(found)
 }
 
-/// What a token is granted whose user has the SID, with the base.
+/// What a token is granted whose user has the SID, with the base, of which Anonymous is in Everyone alone.
 fn rights_of(alloc: Global, case: &Case<'_>, sid: Sid) -> Result<Mask, AllocError>
     ensures { let case = case.now in IfOk result (λ granted.
         granted ≡ rights_of case.owner.now case.entries.now case.mapping.now case.base.now sid) }
 {
-    let base: &Base<'_> = case.base;
-    let groups = Vec::from_slice(alloc, base.groups)?;
+    let groups = groups_beside(alloc, case.base, &sid)?;
     let token = Token::new(sid, groups, Privileges::default());
     let list = DaclRef::List(case.entries);
     let verdict = check_parts(*case.owner, list, case.mapping, &token, MAXIMUM_ALLOWED);

@@ -3,7 +3,7 @@
 
 ghost use Rattle.std.specs.Prelude.{◌≡◌, ◌<◌, true, IfOk, None, Some, length, remove};
 ghost use Rattle.sd_check.specs.Check.{verdict};
-ghost use Rattle.sd_analysis.specs.Effect.{granted_by, HasEffect};
+ghost use Rattle.sd_analysis.specs.Effect.{Differ, granted_by};
 ghost use Rattle.sd_analysis.specs.Sufficient.{token_of, with_denied};
 
 use crate::base::Base;
@@ -22,7 +22,8 @@ use std::alloc::{AllocError, Global};
 pub(crate) fn shows_effect(alloc: Global, case: &Case<'_>, place: usize) -> Result<bool, AllocError>
     requires { place < length case.now.entries.now }
     ensures { let case = case.now in IfOk result (λ shows. shows ≡ true
-        → HasEffect case.owner.now case.entries.now case.mapping.now case.base.now place) }
+        → Differ case.owner.now case.mapping.now case.base.now case.entries.now
+        (remove case.entries.now place)) }
 {
     let entry = &case.entries[place];
     let subject = match subject_of(case.owner, &entry.sid) {
@@ -59,7 +60,8 @@ fn is_shown(
 ) -> Result<bool, AllocError>
     requires { place < length case.now.entries.now }
     ensures { let case = case.now in IfOk result (λ shows. shows ≡ true
-        → HasEffect case.owner.now case.entries.now case.mapping.now case.base.now place) }
+        → Differ case.owner.now case.mapping.now case.base.now case.entries.now
+        (remove case.entries.now place)) }
 {
     let groups = groups_with(alloc, case.base, denied)?;
     let token = Token::new(user, groups, Privileges::default());

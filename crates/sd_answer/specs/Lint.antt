@@ -38,9 +38,9 @@ is_repeated later earlier =
 abbrev pub is_stranded : Ace → Bool
 is_stranded e = (is_inherit_only e && not (holds e.flags.0 0)) && not (holds e.flags.0 1)
 
--- it is effective and redundant, as its mark says
+-- it is redundant, as its mark says, and not for this reason alone
 abbrev pub is_useless : Ace → Bool → Bool
-is_useless e mark = mark && not (is_inherit_only e)
+is_useless e mark = mark && not (is_stranded e)
 
 -- ---- lines
 

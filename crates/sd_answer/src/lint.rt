@@ -13,8 +13,9 @@ use sd_text::print_entry_in;
 use std::alloc::{AllocError, Global};
 
 /// What is doubtful in a descriptor's DACL, entry by entry, a line for each finding, as `entry 2 (A;;FR;;;BU) has no
-/// effect`: no check of a token with the base changes without these, even without all of them, if the entries so
-/// reported go together ([MS-DTYP] 2.5.3.2). No line where nothing is found. The only error is out of memory.
+/// effect`: no check of a token with the base changes without all entries so reported, of the object and of what is
+/// made in it if it is a container ([MS-DTYP] 2.5.3.2, 2.5.3.4). No line where nothing is found. The only error is out
+/// of memory.
 pub fn lint_text(
     alloc: Global,
     mapping: &GenericMapping,
@@ -77,9 +78,8 @@ fn entry_lines(
     push_where(&mut text, stranded, head, "is inherited by nothing")?;
     let repeated = first_repeated(before, entry);
     push_behind(alloc, &mut text, repeated, head, "repeats entry ")?;
-    let effective = !entry.is_inherit_only();
-    push_where(&mut text, mark && effective, head, "has no effect")?;
-    let limits = effective && entry.sid.is_owner_rights();
+    push_where(&mut text, mark && !stranded, head, "has no effect")?;
+    let limits = !entry.is_inherit_only() && entry.sid.is_owner_rights();
     push_where(&mut text, limits, head, "limits the owner")?;
     Ok(text)
 }

@@ -2,6 +2,7 @@
 use Rattle.std.specs.Prelude.{ℕ, if◌then◌else◌, List, [], ◌++◌, codes}
 use Rattle.std.specs.Fmt.{decimal}
 use Rattle.std.specs.List.{flat_map}
+use Rattle.std.specs.Option.{option_map_or}
 use Rattle.sd_sid.specs.Sid.{SidValue}
 use Rattle.sd_acl.specs.Descriptor.{DescriptorValue}
 use Rattle.sd_acl.specs.declared.ace.Ace.{Ace}
@@ -14,6 +15,7 @@ use Rattle.sd_analysis.specs.declared.risks.Risk.{Risk}
 use Rattle.sd_analysis.specs.declared.risks.Risk.TheVariants.{EmptyList, OwnerCannotRead, Grants, UnknownEntry}
 use Rattle.sd_analysis.specs.declared.risks.Risk.TheVariants.{UnknownOwner, UnknownGroup}
 use Rattle.sd_answer.specs.VerdictLines.{line, right_names_of}
+use Rattle.sd_answer.specs.Descendants.{descendant_head}
 use Rattle.sd_answer.specs.declared.verdict_lines.Spelling.{Spelling}
 use Rattle.sd_commands.specs.declared.settings.Settings.{Settings}
 
@@ -32,7 +34,8 @@ unknown_line spelling number e =
 abbrev pub risk_line : Spelling → Risk → List ℕ
 risk_line spelling EmptyList = line (codes "an empty DACL grants nothing")
 risk_line spelling (OwnerCannotRead s) = line (codes "the owner " ++ full_canon s ++ codes " has no way to read")
-risk_line spelling (Grants s right) = line (full_canon s ++ has_right right)
+risk_line spelling (Grants whose s right) =
+    line (option_map_or descendant_head whose [] ++ full_canon s ++ has_right right)
 risk_line spelling (UnknownEntry number e) = unknown_line spelling number e
 risk_line spelling (UnknownOwner s) = line (codes "the owner " ++ full_canon s ++ codes " is of no known kind")
 risk_line spelling (UnknownGroup s) = line (codes "the group " ++ full_canon s ++ codes " is of no known kind")

@@ -1,15 +1,17 @@
 //! The lines of risks, which `--risks` adds to those of `lint`.
-ghost use Rattle.std.specs.Prelude.{◌≡◌, ◌++◌, IfOk, string_bytes};
+ghost use Rattle.std.specs.Prelude.{◌≡◌, ◌++◌, [], IfOk, string_bytes};
 ghost use Rattle.std.specs.List.{flat_map};
+ghost use Rattle.std.specs.Option.{option_map_or};
 ghost use Rattle.sd_acl.specs.Descriptor.{descriptor_of};
 ghost use Rattle.sd_text.specs.Canon.{full_canon};
 ghost use Rattle.sd_answer.specs.VerdictLines.{line};
+ghost use Rattle.sd_answer.specs.Descendants.{descendant_head};
 ghost use Rattle.sd_commands.specs.Risks.{has_right, risk_line, risk_lines, unknown_line};
 
 use crate::settings::Settings;
 use sd_acl::{Ace, Descriptor};
-use sd_analysis::{Base, Right, Risk, risks_in};
-use sd_answer::Spelling;
+use sd_analysis::{Base, Descendant, Right, Risk, risks_in};
+use sd_answer::{Spelling, descendant_head};
 use sd_sid::Sid;
 use sd_text::{print_entry_in, print_full_sid};
 use std::alloc::{AllocError, Global};
@@ -48,7 +50,7 @@ fn risk_line(alloc: Global, spelling: Spelling, risk: &Risk) -> Result<String, A
     match risk {
         Risk::EmptyList => String::from_str(alloc, "an empty DACL grants nothing\n"),
         Risk::OwnerCannotRead(sid) => about(alloc, "the owner ", sid, " has no way to read"),
-        Risk::Grants(sid, right) => about(alloc, "", sid, has_right(*right)),
+        Risk::Grants(whose, sid, right) => about(alloc, head_of(whose), sid, has_right(*right)),
         Risk::UnknownEntry(number, entry) => unknown_line(alloc, spelling, *number, entry),
         Risk::UnknownOwner(sid) => about(alloc, "the owner ", sid, " is of no known kind"),
         Risk::UnknownGroup(sid) => about(alloc, "the group ", sid, " is of no known kind"),
@@ -62,6 +64,16 @@ fn about(alloc: Global, who: &str, sid: &Sid, what: &str) -> Result<String, Allo
     let sid = sid.as_str();
     let line = format!(in alloc; "{who}{sid}{what}\n")?;
     Ok(line)
+}
+
+/// What a line about the object, or about a descendant, begins with.
+fn head_of(whose: &Option<Descendant>) -> &'static str
+    ensures { result.now ≡ option_map_or descendant_head whose.now [] }
+{
+    match whose {
+        None => "",
+        Some(descendant) => descendant_head(*descendant),
+    }
 }
 
 fn has_right(right: Right) -> &'static str

@@ -6,7 +6,7 @@ ghost use Rattle.sd_arguments.specs.CommandLine.{request_of};
 
 use crate::found::{found_in_descriptor, found_in_mask, found_in_user, found_in_word};
 use crate::notes::notes_on;
-use crate::remedies::{CHILDREN, EACH, HEX, LABELS, RemedyRow, row_line};
+use crate::remedies::{EACH, HEX, LABELS, RemedyRow, row_line};
 use crate::spoken::answer_text;
 use sd_answer::{TokenError, read_base, read_mask_in, read_sddl_argument, read_token};
 use sd_arguments::{Options, TextRequest};
@@ -71,13 +71,6 @@ pub(crate) fn advice_on_each(
     let mut advice = misplaced_line(alloc, request)?;
     if options.has(OptionName::WithoutSacl) && is_verdict(request.question) {
         let note = told_line(alloc, "SDDL", LABELS)?;
-        advice.push_str(note.as_str())?;
-    }
-    if matches!(
-        request.question,
-        TextCommand::Descriptor(DescriptorCommand::Lint)
-    ) {
-        let note = told_line(alloc, "SDDL", CHILDREN)?;
         advice.push_str(note.as_str())?;
     }
     Ok(advice)

@@ -36,9 +36,6 @@ pub(crate) fn notes_on(
             push_mask(alloc, mask, words, &mut notes)?;
             push_children(alloc, text, &mut notes)?;
         }
-        (TextCommand::Descriptor(DescriptorCommand::Lint), _) => {
-            push_children(alloc, text, &mut notes)?;
-        }
         _ => {}
     }
     Ok(notes)

@@ -135,10 +135,11 @@ After '--risks' also:
   an empty DACL grants nothing
   the owner SID has no way to read
   SID is granted full-control, or write, delete, change-permissions
+  new objects: SID is granted .., or new containers: .., of what is made in it
   entry N (..) names a SID of no known kind
   the owner SID is of no known kind
   the group SID is of no known kind
-Without all entries that have no effect, each check has the same verdict.
+Without all entries that have no effect, each check has the same verdict, of what is made in it too.
 
 Statuses:
   0  clean

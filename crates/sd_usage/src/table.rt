@@ -248,8 +248,9 @@ but not of a script's lines",
             excludes: None,
         },
         "\
-also reports risks: what Everyone, Anonymous, Authenticated Users and Users are granted to change
-the object, an empty list, an owner without a way to read, and SIDs of no known kind",
+also reports risks: what Everyone and SIDs of nearly everybody, as Domain Users, are granted to
+change of the object and of what is made in it, an empty list, an owner without a way to read, and
+SIDs of no known kind",
     ),
     (
         "--base64",
