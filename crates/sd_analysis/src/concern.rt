@@ -14,7 +14,7 @@ use sd_check::GroupState;
 use sd_sid::Sid;
 use std::alloc::{AllocError, Global};
 
-/// The SIDs of concern: those of every list, and of a domain those that the entries name, each once ([MS-DTYP] 2.4.2.4).
+/// The SIDs of concern ([MS-DTYP] 2.4.2.4): of every list, and of any domain those that the entries name, each once.
 pub(crate) fn sids_of_concern(alloc: Global, entries: &[Ace]) -> Result<Vec<Sid>, AllocError>
     ensures { IfOk result (λ sids. sids.items ≡ sids_of_concern entries.now) }
 {
