@@ -4,7 +4,6 @@ use Rattle.std.specs.Prelude.{if◌then◌else◌, codes}
 use Rattle.std.specs.Fmt.{decimal}
 use Rattle.sd_script.specs.declared.tally.Tally.{Tally}
 use Rattle.sd_commands.specs.Diagnostic.{told_line}
-use Rattle.sd_questions.specs.Each.{no_line_note}
 use Rattle.sd_commands.specs.declared.answer.Outcome.{Outcome}
 use Rattle.sd_commands.specs.declared.answer.Outcome.TheVariants.{Done, Refused, Fault}
 
@@ -24,13 +23,22 @@ expect_note expected unmet None =
 expect_note expected unmet (Some number) = told_line (codes "expect") (decimal expected ++ (codes " expected, "
     ++ (decimal unmet ++ (codes " not met, the first in line " ++ decimal number))))
 
--- a script without a line is none
-abbrev pub no_line_note_of : Tally → List ℕ
-no_line_note_of tally = if tally.lines == 0 then no_line_note else []
+-- why nothing was carried out, and what mends that
+abbrev pub nothing_text : Tally → List ℕ
+nothing_text tally =
+    if tally.lines == 0 then codes "no line"
+    else if tally.begins_as_utf16
+    then codes "it is UTF-16, and a script is UTF-8: convert it by 'iconv -f UTF-16 -t UTF-8'"
+    else codes "no line was carried out: 'sdstore help script' has the commands"
+
+-- a script of which nothing was carried out is none
+abbrev pub nothing_note : Tally → List ℕ
+nothing_note tally =
+    if tally.carried_out == 0 then told_line (codes "standard input") (nothing_text tally) else []
 
 abbrev pub script_notes : Bool → Tally → List ℕ
 script_notes strict tally =
-    no_line_note_of tally
+    nothing_note tally
     ++ (line_note (codes "it begins with a byte order mark") (line_if tally.begins_with_mark (Some 1))
     ++ (line_note (codes "the node inherits otherwise than its descriptor says") tally.first_difference
     ++ (line_note (codes "the node's own entries are in canonical order now") tally.first_reordered
@@ -45,9 +53,9 @@ IsToldOfScript strict tally told = (told ≡ script_notes strict tally) ⊎ (tol
 abbrev pub differs : Tally → Bool
 differs tally = is_some tally.first_difference || is_some tally.first_reordered
 
--- the worst of the lines: none at all, or a fault or a refusal where that is asked for; or else an expectation that
--- wasn't met, or a difference where that is asked for
+-- the worst of the lines: none that was carried out, or a fault or a refusal where that is asked for; or else an
+-- expectation that wasn't met, or a difference where that is asked for
 unfoldable pub script_outcome : Bool → Tally → Outcome
 script_outcome strict tally =
-    if tally.lines == 0 || (strict && is_some tally.first_fault) then Fault
+    if tally.carried_out == 0 || (strict && is_some tally.first_fault) then Fault
     else (if is_some tally.first_unmet || (strict && differs tally) then Refused else Done)

@@ -1,19 +1,19 @@
 //! What comes of a script beside its output.
 ghost use Rattle.std.specs.Prelude.{◌≡◌, IfOk, string_bytes};
-ghost use Rattle.sd_command_line.specs.Scripts.{IsToldOfScript, expect_note, line_if, line_note, no_line_note_of};
-ghost use Rattle.sd_command_line.specs.Scripts.{script_notes, script_outcome};
+ghost use Rattle.sd_command_line.specs.Scripts.{IsToldOfScript, expect_note, line_if, line_note, nothing_note};
+ghost use Rattle.sd_command_line.specs.Scripts.{nothing_text, script_notes, script_outcome};
 
 use sd_commands::{Outcome, told_line};
 use sd_questions::Ended;
 use sd_script::Tally;
 use std::alloc::{AllocError, Global};
 
-/// What came of a script, the worst of its lines: a fault where there is none, or where that is asked for one had a
-/// fault or was refused; or else a refusal, where an answer that it expected wasn't given, or where that is asked for a
-/// line imported another node. Standard error is told that there is no line; of the byte order mark that it begins
-/// with; of the first line whose node inherits otherwise than it did, and the first whose node's own entries were put
-/// in order; where that is asked for, of the first fault or refusal; and how many answers were expected, and weren't
-/// given. Of nothing, if out of memory for it: the output stands by then.
+/// What came of a script, the worst of its lines: a fault where none was carried out, or where that is asked for one
+/// had a fault or was refused; or else a refusal, where an answer that it expected wasn't given, or where that is asked
+/// for a line imported another node. Standard error is told that no line was carried out, and what mends that; of the
+/// byte order mark that it begins with; of the first line whose node inherits otherwise than it did, and the first
+/// whose node's own entries were put in order; where that is asked for, of the first fault or refusal; and how many
+/// answers were expected, and weren't given. Of nothing, if out of memory for it: the output stands by then.
 #[tactic(auto, unfolding(crate::specs::Scripts::script_outcome))]
 pub(crate) fn end_of_script(alloc: Global, strict: bool, tally: &Tally) -> Ended
     ensures told { IsToldOfScript strict tally.now (string_bytes result.told) }
@@ -21,7 +21,7 @@ pub(crate) fn end_of_script(alloc: Global, strict: bool, tally: &Tally) -> Ended
 {
     let told = script_notes(alloc, strict, tally).unwrap_or(String::new(alloc));
     let differs = tally.first_difference.is_some() || tally.first_reordered.is_some();
-    let outcome = if tally.lines == 0 || (strict && tally.first_fault.is_some()) {
+    let outcome = if tally.carried_out == 0 || (strict && tally.first_fault.is_some()) {
         Outcome::Fault
     } else if tally.first_unmet.is_some() || (strict && differs) {
         Outcome::Refused
@@ -34,7 +34,7 @@ pub(crate) fn end_of_script(alloc: Global, strict: bool, tally: &Tally) -> Ended
 fn script_notes(alloc: Global, strict: bool, tally: &Tally) -> Result<String, AllocError>
     ensures { IfOk result (λ text. string_bytes text ≡ script_notes strict tally.now) }
 {
-    let none = no_line_note_of(alloc, tally)?;
+    let nothing = nothing_note(alloc, tally)?;
     let mark = line_if(tally.begins_with_mark, Some(1));
     let mark = line_note(alloc, "it begins with a byte order mark", mark)?;
     let what = "the node inherits otherwise than its descriptor says";
@@ -44,17 +44,30 @@ fn script_notes(alloc: Global, strict: bool, tally: &Tally) -> Result<String, Al
     let fault = line_if(strict, tally.first_fault);
     let fault = line_note(alloc, "a fault or a refusal", fault)?;
     let expectations = expect_note(alloc, tally.expected, tally.unmet, tally.first_unmet)?;
-    format!(in alloc; "{none}{mark}{difference}{order}{fault}{expectations}")
+    format!(in alloc; "{nothing}{mark}{difference}{order}{fault}{expectations}")
 }
 
-/// That there is no line, where there is none.
-fn no_line_note_of(alloc: Global, tally: &Tally) -> Result<String, AllocError>
-    ensures { IfOk result (λ text. string_bytes text ≡ no_line_note_of tally.now) }
+/// That nothing was carried out, where nothing was.
+fn nothing_note(alloc: Global, tally: &Tally) -> Result<String, AllocError>
+    ensures { IfOk result (λ text. string_bytes text ≡ nothing_note tally.now) }
 {
-    if tally.lines == 0 {
-        told_line(alloc, "standard input", "no line")
+    if tally.carried_out == 0 {
+        told_line(alloc, "standard input", nothing_text(tally))
     } else {
         Ok(String::new(alloc))
+    }
+}
+
+/// Why nothing was carried out, and what mends that.
+fn nothing_text(tally: &Tally) -> &'static str
+    ensures { result.now ≡ nothing_text tally.now }
+{
+    if tally.lines == 0 {
+        "no line"
+    } else if tally.begins_as_utf16 {
+        "it is UTF-16, and a script is UTF-8: convert it by 'iconv -f UTF-16 -t UTF-8'"
+    } else {
+        "no line was carried out: 'sdstore help script' has the commands"
     }
 }
 

@@ -36,9 +36,9 @@ Options go before the command, and before 'each' those of its command except '--
 Statuses:
   0  the text was printed, the rights were granted, or the script was carried out to its end
   1  an argument is invalid: its fault was printed, and standard error names the argument; or a
-     verdict other than granted, a finding of 'lint', a line that 'each' answered with status 1, an
-     answer that a script expects and isn't given, or with '--strict' a line that has a fault or was
-     refused, or an import that isn't answered 'ok'
+     verdict other than granted, a finding of 'lint', a line that 'each' answered with status 1; no
+     line of a script was carried out, an answer that it expects wasn't given, or with '--strict' a
+     line has a fault or was refused, or an import isn't answered 'ok'
   2  the arguments aren't a valid command line
   3  out of memory, an input error, an input or line that is too long, an output error, or no
      answers from the workers of an audit
@@ -222,10 +222,11 @@ Generic rights are mapped by '--mapping KIND' before 'script', and without it as
 '--nodes N' and '--edits N' before 'script' limit the tree and its journal.
 
 Statuses:
-  0  the script was carried out to its end, even with faults and refusals
-  1  an expected answer wasn't given; with '--strict', a line had a fault or was refused, or an import
-     wasn't answered 'ok': standard error reports the first line of each kind; or the value of an
-     option is invalid: its fault was printed, and no input was read
+  0  the script was carried out to its end, even if some lines had a fault or were refused
+  1  each line had a fault or was refused, or there was none; an expected answer wasn't given; with
+     '--strict', a line had a fault or was refused, or an import wasn't answered 'ok': standard error
+     reports the first line of each kind; or the value of an option is invalid: its fault was printed,
+     and no input was read
   2  the arguments aren't a valid command line
   3  out of memory, an input error, more than 16777216 bytes of input, or an output error";
 
@@ -241,10 +242,11 @@ An id has printable ASCII characters, and doesn't begin with '#'. A line without
 and its answer has none. An id alone isn't answered.
 
 Statuses:
-  0  the script was carried out to its end, even with faults and refusals
-  1  an expected answer wasn't given; with '--strict', a line had a fault or was refused, or an import
-     wasn't answered 'ok': standard error reports the first line of each kind; or the value of an
-     option is invalid: its fault was printed, and no input was read
+  0  the script was carried out to its end, even if some lines had a fault or were refused
+  1  each line had a fault or was refused, or there was none; an expected answer wasn't given; with
+     '--strict', a line had a fault or was refused, or an import wasn't answered 'ok': standard error
+     reports the first line of each kind; or the value of an option is invalid: its fault was printed,
+     and no input was read
   2  the arguments aren't a valid command line
   3  out of memory, an input error, a line of more than 16777216 bytes, or an output error. The
      complete lines before are answered; after an output error a prefix of the answers was written";
@@ -259,10 +261,11 @@ At the end all accepted edits are published, and then the checks are answered, i
 Options go before 'audit', as before 'script'.
 
 Statuses:
-  0  the audit was carried out to its end, even with faults and refusals
-  1  an expected answer wasn't given; with '--strict', a line had a fault or was refused, or an import
-     wasn't answered 'ok': standard error reports the first line of each kind; or the value of an
-     option is invalid: its fault was printed, and no input was read
+  0  the audit was carried out to its end, even if some lines had a fault or were refused
+  1  each line had a fault or was refused, or there was none; an expected answer wasn't given; with
+     '--strict', a line had a fault or was refused, or an import wasn't answered 'ok': standard error
+     reports the first line of each kind; or the value of an option is invalid: its fault was printed,
+     and no input was read
   2  the arguments aren't a valid command line
   3  out of memory, an input error, more than 16777216 bytes of input, an output error, or no
      answers from the workers";
