@@ -4,7 +4,7 @@ use Rattle.std.specs.Prelude.{Option, Some, None, if◌then◌else◌, codes, by
 use Rattle.std.specs.List.{starts_with}
 use Rattle.std.specs.Option.{option_or}
 use Rattle.sd_answer.specs.Answer.{line}
-use Rattle.sd_script.specs.Expect.{expects}
+use Rattle.sd_script.specs.Expect.{is_expectation}
 use Rattle.sd_script.specs.Lines.{is_silent}
 use Rattle.sd_script.specs.declared.tally.Tally.{Tally}
 
@@ -59,7 +59,7 @@ is_carried_out text answer = not (is_silent text) && not (tells_fault answer)
 
 -- the line expects an answer, and isn't answered by it
 abbrev pub is_unmet : List ℕ → List ℕ → Bool
-is_unmet text answer = expects text && tells_fault answer
+is_unmet text answer = is_expectation text && tells_fault answer
 
 -- one more, as far as 64 bits count
 abbrev pub one_more : ℕ → ℕ
@@ -88,7 +88,7 @@ tallied text answer t = record {
   first_fault = first_of t.first_fault (tells_fault answer) (next_number t);
   first_difference = first_of t.first_difference (tells_difference answer) (next_number t);
   first_reordered = first_of t.first_reordered (tells_order answer) (next_number t);
-  expected = one_more_where (expects text) t.expected;
+  expected = one_more_where (is_expectation text) t.expected;
   unmet = one_more_where (is_unmet text answer) t.unmet;
   first_unmet = first_of t.first_unmet (is_unmet text answer) (next_number t);
   begins_with_mark = begins t t.begins_with_mark (has_mark text);

@@ -6,7 +6,7 @@ ghost use Rattle.sd_script.specs.declared.session.Session.TheVariants.{Opened};
 
 use crate::asked::Asked;
 use crate::carried::Carried;
-use crate::expect::{LastAnswer, expects};
+use crate::expect::{LastAnswer, expect_line, expects};
 use crate::fault::{LineStop, line_of_fault};
 use crate::ids::{LINES, Script};
 use crate::importing::import_line;
@@ -43,9 +43,9 @@ pub(crate) fn script_output(
 }
 
 /// What a line, without its end, is answered by: a line, or several, an empty one the last, or nothing where it is
-/// empty or begins with `#`. A line that expects an answer is answered by `ok`, or by `fault expect` if the first line
-/// of the last answer is another. The line is counted. The only error is out of memory: then nothing has changed, or
-/// what the line asks for is done, without an answer.
+/// empty or begins with `#`. A line that expects an answer is answered by `ok`, or by `fault expect` if the last answer
+/// is another. The line is counted. The only error is out of memory: then nothing has changed, or what the line asks
+/// for is done, without an answer.
 pub fn answer_line(alloc: Global, carried: &mut Carried, line: &[u8]) -> Result<String, AllocError>
     ensures answered { IfOk result (λ text. IsNext carried.old line.now (string_bytes text) carried.new) }
     ensures failed { OnErr result (IsUnanswered carried.old line.now carried.new) }
@@ -68,7 +68,8 @@ fn answer_after(
     ensures failed { OnErr result ((last.new ≡ last.old) × IsUntold session.old line.now session.new) }
 {
     if expects(line) {
-        return String::from_str(alloc, last.expect_line(line));
+        let is_met = last.meets(alloc, line)?;
+        return String::from_str(alloc, expect_line(is_met));
     }
     if is_silent(line) {
         return Ok(String::new(alloc));

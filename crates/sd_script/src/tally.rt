@@ -4,7 +4,7 @@ ghost use Rattle.sd_script.specs.Tally.{alternates_with_zero, begins, has_mark, 
 ghost use Rattle.sd_script.specs.Tally.{is_unmet, is_utf16, no_lines, one_more_where, tallied, tells_fault};
 ghost use Rattle.sd_script.specs.Tally.{tells_order};
 
-use crate::expect::expects;
+use crate::expect::is_expectation;
 use crate::lines::is_silent;
 
 /// What is counted of a script beside its output. Lines are counted from 1, as far as 64 bits count.
@@ -67,7 +67,7 @@ impl Tally {
             first_reordered: self
                 .first_reordered
                 .or(tells_order(answer).then_some(number)),
-            expected: one_more_where(expects(line), self.expected),
+            expected: one_more_where(is_expectation(line), self.expected),
             unmet: one_more_where(is_unmet, self.unmet),
             first_unmet: self.first_unmet.or(is_unmet.then_some(number)),
             begins_with_mark: self.begins(self.begins_with_mark, has_mark(line)),
@@ -112,7 +112,7 @@ fn is_carried_out(line: &[u8], answer: &[u8]) -> bool
 fn is_unmet(line: &[u8], answer: &[u8]) -> bool
     ensures { result ≡ is_unmet line.now answer.now }
 {
-    expects(line) && tells_fault(answer)
+    is_expectation(line) && tells_fault(answer)
 }
 
 /// Whether the answer says that an imported node's own entries were put in another order.

@@ -215,7 +215,7 @@ none. 'why', 'find', 'list', 'dump', 'who' and 'review' have several, the last o
   who PATH MASK [WORD]...              prints whom the published node grants which rights
   review [PATH]                        prints which users gain or lose rights by the pending edits
   dump                                 prints the published tree as a script that makes it
-  expect ANSWER                        compares the first line of the last answer with ANSWER
+  expect ANSWER                        compares the last answer with ANSWER, its lines joined by '\\n'
 
 Generic rights are mapped by '--mapping KIND' before 'script', and without it as those of a file:
 'sdstore help verdict' lists the kinds. With '--percent' before 'script' paths are percent-encoded.
