@@ -1,7 +1,7 @@
 //! What a line asks for, and how a command's arguments are parsed.
 ghost use Rattle.std.specs.Prelude.{◌≡◌, ◌∷◌, [], Some, Ok};
-ghost use Rattle.sd_script.specs.Command.{Parses, adds, asks, asks_groups, asks_taking, deletes, kind_named, posed};
-ghost use Rattle.sd_script.specs.Command.{poses};
+ghost use Rattle.sd_script.specs.Command.{Parses, adds, asks, asks_groups, asks_of, asks_taking, deletes};
+ghost use Rattle.sd_script.specs.Command.{kind_named, posed, poses};
 ghost use Rattle.sd_script.specs.declared.asked.Asked.TheVariants.{Asking, Viewing};
 ghost use Rattle.sd_edit.specs.declared.request.Request.TheVariants as requests;
 ghost use Rattle.sd_answer.specs.Word.{texts};
@@ -9,7 +9,7 @@ ghost use Rattle.sd_answer.specs.Word.{texts};
 use crate::argument::{Parser, number_in};
 use crate::command::{Command, ScriptCommand};
 use crate::fault::LineStop;
-use crate::view::View;
+use crate::view::{Groups, View};
 use sd_check::Token;
 use sd_sid::Mask;
 use sd_tree::{Edit, Entries, NodeKind, Path, RootSpec};
@@ -65,6 +65,13 @@ enum TokenQuestion {
     Find,
 }
 
+/// What is asked of a path for groups.
+#[derive(Clone, Copy)]
+enum GroupsQuestion {
+    Who,
+    Only,
+}
+
 /// What a command's arguments ask for, or the first from the left that is rejected; none where the command doesn't take
 /// as many.
 pub(crate) type Parsed = Result<Option<Asked>, LineStop>;
@@ -76,6 +83,7 @@ impl Parser {
     {
         match command.name {
             ScriptCommand::Who => self.who(command.arguments),
+            ScriptCommand::ExpectOnly => self.only(command.arguments),
             ScriptCommand::Delete => self.deletion(command.arguments),
             _ => self.taking(command.name, command.arguments),
         }
@@ -85,7 +93,16 @@ impl Parser {
         ensures { Parses self.notation (asks ScriptCommand.Who (texts arguments.now)) result }
     {
         match arguments {
-            [path, mask, words @ ..] => self.granted(path, mask, words),
+            [path, mask, words @ ..] => self.granted(GroupsQuestion::Who, path, mask, words),
+            _ => Ok(None),
+        }
+    }
+
+    fn only(self, arguments: &[&str]) -> Parsed
+        ensures { Parses self.notation (asks ScriptCommand.ExpectOnly (texts arguments.now)) result }
+    {
+        match arguments {
+            [path, mask, words @ ..] => self.granted(GroupsQuestion::Only, path, mask, words),
             _ => Ok(None),
         }
     }
@@ -99,19 +116,15 @@ impl Parser {
         }
     }
 
-    /// Who is granted a mask on a path, of groups.
+    /// Who is granted a mask on a path, of groups, or whether only these are.
     #[tactic(auto, unfolding(crate::specs::Command::asks_groups))]
-    fn granted(self, path: &str, mask: &str, words: &[&str]) -> Parsed
-        ensures { Parses self.notation (Some (asks_groups path.now mask.now (texts words.now))) result }
+    fn granted(self, question: GroupsQuestion, path: &str, mask: &str, words: &[&str]) -> Parsed
+        ensures { Parses self.notation (Some (asks_groups question path.now mask.now (texts words.now))) result }
     {
         let path = self.path(path)?;
         let asked = self.mask(mask)?;
         let groups = self.base(words)?;
-        view(View::Who {
-            path,
-            groups,
-            asked,
-        })
+        view(question.about(path, groups, asked))
     }
 
     /// Whether a user may delete a node.
@@ -329,6 +342,25 @@ impl TokenQuestion {
                 reader,
                 path,
                 token,
+                asked,
+            },
+        }
+    }
+}
+
+impl GroupsQuestion {
+    fn about(self, path: Path, groups: Groups, asked: Mask) -> View
+        ensures { result ≡ asks_of self path groups asked }
+    {
+        match self {
+            GroupsQuestion::Who => View::Who {
+                path,
+                groups,
+                asked,
+            },
+            GroupsQuestion::Only => View::Only {
+                path,
+                groups,
                 asked,
             },
         }

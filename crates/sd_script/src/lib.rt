@@ -52,7 +52,7 @@ pub use fault::{LineFault, LineStop, line_of_fault};
 pub use ids::{LINES, tagged};
 pub use importing::import_line;
 pub use laws::{
-    deletes_as_checked, lines_have_one_answer, no_command_without_an_id,
+    deletes_as_checked, lines_have_one_answer, no_command_without_an_id, only_these_are_granted,
     silent_review_changes_nothing, texts_have_one_output, why_begins_as_check,
 };
 pub use line::read_line;

@@ -216,6 +216,8 @@ none. 'why', 'find', 'list', 'dump', 'who' and 'review' have several, the last o
   review [PATH]                        prints which users gain or lose rights by the pending edits
   dump                                 prints the published tree as a script that makes it
   expect ANSWER                        compares the last answer with ANSWER, its lines joined by '\\n'
+  expect-only PATH MASK [SID]...       compares whom the published node itself grants rights of the
+                                       mask with the SIDs: 'ok' if it is nobody else
 
 Generic rights are mapped by '--mapping KIND' before 'script', and without it as those of a file:
 'sdstore help verdict' lists the kinds. With '--percent' before 'script' paths are percent-encoded.
@@ -255,7 +257,7 @@ const AUDIT_NOTES: &str = "\
 Has the output of 'sdstore script', except for these lines:
   open N SDDL                          opens the store with a reader for each worker
   check I PATH USER MASK [WORD]...     is answered at the end, for any number I
-  tell, learn, why, find, delete, show, list, dump, who, review, expect
+  tell, learn, why, find, delete, show, list, dump, who, review, expect, expect-only
                                        are faults
 At the end all accepted edits are published, and then the checks are answered, in order.
 Options go before 'audit', as before 'script'.
