@@ -102,7 +102,7 @@ opened-one manner readers root p q x y (inr one) (inr other) =
 
 -- ---- imports
 
-pub imported-one : (spelling : Spelling) (m : Machine) (path : Names) (given : List Ace) (p q : List ℕ)
+pub imported-one : (spelling : Spelling) (m : Machine) (path : Names) (given : Option (List Ace)) (p q : List ℕ)
     → IsImported spelling m path given replies.Edited p → IsImported spelling m path given replies.Edited q → p ≡ q
 imported-one spelling m path given p q one other =
     let inherits = one_answer one.0 other.0 one.2 other.2 in
@@ -118,7 +118,7 @@ module _ (spelling : Spelling) (m : Machine) (x y : Machine) (p q : List ℕ) wh
       (ap (λ (z : List ℕ × Machine). z.0) same, ap (λ (z : List ℕ × Machine). z.1) same)
 
   -- and so has an import
-  pub step-one : (e : Edit) (path : Names) (given : List Ace) (r s : Reply) → Steps m (requests.Edit e) r x → Steps m (requests.Edit e) s y
+  pub step-one : (e : Edit) (path : Names) (given : Option (List Ace)) (r s : Reply) → Steps m (requests.Edit e) r x → Steps m (requests.Edit e) s y
       → IsImported spelling x path given r p → IsImported spelling y path given s q → (p ≡ q) × (x ≡ y)
   step-one e path given replies.Edited replies.Edited one other first second =
       let same = one.1 ∙ sym other.1 in

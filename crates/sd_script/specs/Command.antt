@@ -57,7 +57,7 @@ Value (Sid word) = SidValue
 Value (Mask word) = ℕ
 Value (Node word) = RootSpec
 Value (Dacl word) = NodeDacl
-Value (Imported word) = RootSpec × List Ace
+Value (Imported word) = RootSpec × Option (List Ace)
 Value (Token user words) = TokenValue
 Value (Groups words) = List (SidValue × GroupState)
 

@@ -49,11 +49,11 @@ pub enum Asked {
     },
     /// A view of the published tree.
     Viewing(View),
-    /// A node, and how its entries compare with those that it had elsewhere.
+    /// A node, and how its entries compare with those that it had elsewhere, where it had a DACL.
     Importing {
         edit: Edit,
         path: Path,
-        given: Entries,
+        given: Option<Entries>,
     },
 }
 

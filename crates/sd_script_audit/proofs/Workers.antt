@@ -52,7 +52,7 @@ publish_unread m new (replies.Published len) is = (is.0, ap unread is.1)
 publish_unread m new replies.Memory is = ap unread is
 publish_unread m new reply is = absurd is
 
-import_unread : (spelling : Spelling) (m : Machine) (path : Names) (given : List Ace) (reply : Reply) (p : List ℕ)
+import_unread : (spelling : Spelling) (m : Machine) (path : Names) (given : Option (List Ace)) (reply : Reply) (p : List ℕ)
     → IsImported spelling m path given reply p → IsImported spelling (unread m) path given reply p
 import_unread spelling m path given replies.Edited p is = is
 import_unread spelling m path given reply p is = is

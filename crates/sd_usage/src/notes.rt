@@ -200,9 +200,12 @@ none. 'why', 'find', 'list', 'dump', 'who' and 'review' have several, the last o
   dacl PATH SDDL                       sets the node's own DACL
   remove PATH                          removes a node without children
   protect PATH                         protects the node: its inherited entries become its own
-  move PATH PATH                       moves the node, and all below it, to the second path
-  import KIND PATH SDDL                adds a 'container' or 'object' (KIND) with its descriptor
-                                       from elsewhere, without inherited entries, in canonical order
+  move PATH PATH                       moves the node, and all below it, to the second path, where they
+                                       inherit again: Windows keeps their entries within a volume
+  import KIND PATH SDDL                adds a 'container' or 'object' (KIND) with its descriptor from
+                                       elsewhere, in canonical order; in place of the entries that it
+                                       inherited there are those that it inherits here: 'ok differs'
+                                       says that they are others
   publish                              publishes all pending edits
   tell                                 prints the length of the published journal
   learn I L                            informs reader I of a journal of length L
