@@ -22,7 +22,7 @@ use Rattle.sd_script.specs.Lines.{words_of}
 use Rattle.sd_answer.specs.Word.{texts}
 use Rattle.sd_script.specs.declared.asked.Asked.{Asked}
 use Rattle.sd_script.specs.declared.asked.Asked.TheVariants.{Opening, Asking, Explaining, Finding, Deleting, Viewing}
-use Rattle.sd_script.specs.declared.asked.Asked.TheVariants.{Importing}
+use Rattle.sd_script.specs.declared.asked.Asked.TheVariants.{Importing, Moving}
 use Rattle.sd_script.specs.declared.asked.GroupsQuestion.{GroupsQuestion}
 use Rattle.sd_script.specs.declared.asked.GroupsQuestion.TheVariants as granted
 use Rattle.sd_script.specs.declared.asked.TokenQuestion.{TokenQuestion}
@@ -130,6 +130,10 @@ abbrev pub imports : List ℕ → List ℕ → NodeKind → Arguments
 imports at sddl kind =
     Path at ▸ λ p. Imported sddl ▸ λ i. Asks (Importing (addition_of kind p (row_of kind i.0)) p i.1)
 
+-- a node is moved
+abbrev pub moves : List ℕ → List ℕ → Arguments
+moves source target = Path source ▸ λ from. Path target ▸ λ to. Asks (Moving (edits.Move from to) from to)
+
 -- a question of a path, for groups
 abbrev pub asks_of : GroupsQuestion → Names → List (SidValue × GroupState) → ℕ → View
 asks_of granted.Who p groups asked = views.Who p groups asked
@@ -155,7 +159,7 @@ asks_taking SetGroup (at ∷ group ∷ []) = Some (Path at ▸ λ p. Sid group �
 asks_taking SetDacl (at ∷ sddl ∷ []) = Some (Path at ▸ λ p. Dacl sddl ▸ λ d. edit (edits.SetDacl p d))
 asks_taking Remove (at ∷ []) = Some (Path at ▸ λ p. edit (edits.Remove p))
 asks_taking Protect (at ∷ []) = Some (Path at ▸ λ p. edit (edits.ProtectKeeping p))
-asks_taking Move (source ∷ target ∷ []) = Some (Path source ▸ λ from. Path target ▸ λ to. edit (edits.Move from to))
+asks_taking Move (source ∷ target ∷ []) = Some (moves source target)
 asks_taking Publish [] = Some (request requests.Publish)
 asks_taking Tell [] = Some (request requests.Tell)
 asks_taking Learn (reader ∷ len ∷ []) = Some (Number reader ▸ λ i. Number len ▸ λ n. request (requests.Learn i n))

@@ -55,6 +55,12 @@ pub enum Asked {
         path: Path,
         given: Option<Entries>,
     },
+    /// A node that is moved, and how its entries compare with those that it had before.
+    Moving {
+        edit: Edit,
+        source: Path,
+        target: Path,
+    },
 }
 
 /// What is asked of a reader and a path for a token.
@@ -216,10 +222,7 @@ impl Parser {
                 path: self.path(first)?,
                 dacl: self.dacl(second)?,
             }),
-            ScriptCommand::Move => edit(Edit::Move {
-                source: self.path(first)?,
-                target: self.path(second)?,
-            }),
+            ScriptCommand::Move => self.moving(first, second),
             ScriptCommand::Learn => Ok(Some(Asked::Asking(Request::Learn {
                 reader: number_in(first)?,
                 length: number_in(second)?,

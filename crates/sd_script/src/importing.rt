@@ -177,8 +177,8 @@ fn imported_line(inherits_alike: bool, is_ordered_alike: bool) -> &'static str
     }
 }
 
-/// The entries of the node of a path.
-fn entries_at(alloc: Global, tree: &Tree, path: &Path) -> Result<Vec<Ace>, AllocError>
+/// The entries of the node of a path, and none where none stands there.
+pub fn entries_at(alloc: Global, tree: &Tree, path: &Path) -> Result<Vec<Ace>, AllocError>
     ensures { IfOk result (λ entries. entries.items ≡ entries_by (descriptor_at tree.now.opening.mapping
         (replay tree.now.opening tree.now.journal) path.now)) }
 {

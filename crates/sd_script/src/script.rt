@@ -14,6 +14,7 @@ use crate::line::read_line;
 use crate::lines::{is_silent, wants_lines};
 use crate::listing::Which;
 use crate::manner::{Manner, Notation};
+use crate::moving::moved;
 use crate::question::NodeQuestion;
 use crate::reply::{counted_line, reply_line, start_error_line};
 use crate::session::Session;
@@ -121,8 +122,8 @@ fn open_store(alloc: Global, session: &mut Session, asked: Asked) -> Result<Stri
     }
 }
 
-/// Does what is asked of the store that is open. An import's answer compares the node's entries with those that it had
-/// elsewhere.
+/// Does what is asked of the store that is open. The answers to an import and to a move compare the node's entries with
+/// those that it had elsewhere.
 fn done(
     alloc: Global,
     notation: Notation,
@@ -173,5 +174,10 @@ fn done(
                 &reply,
             )
         }
+        Asked::Moving {
+            edit,
+            source,
+            target,
+        } => moved(alloc, notation, desk, edit, &source, &target),
     }
 }

@@ -201,7 +201,8 @@ none. 'why', 'find', 'list', 'dump', 'who' and 'review' have several, the last o
   remove PATH                          removes a node without children
   protect PATH                         protects the node: its inherited entries become its own
   move PATH PATH                       moves the node, and all below it, to the second path, where they
-                                       inherit again: Windows keeps their entries within a volume
+                                       inherit again: Windows keeps their entries within a volume;
+                                       'ok reinherited' says that the node's entries are others then
   import KIND PATH SDDL                adds a 'container' or 'object' (KIND) with its descriptor from
                                        elsewhere, in canonical order; in place of the entries that it
                                        inherited there are those that it inherits here: 'ok differs'
