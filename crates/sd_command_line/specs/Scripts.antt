@@ -4,7 +4,6 @@ use Rattle.std.specs.Prelude.{if◌then◌else◌, codes}
 use Rattle.std.specs.Fmt.{decimal}
 use Rattle.sd_script.specs.declared.script_counts.ScriptCounts.{ScriptCounts}
 use Rattle.sd_commands.specs.Diagnostic.{told_line}
-use Rattle.sd_questions.specs.Each.{no_line_note}
 use Rattle.sd_commands.specs.declared.command_answer.Outcome.{Outcome}
 use Rattle.sd_commands.specs.declared.command_answer.Outcome.TheVariants.{Done, Refused, Fault}
 
@@ -24,13 +23,22 @@ expect_note expected unmet None =
 expect_note expected unmet (Some number) = told_line (codes "expect") (decimal expected ++ (codes " expected, "
     ++ (decimal unmet ++ (codes " not met, the first in line " ++ decimal number))))
 
--- a script without a line is none
-abbrev pub no_line_note_of : ScriptCounts → List ℕ
-no_line_note_of counts = if counts.lines == 0 then no_line_note else []
+-- why nothing was carried out, and what mends that
+abbrev pub nothing_text : ScriptCounts → List ℕ
+nothing_text counts =
+    if counts.lines == 0 then codes "no line"
+    else if counts.begins_as_utf16
+    then codes "it is UTF-16, and a script is UTF-8: convert it by 'iconv -f UTF-16 -t UTF-8'"
+    else codes "no line was carried out: 'sdstore help script' has the commands"
+
+-- a script of which nothing was carried out is none
+abbrev pub nothing_note : ScriptCounts → List ℕ
+nothing_note counts =
+    if counts.carried_out == 0 then told_line (codes "standard input") (nothing_text counts) else []
 
 abbrev pub script_notes : Bool → ScriptCounts → List ℕ
 script_notes strict counts =
-    no_line_note_of counts
+    nothing_note counts
     ++ (line_note (codes "it begins with a byte order mark") (line_if counts.begins_with_mark (Some 1))
     ++ (line_note (codes "the node inherits otherwise than its descriptor says") counts.first_difference
     ++ (line_note (codes "the node's own entries are in canonical order now") counts.first_reordered
@@ -45,9 +53,9 @@ IsToldOfScript strict counts told = (told ≡ script_notes strict counts) ⊎ (t
 abbrev pub differs : ScriptCounts → Bool
 differs counts = is_some counts.first_difference || is_some counts.first_reordered
 
--- the worst of the lines: none at all, or a fault or a refusal where that is asked for; or else an expectation that
--- wasn't met, or a difference where that is asked for
+-- the worst of the lines: none that was carried out, or a fault or a refusal where that is asked for; or else an
+-- expectation that wasn't met, or a difference where that is asked for
 unfoldable pub script_outcome : Bool → ScriptCounts → Outcome
 script_outcome strict counts =
-    if counts.lines == 0 || (strict && is_some counts.first_fault) then Fault
+    if counts.carried_out == 0 || (strict && is_some counts.first_fault) then Fault
     else (if is_some counts.first_unmet || (strict && differs counts) then Refused else Done)

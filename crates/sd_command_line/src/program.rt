@@ -24,14 +24,16 @@ use std::thread::Threads;
 /// streams, and answers the status with which it ends. Only `script`, `serve`, `audit`, `each` and a command after
 /// `--stdin` use `reader`, and only `audit` starts threads and waits for them.
 ///
-/// - 0: the text was printed, or the right granted, or the script carried out to its end. Help and
-///   the version are such texts.
-/// - 1: a verdict other than granted was printed, a difference or a finding; without `--strict-status` also a fault.
+/// - 0: the text was printed, or the right granted, or the script carried out to its end, some line of it at least.
+///   Help and the version are such texts.
+/// - 1: a verdict other than granted was printed, a difference or a finding; without `--strict-status` also a fault,
+///   or no line of a script was carried out.
 /// - 2: the words aren't a command line, and `errors` has a message about one of them.
 /// - 3: memory was wanting, a stream failed, the script was too long, or an audit's workers got no
 ///   answers: `errors` has `sdstore: memory`, `sdstore: read`, `sdstore: write`,
 ///   `sdstore: too long` or `sdstore: thread`.
-/// - 4: with `--strict-status`, a fault was printed: an argument or an input can't be parsed.
+/// - 4: with `--strict-status`, a fault was printed: an argument or an input can't be parsed; or no line of a script
+///   was carried out.
 pub fn drive<T: Threads + Wait + Sync, R: Read, W: Write, E: Write>(
     rt: &T,
     alloc: Global,

@@ -4,6 +4,7 @@ pub mod Dumping
 pub mod NoId
 pub mod OneOutput
 pub mod OneReading
+pub mod OnlyThese
 pub mod Readings
 pub mod Reviewed
 pub mod Silence

@@ -27,13 +27,14 @@ use Rattle.sd_script.specs.Expect.{expect_line, expects, is_met, last_after}
 use Rattle.sd_script.specs.Fault.{line_of_fault}
 use Rattle.sd_script.specs.Laws.{AsksNoAnalysis, HasOneAnswer, HasOneOutput, is_analysis}
 use Rattle.sd_script.specs.Lines.{is_silent}
-use Rattle.sd_script.specs.Importing.{IsImported, imported_line}
+use Rattle.sd_script.specs.Importing.{IsImported, entries_at, imported_line}
+use Rattle.sd_script.specs.Moving.{IsMoved, moved_line}
 use Rattle.sd_lines.specs.Answers.{AreAnswered}
 use Rattle.sd_script.specs.Output.{is_open, script_options_of, IsOpened, IsAnswered, IsDone, IsTold, IsNext, before_first_line, closing_of}
 use Rattle.sd_script.specs.Question.{for_reader}
 use Rattle.sd_script.specs.Reply.{check_line, counted_line, refused_line, reply_line, seen_line, shown_line, start_error_line}
 use Rattle.sd_script.specs.declared.line_request.LineRequest.{LineRequest}
-use Rattle.sd_script.specs.declared.line_request.LineRequest.TheVariants.{Opening, Asking, Viewing, Importing}
+use Rattle.sd_script.specs.declared.line_request.LineRequest.TheVariants.{Opening, Asking, Viewing, Importing, Moving}
 use Rattle.sd_script.specs.declared.script_state.ScriptState.{ScriptState}
 use Rattle.sd_script.specs.declared.script_options.ScriptOptions.{ScriptOptions}
 use Rattle.sd_script.specs.declared.script_options.Notation.{Notation}
@@ -102,12 +103,18 @@ opened-one options readers root p q x y (inr one) (inr other) =
 
 -- ---- imports
 
-pub imported-one : (spelling : Spelling) (m : Machine) (path : Names) (given : List Ace) (p q : List ℕ)
+pub imported-one : (spelling : Spelling) (m : Machine) (path : Names) (given : Option (List Ace)) (p q : List ℕ)
     → IsImported spelling m path given replies.Edited p → IsImported spelling m path given replies.Edited q → p ≡ q
 imported-one spelling m path given p q one other =
     let inherits = one_answer one.0 other.0 one.2 other.2 in
     let ordered = one_answer one.1 other.1 one.3 other.3 in
     one.4 ∙ ap (λ b. imported_line b one.1) inherits ∙ ap (imported_line other.0) ordered ∙ sym other.4
+
+-- ---- moves
+
+moved-one : (spelling : Spelling) (before : List Ace) (m : Machine) (target : Names) (p q : List ℕ)
+    → IsMoved spelling before m target replies.Edited p → IsMoved spelling before m target replies.Edited q → p ≡ q
+moved-one spelling before m target p q one other = one.2 ∙ ap moved_line (one_answer one.0 other.0 one.1 other.1) ∙ sym other.2
 
 module _ (spelling : Spelling) (m : Machine) (x y : Machine) (p q : List ℕ) where
   -- a request has one line, and leaves one machine
@@ -118,7 +125,7 @@ module _ (spelling : Spelling) (m : Machine) (x y : Machine) (p q : List ℕ) wh
       (ap (λ (z : List ℕ × Machine). z.0) same, ap (λ (z : List ℕ × Machine). z.1) same)
 
   -- and so has an import
-  pub step-one : (e : Edit) (path : Names) (given : List Ace) (r s : Reply) → Steps m (requests.Edit e) r x → Steps m (requests.Edit e) s y
+  pub step-one : (e : Edit) (path : Names) (given : Option (List Ace)) (r s : Reply) → Steps m (requests.Edit e) r x → Steps m (requests.Edit e) s y
       → IsImported spelling x path given r p → IsImported spelling y path given s q → (p ≡ q) × (x ≡ y)
   step-one e path given replies.Edited replies.Edited one other first second =
       let same = one.1 ∙ sym other.1 in
@@ -126,6 +133,16 @@ module _ (spelling : Spelling) (m : Machine) (x y : Machine) (p q : List ℕ) wh
   step-one e path given replies.Edited s one other first second = absurd (grind arith)
   step-one e path given r replies.Edited one other first second = absurd (grind arith)
   step-one e path given r s one other first second = requested-one (requests.Edit e) r s one other first second
+
+  -- and a move
+  pub move-one : (e : Edit) (before : List Ace) (target : Names) (r s : Reply) → Steps m (requests.Edit e) r x → Steps m (requests.Edit e) s y
+      → IsMoved spelling before x target r p → IsMoved spelling before y target s q → (p ≡ q) × (x ≡ y)
+  move-one e before target replies.Edited replies.Edited one other first second =
+      let same = one.1 ∙ sym other.1 in
+      (moved-one spelling before y target p q (subst (λ n. IsMoved spelling before n target replies.Edited p) same first) second, same)
+  move-one e before target replies.Edited s one other first second = absurd (grind arith)
+  move-one e before target r replies.Edited one other first second = absurd (grind arith)
+  move-one e before target r s one other first second = requested-one (requests.Edit e) r s one other first second
 
 -- ---- views
 
@@ -151,6 +168,9 @@ done-one (Opened notation m) (Asking r) p q x y one other =
 done-one (Opened notation m) (Viewing view) p q x y one other = (λ plain. viewed-one notation m view p q plain one.0 other.0, one.1 ∙ sym other.1)
 done-one (Opened notation m) (Importing e path given) p q x y one other =
     let stepped = step-one notation.spelling m one.1 other.1 p q e path given one.0 other.0 one.2 other.2 one.3 other.3 in
+    (λ plain. stepped.0, one.4 ∙ ap (Opened notation) stepped.1 ∙ sym other.4)
+done-one (Opened notation m) (Moving e source target) p q x y one other =
+    let stepped = move-one notation.spelling m one.1 other.1 p q e (entries_at m source) target one.0 other.0 one.2 other.2 one.3 other.3 in
     (λ plain. stepped.0, one.4 ∙ ap (Opened notation) stepped.1 ∙ sym other.4)
 done-one (Opened notation m) asked p q x y one other = (λ plain. one.0 ∙ sym other.0, one.1 ∙ sym other.1)
 done-one old asked p q x y one other = absurd one

@@ -2,13 +2,14 @@
 use Rattle.std.proofs.Common.{ℕ, List, Result, Ok, Err, OnErr, inl, inr}
 use Rattle.sd_script.specs.Output.{IsDone, IsMade, IsTold, IsUntold}
 use Rattle.sd_script.specs.declared.line_request.LineRequest.{LineRequest}
-use Rattle.sd_script.specs.declared.line_request.LineRequest.TheVariants.{Asking, Importing}
+use Rattle.sd_script.specs.declared.line_request.LineRequest.TheVariants.{Asking, Importing, Moving}
 use Rattle.sd_script.specs.declared.session.Session.{Session}
 use Rattle.sd_script.specs.declared.session.Session.TheVariants.{Opened}
 
 made : (old new : Session) (asked : LineRequest) (printed : List ℕ) → IsDone old asked printed new → IsMade old asked new
 made (Opened notation m) new (Asking request) printed (reply, machine, steps, said, is) = (reply, machine, steps, is)
 made (Opened notation m) new (Importing edit path given) printed (reply, machine, steps, said, is) = (reply, machine, steps, is)
+made (Opened notation m) new (Moving edit source target) printed (reply, machine, steps, said, is) = (reply, machine, steps, is)
 made old new asked printed done = (printed, done)
 
 -- a line that was told, whose answer doesn't grow to its end

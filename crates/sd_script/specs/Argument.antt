@@ -93,13 +93,18 @@ abbrev pub entries_in : Dacl → List Ace
 entries_in (dacls.List entries) = entries
 entries_in dacl = []
 
-abbrev pub with_given : List Ace → Result RootSpec LineFault → Result (RootSpec × List Ace) LineFault
+-- those of a descriptor that has a DACL; a null one has none
+abbrev pub given_in : Dacl → Option (List Ace)
+given_in dacls.Absent = None
+given_in dacl = Some (entries_in dacl)
+
+abbrev pub with_given : Option (List Ace) → Result RootSpec LineFault → Result (RootSpec × Option (List Ace)) LineFault
 with_given given (Ok node) = Ok (node, given)
 with_given given (Err fault) = Err fault
 
-abbrev pub import_of : DescriptorValue → Result (RootSpec × List Ace) LineFault
-import_of d = with_given (entries_in d.dacl) (with_parts d.owner d.group (imported_dacl d.protected d.dacl))
+abbrev pub import_of : DescriptorValue → Result (RootSpec × Option (List Ace)) LineFault
+import_of d = with_given (given_in d.dacl) (with_parts d.owner d.group (imported_dacl d.protected d.dacl))
 
 -- the text of such a descriptor, with an owner and a group
-abbrev pub imported : Notation → List ℕ → Reading (RootSpec × List Ace)
+abbrev pub imported : Notation → List ℕ → Reading (RootSpec × Option (List Ace))
 imported notation word = Then (descriptor notation word) (λ d read. read ≡ import_of d)

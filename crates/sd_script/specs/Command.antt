@@ -22,7 +22,9 @@ use Rattle.sd_script.specs.Lines.{words_of}
 use Rattle.sd_answer.specs.Word.{texts}
 use Rattle.sd_script.specs.declared.line_request.LineRequest.{LineRequest}
 use Rattle.sd_script.specs.declared.line_request.LineRequest.TheVariants.{Opening, Asking, Explaining, Finding}
-use Rattle.sd_script.specs.declared.line_request.LineRequest.TheVariants.{Deleting, Viewing, Importing}
+use Rattle.sd_script.specs.declared.line_request.LineRequest.TheVariants.{Deleting, Viewing, Importing, Moving}
+use Rattle.sd_script.specs.declared.line_request.GroupsQuestion.{GroupsQuestion}
+use Rattle.sd_script.specs.declared.line_request.GroupsQuestion.TheVariants as granted
 use Rattle.sd_script.specs.declared.line_request.TokenQuestion.{TokenQuestion}
 use Rattle.sd_script.specs.declared.line_request.TokenQuestion.TheVariants as questions
 use Rattle.sd_script.specs.declared.command.CommandWithArguments.{CommandWithArguments}
@@ -30,7 +32,8 @@ use Rattle.sd_script.specs.declared.command.ScriptCommand.{ScriptCommand}
 use Rattle.sd_script.specs.declared.command.ScriptCommand.TheVariants.{Open, AddContainer, AddObject, SetOwner}
 use Rattle.sd_script.specs.declared.command.ScriptCommand.TheVariants.{SetGroup, SetDacl, Remove, Protect, Move}
 use Rattle.sd_script.specs.declared.command.ScriptCommand.TheVariants.{Publish, Tell, Learn, Check, Why, Find, Show}
-use Rattle.sd_script.specs.declared.command.ScriptCommand.TheVariants.{ListNodes, Dump, Who, Review, ImportNode, Delete}
+use Rattle.sd_script.specs.declared.command.ScriptCommand.TheVariants.{ListNodes, Dump, Who, ExpectOnly, Review}
+use Rattle.sd_script.specs.declared.command.ScriptCommand.TheVariants.{ImportNode, Delete}
 use Rattle.sd_script.specs.declared.fault.LineFault.TheVariants as faults
 use Rattle.sd_script.specs.declared.fault.LineStop.{LineStop}
 use Rattle.sd_acl.specs.declared.ace.Ace.{Ace}
@@ -54,7 +57,7 @@ Value (Sid word) = SidValue
 Value (Mask word) = ℕ
 Value (Node word) = RootSpec
 Value (Dacl word) = NodeDacl
-Value (Imported word) = RootSpec × List Ace
+Value (Imported word) = RootSpec × Option (List Ace)
 Value (Token user words) = TokenValue
 Value (Groups words) = List (SidValue × GroupState)
 
@@ -89,7 +92,7 @@ names =
     ∷ (codes "move", Move) ∷ (codes "publish", Publish) ∷ (codes "tell", Tell) ∷ (codes "learn", Learn)
     ∷ (codes "check", Check) ∷ (codes "why", Why) ∷ (codes "find", Find) ∷ (codes "show", Show)
     ∷ (codes "list", ListNodes) ∷ (codes "dump", Dump) ∷ (codes "who", Who) ∷ (codes "review", Review)
-    ∷ (codes "import", ImportNode) ∷ (codes "delete", Delete) ∷ []
+    ∷ (codes "import", ImportNode) ∷ (codes "delete", Delete) ∷ (codes "expect-only", ExpectOnly) ∷ []
 
 -- the kind of node that the word names
 abbrev pub kind_named : List ℕ → Option NodeKind
@@ -127,9 +130,19 @@ abbrev pub imports : List ℕ → List ℕ → NodeKind → Arguments
 imports at sddl kind =
     Path at ▸ λ p. Imported sddl ▸ λ i. Asks (Importing (addition_of kind p (row_of kind i.0)) p i.1)
 
+-- a node is moved
+abbrev pub moves : List ℕ → List ℕ → Arguments
+moves source target = Path source ▸ λ from. Path target ▸ λ to. Asks (Moving (edits.Move from to) from to)
+
+-- a question of a path, for groups
+abbrev pub asks_of : GroupsQuestion → Names → List (SidValue × GroupState) → ℕ → ViewRequest
+asks_of granted.Who p groups asked = views.Who p groups asked
+asks_of granted.Only p groups asked = views.Only p groups asked
+
 -- a path, a mask and groups
-unfoldable pub asks_groups : List ℕ → List ℕ → List (List ℕ) → Arguments
-asks_groups at asked words = Path at ▸ λ p. Mask asked ▸ λ m. Groups words ▸ λ groups. view (views.Who p groups m)
+unfoldable pub asks_groups : GroupsQuestion → List ℕ → List ℕ → List (List ℕ) → Arguments
+asks_groups question at asked words =
+    Path at ▸ λ p. Mask asked ▸ λ m. Groups words ▸ λ groups. view (asks_of question p groups m)
 
 -- a reader, a path, a user and words: whether the user may delete the node
 unfoldable pub deletes : List ℕ → List ℕ → List ℕ → List (List ℕ) → Arguments
@@ -146,7 +159,7 @@ asks_taking SetGroup (at ∷ group ∷ []) = Some (Path at ▸ λ p. Sid group �
 asks_taking SetDacl (at ∷ sddl ∷ []) = Some (Path at ▸ λ p. Dacl sddl ▸ λ d. edit (edits.SetDacl p d))
 asks_taking Remove (at ∷ []) = Some (Path at ▸ λ p. edit (edits.Remove p))
 asks_taking Protect (at ∷ []) = Some (Path at ▸ λ p. edit (edits.ProtectKeeping p))
-asks_taking Move (source ∷ target ∷ []) = Some (Path source ▸ λ from. Path target ▸ λ to. edit (edits.Move from to))
+asks_taking Move (source ∷ target ∷ []) = Some (moves source target)
 asks_taking Publish [] = Some (request requests.Publish)
 asks_taking Tell [] = Some (request requests.Tell)
 asks_taking Learn (reader ∷ len ∷ []) = Some (Number reader ▸ λ i. Number len ▸ λ n. request (requests.Learn i n))
@@ -163,7 +176,8 @@ asks_taking ImportNode (kind ∷ at ∷ sddl ∷ []) = option_map (imports at sd
 asks_taking name arguments = None
 
 abbrev pub asks : ScriptCommand → List (List ℕ) → Option Arguments
-asks Who (at ∷ asked ∷ words) = Some (asks_groups at asked words)
+asks Who (at ∷ asked ∷ words) = Some (asks_groups granted.Who at asked words)
+asks ExpectOnly (at ∷ asked ∷ words) = Some (asks_groups granted.Only at asked words)
 asks Delete (reader ∷ at ∷ user ∷ words) = Some (deletes reader at user words)
 asks name arguments = asks_taking name arguments
 

@@ -1,14 +1,18 @@
--- Lines that expect an answer: the answer of the last line that has one, its first line where it has several.
-use Rattle.std.specs.Prelude.{ℕ, ◌+◌, Bool, true, false, ◌==◌, List, Option, Some, if◌then◌else◌, codes, bytes_eq}
-use Rattle.std.specs.Prelude.{drop, length, min, take}
-use Rattle.std.specs.List.{before_first}
+-- Lines that expect an answer: the whole answer of the last line that has one.
+use Rattle.std.specs.Prelude.{ℕ, ◌+◌, ◌-◌, Bool, true, false, ◌==◌, ◌||◌, List, [], ◌∷◌, Option, Some, if◌then◌else◌}
+use Rattle.std.specs.Prelude.{codes, bytes_eq, drop, length, min, slice_index, take}
+use Rattle.std.specs.List.{flat_map}
 use Rattle.std.specs.Option.{option_map_or}
 use Rattle.sd_answer.specs.VerdictLines.{line, fault_line}
 use Rattle.sd_script.specs.Lines.{is_silent, word_len}
 
--- the line expects an answer: its first word is `expect`
+-- the line expects the last answer: its first word is `expect`
 abbrev pub expects : List ℕ → Bool
 expects text = bytes_eq (take (word_len text) text) (codes "expect")
+
+-- or whom a node grants rights
+abbrev pub is_expectation : List ℕ → Bool
+is_expectation text = expects text || bytes_eq (take (word_len text) text) (codes "expect-only")
 
 -- the bytes of the first word and of the space after it
 abbrev pub head_len : List ℕ → ℕ
@@ -18,17 +22,29 @@ head_len text = min (length text) (word_len text + 1)
 abbrev pub expected_in : List ℕ → List ℕ
 expected_in text = drop (head_len text) text
 
--- the first line of an answer
-abbrev pub first_line_of : List ℕ → List ℕ
-first_line_of answer = before_first (λ b. b == 10) answer
+-- the text without the line feed at its end
+abbrev pub without_feed : List ℕ → List ℕ
+without_feed text = if slice_index text (length text - 1) == 10 then take (length text - 1) text else text
+
+-- an answer without the end of its last line, and without the empty line that ends several
+abbrev pub lines_of : List ℕ → List ℕ
+lines_of answer = without_feed (without_feed answer)
+
+-- a line feed is spelled `\n`, and `\` is spelled `\\`
+abbrev pub spelled_byte : ℕ → List ℕ
+spelled_byte b = if b == 10 then 0x5C ∷ 0x6E ∷ [] else (if b == 0x5C then 0x5C ∷ 0x5C ∷ [] else b ∷ [])
+
+-- how an answer is expected: all its lines in one
+abbrev pub spelled : List ℕ → List ℕ
+spelled answer = flat_map spelled_byte (lines_of answer)
 
 -- the last answer once a line is answered, which has none if it is silent
 abbrev pub last_after : List ℕ → List ℕ → Option (List ℕ) → Option (List ℕ)
-last_after text answer before = if is_silent text then before else Some (first_line_of answer)
+last_after text answer before = if is_silent text then before else Some answer
 
 -- the last answer is the expected one; where no line was answered, none is
 abbrev pub is_met : Option (List ℕ) → List ℕ → Bool
-is_met last text = option_map_or (λ first. bytes_eq first (expected_in text)) last false
+is_met last text = option_map_or (λ answer. bytes_eq (spelled answer) (expected_in text)) last false
 
 abbrev pub expect_line : (is_met : Bool) → List ℕ
 expect_line true = line (codes "ok")

@@ -1,8 +1,8 @@
 -- What an import is answered by: the node is added, and the answer says whether it inherits what it had inherited
 -- elsewhere, and whether its own entries have the order that they had there.
-use Rattle.std.specs.Prelude.{◌≡◌, ℕ, Bool, true, false, List, [], filter, Option, Some, codes}
+use Rattle.std.specs.Prelude.{◌≡◌, ℕ, Bool, true, false, List, [], filter, Option, Some, None, codes}
 use Rattle.std.specs.Bool.{Decides}
-use Rattle.std.specs.Option.{option_map_or}
+use Rattle.std.specs.Option.{option_map_or, unwrap_or}
 use Rattle.sd_acl.specs.Canonical.{is_explicit, is_inherited}
 use Rattle.sd_acl.specs.Descriptor.{DescriptorValue}
 use Rattle.sd_acl.specs.declared.ace.Ace.{Ace}
@@ -25,13 +25,14 @@ entries_by d = option_map_or (λ (d : DescriptorValue). entries_in d.dacl) d []
 abbrev pub entries_at : Machine → Names → List Ace
 entries_at m path = entries_by (descriptor_at m.opening.mapping (replay m.opening (accepted m)) path)
 
--- both lists have the same inherited entries, in one order
-abbrev pub InheritAlike : List Ace → List Ace → Type 0
-InheritAlike stored given = filter is_inherited stored ≡ filter is_inherited given
+-- both lists have the same inherited entries, in one order; what had no DACL, which grants everything, inherits unlike
+abbrev pub InheritAlike : List Ace → Option (List Ace) → Type 0
+InheritAlike stored None = ⊥
+InheritAlike stored (Some given) = filter is_inherited stored ≡ filter is_inherited given
 
 -- both have the same entries of their own, in one order
-abbrev pub AreOrderedAlike : List Ace → List Ace → Type 0
-AreOrderedAlike stored given = filter is_explicit stored ≡ filter is_explicit given
+abbrev pub AreOrderedAlike : List Ace → Option (List Ace) → Type 0
+AreOrderedAlike stored given = filter is_explicit stored ≡ filter is_explicit (unwrap_or given [])
 
 abbrev pub imported_line : (inherits_alike is_ordered_alike : Bool) → List ℕ
 imported_line true true = line (codes "ok")
@@ -40,7 +41,7 @@ imported_line false true = line (codes "ok differs")
 imported_line false false = line (codes "ok differs reordered")
 
 -- by the entries that were given; the node's are those in the tree of all accepted edits
-abbrev pub IsImported : Spelling → Machine → Names → List Ace → Reply → List ℕ → Type 0
+abbrev pub IsImported : Spelling → Machine → Names → Option (List Ace) → Reply → List ℕ → Type 0
 IsImported spelling m path given Edited printed =
     (inherits_alike : Bool) × (is_ordered_alike : Bool)
     × Decides inherits_alike (InheritAlike (entries_at m path) given)

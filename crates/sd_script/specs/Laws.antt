@@ -1,9 +1,15 @@
 -- What follows from the output of a script.
-use Rattle.std.specs.Prelude.{◌≡◌, ℕ, Bool, true, false, List, [], ◌++◌, length, Some, Ok, codes}
+use Rattle.std.specs.Prelude.{◌≡◌, ℕ, ◌<◌, Bool, true, false, List, [], ◌++◌, length, Some, Ok, codes}
 use Rattle.std.specs.List.{All}
 use Rattle.std.specs.Str.Lines.{lines}
+use Rattle.sd_sid.specs.Mapping.{MappingValue}
 use Rattle.sd_sid.specs.Mask.{holds}
-use Rattle.sd_check.specs.Token.{TokenValue}
+use Rattle.sd_sid.specs.Sid.{SidValue}
+use Rattle.sd_acl.specs.Descriptor.{DescriptorValue}
+use Rattle.sd_acl.specs.declared.ace.AceKind.TheVariants.{Allow}
+use Rattle.sd_check.specs.Check.{dacl_entries, is_granted}
+use Rattle.sd_check.specs.Token.{TokenValue, a_group_stands_for, no_privileges, stands_for}
+use Rattle.sd_check.specs.declared.token.GroupState.{GroupState}
 use Rattle.sd_edit.specs.Answers.{answer, reply_in}
 use Rattle.sd_path.specs.Names.{Names, is_within}
 use Rattle.sd_edit.specs.Plain.{row_at}
@@ -11,25 +17,29 @@ use Rattle.sd_edit.specs.declared.node.NodeRow.{NodeRow}
 use Rattle.sd_edit.specs.Machine.{Machine, accepted}
 use Rattle.sd_edit.specs.declared.request.Request.TheVariants.{Check}
 use Rattle.sd_answer.specs.VerdictLines.{line, spelled}
+use Rattle.sd_answer.specs.Who.{rights_asked}
 use Rattle.sd_answer.specs.declared.verdict_lines.Spelling.{Spelling}
 use Rattle.sd_script.specs.Command.{line_asks}
 use Rattle.sd_script.specs.Deletion.{delete_right}
+use Rattle.sd_script.specs.Expect.{expect_line}
 use Rattle.sd_script.specs.Output.{IsAnswered, IsDone, Prints}
 use Rattle.sd_review.specs.Review.{Trees}
 use Rattle.sd_script.specs.Reply.{seen_line}
 use Rattle.sd_script.specs.Review.{IsNodeReview, IsReview, reviewed_line}
+use Rattle.sd_script.specs.Who.{IsOnly}
 use Rattle.sd_script.specs.declared.line_request.LineRequest.{LineRequest}
 use Rattle.sd_script.specs.declared.line_request.LineRequest.TheVariants.{Asking, Explaining, Deleting, Viewing}
 use Rattle.sd_script.specs.declared.script_options.ScriptOptions.{ScriptOptions}
 use Rattle.sd_script.specs.declared.script_options.Notation.{Notation}
 use Rattle.sd_script.specs.declared.session.Session.{Session}
 use Rattle.sd_script.specs.declared.session.Session.TheVariants.{Opened}
-use Rattle.sd_script.specs.declared.view.ViewRequest.TheVariants.{Who, Review}
+use Rattle.sd_script.specs.declared.view.ViewRequest.TheVariants.{Who, Only, Review}
 
 -- what is asked is who is granted a right, or who is by the pending edits: the lines are exact in what they say of
 -- tokens, not in their letters
 abbrev pub is_analysis : LineRequest → Bool
 is_analysis (Viewing (Who path groups asked)) = true
+is_analysis (Viewing (Only path groups asked)) = true
 is_analysis (Viewing (Review path)) = true
 is_analysis asked = false
 
@@ -96,3 +106,17 @@ SilentReviewChangesNothing =
     → IsReview notation m top (reviewed_line (length m.published) (length (accepted m)))
     → is_within top path ≡ true → holds asked 25 ≡ false
     → answer m.opening m.published path token asked ≡ answer m.opening (accepted m) path token asked
+
+-- the token has one of these groups, which is enabled there: as its user or an enabled group
+abbrev pub HasOneOf : List (SidValue × GroupState) → TokenValue → Type 0
+HasOneOf groups t =
+    (s : SidValue) × (a_group_stands_for groups Allow s ≡ true) × (stands_for t Allow s ≡ true)
+
+-- where `expect-only` is answered by `ok`, each token without privileges, restricted or not, that the node grants one
+-- of the rights has one of the groups
+abbrev pub OnlyTheseAreGranted : Type 0
+OnlyTheseAreGranted =
+    (g : MappingValue) (d : DescriptorValue) (groups : List (SidValue × GroupState)) (t : TokenValue) (asked b : ℕ)
+    → IsOnly g (Some d) asked groups (expect_line true) → t.privileges ≡ no_privileges → b < 21
+    → holds (rights_asked g asked) b ≡ true → is_granted d.owner (dacl_entries d.dacl) g t b ≡ true
+    → HasOneOf groups t

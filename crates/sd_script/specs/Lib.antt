@@ -14,6 +14,7 @@ pub mod Dump
 pub mod Paths
 pub mod Printed
 pub mod Importing
+pub mod Moving
 pub mod ScriptCounts
 pub mod View
 pub mod Who

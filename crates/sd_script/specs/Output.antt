@@ -14,15 +14,16 @@ use Rattle.sd_lines.specs.Answers.{AreAnswered}
 use Rattle.sd_script.specs.Command.{line_asks}
 use Rattle.sd_script.specs.Expect.{expect_line, expects, is_met, last_after}
 use Rattle.sd_script.specs.Fault.{Reading, line_of_fault}
-use Rattle.sd_script.specs.Importing.{IsImported}
+use Rattle.sd_script.specs.Importing.{IsImported, entries_at}
 use Rattle.sd_script.specs.Lines.{is_silent, wants_lines}
+use Rattle.sd_script.specs.Moving.{IsMoved}
 use Rattle.sd_script.specs.Question.{IsSeen}
 use Rattle.sd_script.specs.Reply.{counted_line, reply_line, start_error_line}
 use Rattle.sd_script.specs.ScriptCounts.{no_lines, tallied}
 use Rattle.sd_script.specs.View.{IsViewed}
 use Rattle.sd_script.specs.declared.line_request.LineRequest.{LineRequest}
 use Rattle.sd_script.specs.declared.line_request.LineRequest.TheVariants.{Opening as Opens, Asking, Explaining, Finding}
-use Rattle.sd_script.specs.declared.line_request.LineRequest.TheVariants.{Viewing, Deleting, Importing}
+use Rattle.sd_script.specs.declared.line_request.LineRequest.TheVariants.{Viewing, Deleting, Importing, Moving}
 use Rattle.sd_script.specs.declared.script_state.ScriptState.{ScriptState}
 use Rattle.sd_script.specs.declared.fault.LineFault.{LineFault}
 use Rattle.sd_script.specs.declared.listing.NodeFilter.TheVariants.{Granting}
@@ -83,6 +84,10 @@ IsDone (Opened notation old) (Viewing view) printed new =
 IsDone (Opened notation old) (Importing edit path given) printed new =
     (reply : Reply) × (machine : Machine) × Steps old (Edit edit) reply machine
     × IsImported notation.spelling machine path given reply printed × (new ≡ Opened notation machine)
+IsDone (Opened notation old) (Moving edit source target) printed new =
+    (reply : Reply) × (machine : Machine) × Steps old (Edit edit) reply machine
+    × IsMoved notation.spelling (entries_at old source) machine target reply printed
+    × (new ≡ Opened notation machine)
 IsDone old asked printed new = ⊥
 
 -- a line that isn't silent is answered by what it asks for, or by its fault
@@ -123,6 +128,8 @@ abbrev pub IsMade : Session → LineRequest → Session → Type 0
 IsMade (Opened notation old) (Asking request) new =
     (reply : Reply) × (machine : Machine) × Steps old request reply machine × (new ≡ Opened notation machine)
 IsMade (Opened notation old) (Importing edit path given) new =
+    (reply : Reply) × (machine : Machine) × Steps old (Edit edit) reply machine × (new ≡ Opened notation machine)
+IsMade (Opened notation old) (Moving edit source target) new =
     (reply : Reply) × (machine : Machine) × Steps old (Edit edit) reply machine × (new ≡ Opened notation machine)
 IsMade old asked new = (printed : List ℕ) × IsDone old asked printed new
 

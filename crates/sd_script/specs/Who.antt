@@ -1,15 +1,20 @@
--- What `who` prints of a node: whom its descriptor grants which rights, of all tokens that have a base.
-use Rattle.std.specs.Prelude.{◌≡◌, ℕ, ◌==◌, List, length, Option, Some, None, if◌then◌else◌, codes}
+-- What `who` prints of a node: whom its descriptor grants which rights, of all tokens that have a base. And what
+-- `expect-only` does: whether it grants them to given groups alone.
+use Rattle.std.specs.Prelude.{◌≡◌, ℕ, ◌==◌, Bool, false, not, ◌&&◌, List, [], length, Option, Some, None}
+use Rattle.std.specs.Prelude.{if◌then◌else◌, codes}
+use Rattle.std.specs.List.{list_all}
+use Rattle.sd_sid.specs.Mask.{holds, mask_of}
 use Rattle.sd_sid.specs.Mapping.{MappingValue}
 use Rattle.sd_sid.specs.Sid.{SidValue}
 use Rattle.sd_acl.specs.Descriptor.{DescriptorValue}
 use Rattle.sd_check.specs.Check.{dacl_entries}
 use Rattle.sd_check.specs.declared.token.GroupState.{GroupState}
-use Rattle.sd_analysis.specs.Who.{AllBeyond, HasEachOnce, IsMost, IsWho}
+use Rattle.sd_analysis.specs.Who.{AllBeyond, HasEachOnce, IsMost, IsWho, is_in_base}
 use Rattle.sd_analysis.specs.declared.who_has.Access.{Access}
 use Rattle.sd_answer.specs.VerdictLines.{line}
 use Rattle.sd_answer.specs.Who.{rights_asked, who_text}
 use Rattle.sd_answer.specs.declared.verdict_lines.Spelling.{Spelling}
+use Rattle.sd_script.specs.Expect.{expect_line}
 
 -- where no right is asked about, the answer says so: none is an empty line alone
 abbrev pub or_empty : List ℕ → List ℕ
@@ -27,3 +32,25 @@ IsWhoText spelling g (Some d) asked base printed =
     × HasEachOnce (rights_asked g asked) all
     × AllBeyond base all
     × (printed ≡ or_empty (who_text spelling all))
+
+-- no right of objects is asked about, which are those below place 21
+abbrev pub asks_no_right : ℕ → Bool
+asks_no_right rights = mask_of (λ b. holds rights b && holds 0x001FFFFF b) 32 == 0
+
+-- each alternative is for one of the groups, which is enabled, whatever else it is unless
+abbrev pub is_for : List (SidValue × GroupState) → Access → Bool
+is_for groups access = list_all (λ a. is_in_base groups a.holder) access.alternatives.items
+
+abbrev pub are_for : List (SidValue × GroupState) → List Access → Bool
+are_for groups all = list_all (is_for groups) all
+
+-- `ok` where the node is there, a right is asked about, and accesses that say exactly who of all tokens is granted each
+-- right once are for the groups alone
+abbrev pub IsOnly : MappingValue → Option DescriptorValue → ℕ → List (SidValue × GroupState) → List ℕ → Type 0
+IsOnly g None asked groups printed = printed ≡ expect_line false
+IsOnly g (Some d) asked groups printed =
+    (all : List Access)
+    × IsWho d.owner (dacl_entries d.dacl) g [] (rights_asked g asked) all
+    × IsMost d.owner (dacl_entries d.dacl) g [] (rights_asked g asked) all
+    × HasEachOnce (rights_asked g asked) all
+    × (printed ≡ expect_line (not (asks_no_right (rights_asked g asked)) && are_for groups all))

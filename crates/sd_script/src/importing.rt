@@ -1,10 +1,12 @@
 //! A node that comes with the descriptor that it had elsewhere.
-ghost use Rattle.std.specs.Prelude.{◌≡◌, IfOk, Some, filter, string_bytes};
+ghost use Rattle.std.specs.Prelude.{◌≡◌, [], IfOk, Some, filter, string_bytes};
+ghost use Rattle.std.specs.Bool.{Decides};
+ghost use Rattle.std.specs.Option.{unwrap_or};
 ghost use Rattle.sd_acl.specs.Canonical.{is_explicit, is_inherited};
-ghost use Rattle.sd_script.specs.Argument.{entries_in, imported, imported_dacl};
+ghost use Rattle.sd_script.specs.Argument.{entries_in, given_in, imported, imported_dacl};
 ghost use Rattle.sd_script.specs.Command.{Parses, imports};
 ghost use Rattle.sd_script.specs.Fault.{UnlessMemory};
-ghost use Rattle.sd_script.specs.Importing.{IsImported, entries_by, imported_line};
+ghost use Rattle.sd_script.specs.Importing.{AreOrderedAlike, InheritAlike, IsImported, entries_by, imported_line};
 ghost use Rattle.sd_edit.specs.Machine.{Machine, accepted};
 ghost use Rattle.sd_edit.specs.Answers.{descriptor_at};
 ghost use Rattle.sd_edit.specs.Journal.{replay};
@@ -34,8 +36,9 @@ impl Parser {
         }))
     }
 
-    /// The text of a descriptor with an owner and a group, as a node had it: what it gives a node, and all its entries.
-    fn imported(self, word: &str) -> Result<(RootSpec, Entries), LineStop>
+    /// The text of a descriptor with an owner and a group, as a node had it: what it gives a node, and all its entries,
+    /// if it has a DACL.
+    fn imported(self, word: &str) -> Result<(RootSpec, Option<Entries>), LineStop>
         ensures { UnlessMemory (imported self.notation word.now) result }
     {
         let descriptor = self.descriptor(word)?;
@@ -43,7 +46,7 @@ impl Parser {
             return Err(LineStop::Fault(LineFault::Parts));
         };
         let dacl = imported_dacl(self.alloc, &descriptor)?;
-        let given = Entries::new(entries_in(self.alloc, &descriptor.dacl)?);
+        let given = given_in(self.alloc, &descriptor.dacl)?;
         Ok((RootSpec { owner, group, dacl }, given))
     }
 }
@@ -61,6 +64,16 @@ fn imported_dacl(alloc: Global, descriptor: &Descriptor) -> Result<NodeDacl, All
             })
         }
         _ => NodeDacl::of_descriptor(alloc, descriptor),
+    }
+}
+
+/// The entries of a DACL; a null one has none.
+fn given_in(alloc: Global, dacl: &Dacl) -> Result<Option<Entries>, AllocError>
+    ensures { IfOk result (λ given. given ≡ given_in dacl.now) }
+{
+    match dacl {
+        Dacl::Absent => Ok(None),
+        _ => Ok(Some(Entries::new(entries_in(alloc, dacl)?))),
     }
 }
 
@@ -91,14 +104,14 @@ fn explicit_in(alloc: Global, entries: &[Ace]) -> Result<Vec<Ace>, AllocError>
 }
 
 /// The line of the reply to an edit that imports the node of a path. Of one that was accepted it says whether the node,
-/// in the tree of all accepted edits, inherits what it had inherited elsewhere, and whether its own entries have the
-/// order that they had there. Out of memory has none.
+/// in the tree of all accepted edits, inherits what it had inherited elsewhere, where it had a DACL, and whether its
+/// own entries have the order that they had there. Out of memory has none.
 pub fn import_line(
     alloc: Global,
     spelling: Spelling,
     tree: &Tree,
     path: &Path,
-    given: &Entries,
+    given: &Option<Entries>,
     reply: &Reply,
 ) -> Result<String, AllocError>
     ensures { (m : Machine) → m.opening ≡ tree.now.opening → accepted m ≡ tree.now.journal
@@ -107,13 +120,49 @@ pub fn import_line(
     match reply {
         Reply::Edited => {
             let stored = entries_at(alloc, tree, path)?;
-            let inherited = inherited_in(alloc, given.as_slice())?;
-            let inherits_alike = same_entries(&inherited_in(alloc, &stored)?, &inherited);
-            let explicit = explicit_in(alloc, given.as_slice())?;
-            let is_ordered_alike = same_entries(&explicit_in(alloc, &stored)?, &explicit);
-            String::from_str(alloc, imported_line(inherits_alike, is_ordered_alike))
+            let inherits = inherits_alike(alloc, &stored, given)?;
+            let is_ordered = is_ordered_alike(alloc, &stored, given)?;
+            String::from_str(alloc, imported_line(inherits, is_ordered))
         }
         _ => reply_line(alloc, spelling, reply),
+    }
+}
+
+/// Whether a node inherits what it had inherited elsewhere. One that had no DACL, which grants everything, doesn't.
+fn inherits_alike(
+    alloc: Global,
+    stored: &[Ace],
+    given: &Option<Entries>,
+) -> Result<bool, AllocError>
+    ensures { IfOk result (λ alike. Decides alike (InheritAlike stored.now given.now)) }
+{
+    let Some(given) = given else {
+        return Ok(false);
+    };
+    let given = inherited_in(alloc, given.as_slice())?;
+    let stored = inherited_in(alloc, stored)?;
+    Ok(same_entries(&stored, &given))
+}
+
+/// Whether a node's own entries have the order that they had elsewhere.
+fn is_ordered_alike(
+    alloc: Global,
+    stored: &[Ace],
+    given: &Option<Entries>,
+) -> Result<bool, AllocError>
+    ensures { IfOk result (λ alike. Decides alike (AreOrderedAlike stored.now given.now)) }
+{
+    let given = explicit_in(alloc, entries_or_none(given))?;
+    let stored = explicit_in(alloc, stored)?;
+    Ok(same_entries(&stored, &given))
+}
+
+fn entries_or_none(given: &Option<Entries>) -> &[Ace]
+    ensures { result.now ≡ unwrap_or given.now [] }
+{
+    match given {
+        Some(given) => given.as_slice(),
+        None => &[],
     }
 }
 
@@ -128,8 +177,8 @@ fn imported_line(inherits_alike: bool, is_ordered_alike: bool) -> &'static str
     }
 }
 
-/// The entries of the node of a path.
-fn entries_at(alloc: Global, tree: &Tree, path: &Path) -> Result<Vec<Ace>, AllocError>
+/// The entries of the node of a path, and none where none stands there.
+pub fn entries_at(alloc: Global, tree: &Tree, path: &Path) -> Result<Vec<Ace>, AllocError>
     ensures { IfOk result (λ entries. entries.items ≡ entries_by (descriptor_at tree.now.opening.mapping
         (replay tree.now.opening tree.now.journal) path.now)) }
 {

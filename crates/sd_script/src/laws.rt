@@ -1,6 +1,7 @@
 //! What follows from the output of a script. A law is the contract of a function that does nothing.
 ghost use Rattle.sd_script.specs.Ids.{NoCommandWithoutAnId};
 ghost use Rattle.sd_script.specs.Laws.{BeginsAsCheck, DeletesAsChecked, HasOneAnswer, HasOneOutput};
+ghost use Rattle.sd_script.specs.Laws.{OnlyTheseAreGranted};
 ghost use Rattle.sd_script.specs.Laws.{SilentNodeIsUnchanged, SilentReviewChangesNothing};
 
 /// A line leaves one store and has one answer, unless it asks who is granted a right, or who is by the pending edits:
@@ -37,4 +38,10 @@ pub fn no_command_without_an_id()
 pub fn silent_review_changes_nothing()
     ensures node { SilentNodeIsUnchanged }
     ensures review { SilentReviewChangesNothing }
+{}
+
+/// Where `expect-only` is answered by `ok`, each token without privileges, restricted or not, that the node grants one
+/// of the rights has one of the groups as its user or an enabled group ([MS-DTYP] 2.5.3.2).
+pub fn only_these_are_granted()
+    ensures { OnlyTheseAreGranted }
 {}

@@ -30,6 +30,7 @@ mod line;
 mod line_request;
 mod lines;
 mod listing;
+mod moving;
 mod paths;
 mod question;
 mod reply;
@@ -48,14 +49,15 @@ pub use argument::number_in;
 pub use expect::{LastAnswer, expects};
 pub use fault::{LineFault, LineStop, line_of_fault};
 pub use ids::{LINES, tagged};
-pub use importing::import_line;
+pub use importing::{entries_at, import_line};
 pub use laws::{
-    deletes_as_checked, lines_have_one_answer, no_command_without_an_id,
+    deletes_as_checked, lines_have_one_answer, no_command_without_an_id, only_these_are_granted,
     silent_review_changes_nothing, texts_have_one_output, why_begins_as_check,
 };
 pub use line::read_line;
 pub use line_request::LineRequest;
 pub use lines::is_silent;
+pub use moving::move_line;
 pub use paths::PathSpelling;
 pub use reply::{counted_line, reply_line, start_error_line};
 pub use script::answer_line;

@@ -1,7 +1,7 @@
 //! What a line asks for, and how a command's arguments are parsed.
 ghost use Rattle.std.specs.Prelude.{◌≡◌, ◌∷◌, [], Some, Ok};
-ghost use Rattle.sd_script.specs.Command.{Parses, adds, asks, asks_groups, asks_taking, deletes, kind_named, posed};
-ghost use Rattle.sd_script.specs.Command.{poses};
+ghost use Rattle.sd_script.specs.Command.{Parses, adds, asks, asks_groups, asks_of, asks_taking, deletes};
+ghost use Rattle.sd_script.specs.Command.{kind_named, posed, poses};
 ghost use Rattle.sd_script.specs.declared.line_request.LineRequest.TheVariants.{Asking, Viewing};
 ghost use Rattle.sd_edit.specs.declared.request.Request.TheVariants as requests;
 ghost use Rattle.sd_answer.specs.Word.{texts};
@@ -9,7 +9,7 @@ ghost use Rattle.sd_answer.specs.Word.{texts};
 use crate::argument::{Parser, number_in};
 use crate::command::{CommandWithArguments, ScriptCommand};
 use crate::fault::LineStop;
-use crate::view::ViewRequest;
+use crate::view::{Groups, ViewRequest};
 use sd_check::Token;
 use sd_sid::Mask;
 use sd_tree::{Edit, Entries, NodeKind, Path, RootSpec};
@@ -49,11 +49,17 @@ pub enum LineRequest {
     },
     /// A view of the published tree.
     Viewing(ViewRequest),
-    /// A node, and how its entries compare with those that it had elsewhere.
+    /// A node, and how its entries compare with those that it had elsewhere, where it had a DACL.
     Importing {
         edit: Edit,
         path: Path,
-        given: Entries,
+        given: Option<Entries>,
+    },
+    /// A node that is moved, and how its entries compare with those that it had before.
+    Moving {
+        edit: Edit,
+        source: Path,
+        target: Path,
     },
 }
 
@@ -63,6 +69,13 @@ enum TokenQuestion {
     Check,
     Why,
     Find,
+}
+
+/// What is asked of a path for groups.
+#[derive(Clone, Copy)]
+enum GroupsQuestion {
+    Who,
+    Only,
 }
 
 /// What a command's arguments ask for, or the first from the left that is rejected; none where the command doesn't take
@@ -76,6 +89,7 @@ impl Parser {
     {
         match command.name {
             ScriptCommand::Who => self.who(command.arguments),
+            ScriptCommand::ExpectOnly => self.only(command.arguments),
             ScriptCommand::Delete => self.deletion(command.arguments),
             _ => self.taking(command.name, command.arguments),
         }
@@ -85,7 +99,16 @@ impl Parser {
         ensures { Parses self.notation (asks ScriptCommand.Who (texts arguments.now)) result }
     {
         match arguments {
-            [path, mask, words @ ..] => self.granted(path, mask, words),
+            [path, mask, words @ ..] => self.granted(GroupsQuestion::Who, path, mask, words),
+            _ => Ok(None),
+        }
+    }
+
+    fn only(self, arguments: &[&str]) -> Parsed
+        ensures { Parses self.notation (asks ScriptCommand.ExpectOnly (texts arguments.now)) result }
+    {
+        match arguments {
+            [path, mask, words @ ..] => self.granted(GroupsQuestion::Only, path, mask, words),
             _ => Ok(None),
         }
     }
@@ -99,19 +122,15 @@ impl Parser {
         }
     }
 
-    /// Who is granted a mask on a path, of groups.
+    /// Who is granted a mask on a path, of groups, or whether only these are.
     #[tactic(auto, unfolding(crate::specs::Command::asks_groups))]
-    fn granted(self, path: &str, mask: &str, words: &[&str]) -> Parsed
-        ensures { Parses self.notation (Some (asks_groups path.now mask.now (texts words.now))) result }
+    fn granted(self, question: GroupsQuestion, path: &str, mask: &str, words: &[&str]) -> Parsed
+        ensures { Parses self.notation (Some (asks_groups question path.now mask.now (texts words.now))) result }
     {
         let path = self.path(path)?;
         let asked = self.mask(mask)?;
         let groups = self.base(words)?;
-        view(ViewRequest::Who {
-            path,
-            groups,
-            asked,
-        })
+        view(question.about(path, groups, asked))
     }
 
     /// Whether a user may delete a node.
@@ -203,10 +222,7 @@ impl Parser {
                 path: self.path(first)?,
                 dacl: self.dacl(second)?,
             }),
-            ScriptCommand::Move => edit(Edit::Move {
-                source: self.path(first)?,
-                target: self.path(second)?,
-            }),
+            ScriptCommand::Move => self.moving(first, second),
             ScriptCommand::Learn => Ok(Some(LineRequest::Asking(Request::Learn {
                 reader: number_in(first)?,
                 length: number_in(second)?,
@@ -329,6 +345,25 @@ impl TokenQuestion {
                 reader,
                 path,
                 token,
+                asked,
+            },
+        }
+    }
+}
+
+impl GroupsQuestion {
+    fn about(self, path: Path, groups: Groups, asked: Mask) -> ViewRequest
+        ensures { result ≡ asks_of self path groups asked }
+    {
+        match self {
+            GroupsQuestion::Who => ViewRequest::Who {
+                path,
+                groups,
+                asked,
+            },
+            GroupsQuestion::Only => ViewRequest::Only {
+                path,
+                groups,
                 asked,
             },
         }

@@ -4,7 +4,7 @@ ghost use Rattle.sd_script.specs.Output.{IsAnsweredAfter, IsDone, IsMade, IsNext
 ghost use Rattle.sd_script.specs.Output.{PrintsAndCounts, opens};
 ghost use Rattle.sd_script.specs.declared.session.Session.TheVariants.{Opened};
 
-use crate::expect::{LastAnswer, expects};
+use crate::expect::{LastAnswer, expect_line, expects};
 use crate::fault::{LineStop, line_of_fault};
 use crate::ids::{LINES, Script};
 use crate::importing::import_line;
@@ -12,6 +12,7 @@ use crate::line::read_line;
 use crate::line_request::LineRequest;
 use crate::lines::{is_silent, wants_lines};
 use crate::listing::NodeFilter;
+use crate::moving::moved;
 use crate::question::NodeQuestion;
 use crate::reply::{counted_line, reply_line, start_error_line};
 use crate::script_counts::ScriptCounts;
@@ -43,9 +44,9 @@ pub(crate) fn script_output(
 }
 
 /// What a line, without its end, is answered by: a line, or several, an empty one the last, or nothing where it is
-/// empty or begins with `#`. A line that expects an answer is answered by `ok`, or by `fault expect` if the first line
-/// of the last answer is another. The line is counted. The only error is out of memory: then nothing has changed, or
-/// what the line asks for is done, without an answer.
+/// empty or begins with `#`. A line that expects an answer is answered by `ok`, or by `fault expect` if the last answer
+/// is another. The line is counted. The only error is out of memory: then nothing has changed, or what the line asks
+/// for is done, without an answer.
 pub fn answer_line(
     alloc: Global,
     state: &mut ScriptState,
@@ -72,7 +73,8 @@ fn answer_after(
     ensures failed { OnErr result ((last.new ≡ last.old) × IsUntold session.old line.now session.new) }
 {
     if expects(line) {
-        return String::from_str(alloc, last.expect_line(line));
+        let is_met = last.meets(alloc, line)?;
+        return String::from_str(alloc, expect_line(is_met));
     }
     if is_silent(line) {
         return Ok(String::new(alloc));
@@ -128,8 +130,8 @@ fn open_store(
     }
 }
 
-/// Does what is asked of the store that is open. An import's answer compares the node's entries with those that it had
-/// elsewhere.
+/// Does what is asked of the store that is open. The answers to an import and to a move compare the node's entries with
+/// those that it had elsewhere.
 fn done(
     alloc: Global,
     notation: Notation,
@@ -180,5 +182,10 @@ fn done(
                 &reply,
             )
         }
+        LineRequest::Moving {
+            edit,
+            source,
+            target,
+        } => moved(alloc, notation, desk, edit, &source, &target),
     }
 }

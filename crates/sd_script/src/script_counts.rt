@@ -1,14 +1,19 @@
 //! What is counted of a script's lines, beside what they are answered by.
 ghost use Rattle.std.specs.Prelude.{◌≡◌};
-ghost use Rattle.sd_script.specs.ScriptCounts.{no_lines, one_more_where, tallied, tells_fault, tells_order};
+ghost use Rattle.sd_script.specs.ScriptCounts.{alternates_with_zero, begins, has_mark, has_utf16_mark, is_carried_out};
+ghost use Rattle.sd_script.specs.ScriptCounts.{is_unmet, is_utf16, no_lines, one_more_where, tallied, tells_fault};
+ghost use Rattle.sd_script.specs.ScriptCounts.{tells_order};
 
-use crate::expect::expects;
+use crate::expect::is_expectation;
+use crate::lines::is_silent;
 
 /// What is counted of a script beside its output. Lines are counted from 1, as far as 64 bits count.
 #[derive(Clone, Copy, Debug, PartialEq, Eq)]
 pub struct ScriptCounts {
     /// How many lines were answered.
     pub lines: u64,
+    /// How many of these were carried out: not empty, no comment, no fault and not refused.
+    pub carried_out: u64,
     /// The first line that had a fault or was refused.
     pub first_fault: Option<u64>,
     /// The first line by which a node was imported that inherits otherwise than it did.
@@ -23,6 +28,8 @@ pub struct ScriptCounts {
     pub first_unmet: Option<u64>,
     /// Whether the first line begins with UTF-8's byte order mark.
     pub begins_with_mark: bool,
+    /// Whether the first line is UTF-16.
+    pub begins_as_utf16: bool,
 }
 
 impl ScriptCounts {
@@ -32,6 +39,7 @@ impl ScriptCounts {
     {
         ScriptCounts {
             lines: 0,
+            carried_out: 0,
             first_fault: None,
             first_difference: None,
             first_reordered: None,
@@ -39,6 +47,7 @@ impl ScriptCounts {
             unmet: 0,
             first_unmet: None,
             begins_with_mark: false,
+            begins_as_utf16: false,
         }
     }
 
@@ -47,9 +56,10 @@ impl ScriptCounts {
         ensures { result ≡ tallied line.now answer.now self }
     {
         let number = self.lines.saturating_add(1);
-        let is_unmet = expects(line) && tells_fault(answer);
+        let is_unmet = is_unmet(line, answer);
         ScriptCounts {
             lines: number,
+            carried_out: one_more_where(is_carried_out(line, answer), self.carried_out),
             first_fault: self.first_fault.or(tells_fault(answer).then_some(number)),
             first_difference: self
                 .first_difference
@@ -57,12 +67,19 @@ impl ScriptCounts {
             first_reordered: self
                 .first_reordered
                 .or(tells_order(answer).then_some(number)),
-            expected: one_more_where(expects(line), self.expected),
+            expected: one_more_where(is_expectation(line), self.expected),
             unmet: one_more_where(is_unmet, self.unmet),
             first_unmet: self.first_unmet.or(is_unmet.then_some(number)),
-            begins_with_mark: self.begins_with_mark
-                || (self.lines == 0 && line.starts_with(b"\xEF\xBB\xBF")),
+            begins_with_mark: self.begins(self.begins_with_mark, has_mark(line)),
+            begins_as_utf16: self.begins(self.begins_as_utf16, is_utf16(line)),
         }
+    }
+
+    /// Whether this holds of the first line: of one before, or of this one where there was none.
+    fn begins(self, before: bool, holds: bool) -> bool
+        ensures { result ≡ begins self before holds }
+    {
+        before || (self.lines == 0 && holds)
     }
 }
 
@@ -84,9 +101,49 @@ fn tells_fault(answer: &[u8]) -> bool
     answer.starts_with(b"fault ") || answer.starts_with(b"refused ")
 }
 
+/// Whether a line was carried out: it asks for something, which is neither a fault nor refused.
+fn is_carried_out(line: &[u8], answer: &[u8]) -> bool
+    ensures { result ≡ is_carried_out line.now answer.now }
+{
+    !is_silent(line) && !tells_fault(answer)
+}
+
+/// Whether a line expects an answer, and isn't answered by it.
+fn is_unmet(line: &[u8], answer: &[u8]) -> bool
+    ensures { result ≡ is_unmet line.now answer.now }
+{
+    is_expectation(line) && tells_fault(answer)
+}
+
 /// Whether the answer says that an imported node's own entries were put in another order.
 fn tells_order(answer: &[u8]) -> bool
     ensures { result ≡ tells_order answer.now }
 {
     answer == b"ok reordered\n".as_slice() || answer == b"ok differs reordered\n".as_slice()
+}
+
+fn has_mark(line: &[u8]) -> bool
+    ensures { result ≡ has_mark line.now }
+{
+    line.starts_with(b"\xEF\xBB\xBF")
+}
+
+/// Whether a line begins as UTF-16 does: with its byte order mark (RFC 2781), or with two characters, each of which has
+/// a zero byte.
+fn is_utf16(line: &[u8]) -> bool
+    ensures { result ≡ is_utf16 line.now }
+{
+    has_utf16_mark(line) || alternates_with_zero(line)
+}
+
+fn has_utf16_mark(line: &[u8]) -> bool
+    ensures { result ≡ has_utf16_mark line.now }
+{
+    matches!(line, [0xff, 0xfe, ..] | [0xfe, 0xff, ..])
+}
+
+fn alternates_with_zero(line: &[u8]) -> bool
+    ensures { result ≡ alternates_with_zero line.now }
+{
+    matches!(line, [0, _, 0, _, ..] | [_, 0, _, 0, ..])
 }

@@ -5,7 +5,7 @@ ghost use Rattle.sd_script.specs.View.{IsViewed};
 use crate::listing::{NodeFilter, Printer};
 use crate::review::review_text;
 use crate::script_options::Notation;
-use crate::who::node_who_text;
+use crate::who::{node_who_text, only_line};
 use sd_check::GroupState;
 use sd_sid::{Mask, Sid};
 use sd_tree::Path;
@@ -58,6 +58,12 @@ pub enum ViewRequest {
         groups: Groups,
         asked: Mask,
     },
+    /// Whether the node of a path grants rights of the mask to nobody but tokens with one of these groups.
+    Only {
+        path: Path,
+        groups: Groups,
+        asked: Mask,
+    },
     /// What the pending edits change of the nodes at and below a path, for all tokens.
     Review {
         path: Path,
@@ -87,6 +93,11 @@ pub(crate) fn view_text(
             groups,
             asked,
         } => node_who_text(alloc, notation.spelling, tree, path, groups, *asked),
+        ViewRequest::Only {
+            path,
+            groups,
+            asked,
+        } => only_line(alloc, tree, path, groups, *asked),
         ViewRequest::Review { path } => review_text(alloc, notation, desk, path),
     }
 }

@@ -19,17 +19,18 @@ use Rattle.sd_store.specs.declared.query.Query.{Query}
 use Rattle.sd_answer.specs.declared.verdict_lines.Spelling.{Spelling}
 use Rattle.sd_script.specs.Expect.{expects}
 use Rattle.sd_script.specs.Fault.{line_of_fault}
-use Rattle.sd_script.specs.Importing.{IsImported}
+use Rattle.sd_script.specs.Importing.{IsImported, entries_at}
+use Rattle.sd_script.specs.Moving.{IsMoved}
 use Rattle.sd_script.specs.Lines.{is_silent}
 use Rattle.sd_script.specs.Output.{IsOpened, opening_in, opens}
 use Rattle.sd_script.specs.Reply.{counted_line, refused_line, start_error_line}
 use Rattle.sd_script.specs.declared.line_request.LineRequest.{LineRequest}
-use Rattle.sd_script.specs.declared.line_request.LineRequest.TheVariants.{Opening as Opens, Asking, Importing}
+use Rattle.sd_script.specs.declared.line_request.LineRequest.TheVariants.{Opening as Opens, Asking, Importing, Moving}
 use Rattle.sd_script.specs.declared.script_options.ScriptOptions.{ScriptOptions}
 use Rattle.sd_script.specs.declared.script_options.Notation.{Notation}
 use Rattle.sd_script.specs.declared.session.Session.TheVariants.{Opened}
 use Rattle.sd_script.specs.declared.script_counts.ScriptCounts.{ScriptCounts}
-use Rattle.sd_script.proofs.OneOutput.{no_error, requested-one, step-one}
+use Rattle.sd_script.proofs.OneOutput.{no_error, requested-one, move-one, step-one}
 use Rattle.sd_script.proofs.OneReading.{line-one}
 use Rattle.sd_script.proofs.Timely.{line_opens}
 use Rattle.sd_script_audit.specs.Audit.{AreAnsweredInAudit, AsksInAudit, Audited, IsAnsweredInAudit, IsDoneInAudit, IsNextInAudit, IsToldInAudit, Progress, before_first_line, end_of, unopened}
@@ -52,10 +53,15 @@ publish_unread m new (replies.Published len) is = (is.0, ap unread is.1)
 publish_unread m new replies.Memory is = ap unread is
 publish_unread m new reply is = absurd is
 
-import_unread : (spelling : Spelling) (m : Machine) (path : Names) (given : List Ace) (reply : Reply) (p : List ℕ)
+import_unread : (spelling : Spelling) (m : Machine) (path : Names) (given : Option (List Ace)) (reply : Reply) (p : List ℕ)
     → IsImported spelling m path given reply p → IsImported spelling (unread m) path given reply p
 import_unread spelling m path given replies.Edited p is = is
 import_unread spelling m path given reply p is = is
+
+move_unread : (spelling : Spelling) (old m : Machine) (source target : Names) (reply : Reply) (p : List ℕ)
+    → IsMoved spelling (entries_at old source) m target reply p → IsMoved spelling (entries_at (unread old) source) (unread m) target reply p
+move_unread spelling old m source target replies.Edited p is = is
+move_unread spelling old m source target reply p is = is
 
 -- ---- stores that differ in their readers alone
 
@@ -102,6 +108,14 @@ module _ (n m : ℕ) (notation : Notation) (x y : Machine) (queries : List Query
       (step-one notation.spelling (unread y) (unread one.1) (unread other.1) p q e path given one.0 other.0
       (rw (← alike) (edit_unread x one.1 e one.0 one.2)) (edit_unread y other.1 e other.0 other.2)
       (import_unread notation.spelling one.1 path given one.0 p one.3) (import_unread notation.spelling other.1 path given other.0 q other.3))
+      (λ i. record { store = one.4 i; queries = kept i }) (λ i. record { store = other.4 i; queries = left i })
+  done_alike (Moving e source target) timely (one, kept) (other, left) =
+      let first = move_unread notation.spelling x one.1 source target one.0 p one.3 in
+      are_alike one.1 other.1 queries
+      (move-one notation.spelling (unread y) (unread one.1) (unread other.1) p q e (entries_at (unread y) source) target one.0 other.0
+      (rw (← alike) (edit_unread x one.1 e one.0 one.2)) (edit_unread y other.1 e other.0 other.2)
+      (subst (λ m. IsMoved notation.spelling (entries_at m source) (unread one.1) target one.0 p) alike first)
+      (move_unread notation.spelling y other.1 source target other.0 q other.3))
       (λ i. record { store = one.4 i; queries = kept i }) (λ i. record { store = other.4 i; queries = left i })
   done_alike (Asking (requests.Check reader path token asked)) timely one other =
       are_alike x y (queries ++ record { path = path; token = token; asked = asked } ∷ []) (one.0 ∙ sym other.0, alike) one.1 other.1

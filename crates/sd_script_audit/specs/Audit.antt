@@ -20,7 +20,7 @@ use Rattle.sd_script.specs.Output.{IsDone, IsOpened, is_open, script_options_of}
 use Rattle.sd_script.specs.Reply.{check_line, counted_line, seen_line}
 use Rattle.sd_script.specs.ScriptCounts.{no_lines, tallied}
 use Rattle.sd_script.specs.declared.line_request.LineRequest.{LineRequest}
-use Rattle.sd_script.specs.declared.line_request.LineRequest.TheVariants.{Opening as Opens, Asking, Importing}
+use Rattle.sd_script.specs.declared.line_request.LineRequest.TheVariants.{Opening as Opens, Asking, Importing, Moving}
 use Rattle.sd_script.specs.declared.fault.LineFault.{LineFault}
 use Rattle.sd_script.specs.declared.script_options.ScriptOptions.{ScriptOptions}
 use Rattle.sd_script.specs.declared.script_options.Notation.{Notation}
@@ -61,6 +61,8 @@ IsDoneInAudit workers old (Asking (Edit edit)) printed new = IsDoneAsInScript ol
 IsDoneInAudit workers old (Asking Publish) printed new = IsDoneAsInScript old (Asking Publish) printed new
 IsDoneInAudit workers old (Importing edit path given) printed new =
     IsDoneAsInScript old (Importing edit path given) printed new
+IsDoneInAudit workers old (Moving edit source target) printed new =
+    IsDoneAsInScript old (Moving edit source target) printed new
 IsDoneInAudit workers old asked printed new = IsForScripts old printed new
 
 -- a line is told a text and nothing is done: it is silent, or expects an answer, which scripts alone do, or has a fault

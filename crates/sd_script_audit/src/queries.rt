@@ -2,16 +2,22 @@
 
 ghost use Rattle.std.specs.Prelude.{◌≡◌, ℕ, false, IfOk, IfSome, string_bytes};
 ghost use Rattle.sd_edit.specs.Machine.{Steps};
+ghost use Rattle.sd_edit.specs.declared.request.Reply.{Reply as Replies};
 ghost use Rattle.sd_edit.specs.declared.request.Request.TheVariants as asked;
+ghost use Rattle.sd_script.specs.Importing.{entries_at};
+ghost use Rattle.sd_script.specs.Moving.{IsMoved};
 ghost use Rattle.sd_script.specs.Output.{opens};
 ghost use Rattle.sd_script_audit.specs.Audit.{IsNextInAudit};
 ghost use Rattle.sd_script_audit.specs.Parts.{IsDoneOrTold, audited, machine_of, progress};
 
 use crate::line::{asked_or_told, only_in_scripts};
+use sd_answer::Spelling;
 use sd_lines::AnswersLines;
-use sd_script::{LineRequest, Notation, ScriptCounts, import_line, reply_line};
+use sd_script::{
+    LineRequest, Notation, ScriptCounts, entries_at, import_line, move_line, reply_line,
+};
 use sd_store::{EditError, PublishError, Query, StoreId, StoreWriter};
-use sd_tree::Edit;
+use sd_tree::{Edit, Path};
 use sd_versions::{Reply, Request};
 use std::alloc::{AllocError, Global};
 use std::marker::PhantomData;
@@ -63,7 +69,7 @@ impl<J: StoreId, T: Wait> AnswersLines for Queries<'_, J, T> {
 
 impl<J: StoreId, T: Wait> Queries<'_, J, T> {
     /// What is asked is done, and answered by this; what a line is told is its answer. A check is kept, and what only a
-    /// script does is a fault. After an import the node is compared in the tree of all accepted edits.
+    /// script does is a fault. After an import or a move the node is compared in the tree of all accepted edits.
     fn done(
         &self,
         alloc: Global,
@@ -102,11 +108,37 @@ impl<J: StoreId, T: Wait> Queries<'_, J, T> {
                 let reply = edit_reply(writer, &edit);
                 import_line(alloc, spelling, writer.draft(), &path, &given, &reply)
             }
+            Ok(
+                LineRequest::Moving {
+                    edit,
+                    source,
+                    target,
+                },
+            ) => moved(alloc, spelling, writer, &edit, &source, &target),
             Ok(LineRequest::Opening { .. }) => unreachable!(),
             Ok(_) => only_in_scripts(alloc),
             Err(told) => told.ok_or(AllocError),
         }
     }
+}
+
+/// Moves a node, and compares its entries in the tree of all accepted edits.
+fn moved<J: StoreId>(
+    alloc: Global,
+    spelling: Spelling,
+    writer: &mut StoreWriter<J>,
+    edit: &Edit,
+    source: &Path,
+    target: &Path,
+) -> Result<String, AllocError>
+    ensures { (readers : ℕ) → let old = machine_of J.opening readers writer.old in
+        let new = machine_of J.opening readers writer.new in
+        IfOk result (λ text. (reply : Replies) × Steps old (asked.Edit edit.now) reply new
+        × IsMoved spelling (entries_at old source.now) new target.now reply (string_bytes text)) }
+{
+    let before = entries_at(alloc, writer.draft(), source)?;
+    let reply = edit_reply(writer, edit);
+    move_line(alloc, spelling, &before, writer.draft(), target, &reply)
 }
 
 /// The reply to an edit.

@@ -36,9 +36,9 @@ Options go before the command, and before 'each' those of its command except '--
 Statuses:
   0  the text was printed, the rights were granted, or the script was carried out to its end
   1  an argument is invalid: its fault was printed, and standard error names the argument; or a
-     verdict other than granted, a finding of 'lint', a line that 'each' answered with status 1, an
-     answer that a script expects and isn't given, or with '--strict' a line that has a fault or was
-     refused, or an import that isn't answered 'ok'
+     verdict other than granted, a finding of 'lint', a line that 'each' answered with status 1; no
+     line of a script was carried out, an answer that it expects wasn't given, or with '--strict' a
+     line has a fault or was refused, or an import isn't answered 'ok'
   2  the arguments aren't a valid command line
   3  out of memory, an input error, an input or line that is too long, an output error, or no
      answers from the workers of an audit
@@ -201,9 +201,13 @@ none. 'why', 'find', 'list', 'dump', 'who' and 'review' have several, the last o
   dacl PATH SDDL                       sets the node's own DACL
   remove PATH                          removes a node without children
   protect PATH                         protects the node: its inherited entries become its own
-  move PATH PATH                       moves the node, and all below it, to the second path
-  import KIND PATH SDDL                adds a 'container' or 'object' (KIND) with its descriptor
-                                       from elsewhere, without inherited entries, in canonical order
+  move PATH PATH                       moves the node, and all below it, to the second path, where they
+                                       inherit again: Windows keeps their entries within a volume;
+                                       'ok reinherited' says that the node's entries are others then
+  import KIND PATH SDDL                adds a 'container' or 'object' (KIND) with its descriptor from
+                                       elsewhere, in canonical order; in place of the entries that it
+                                       inherited there are those that it inherits here: 'ok differs'
+                                       says that they are others
   publish                              publishes all pending edits
   tell                                 prints the length of the published journal
   learn I L                            informs reader I of a journal of length L
@@ -216,17 +220,20 @@ none. 'why', 'find', 'list', 'dump', 'who' and 'review' have several, the last o
   who PATH MASK [WORD]...              prints whom the published node grants which rights
   review [PATH]                        prints which users gain or lose rights by the pending edits
   dump                                 prints the published tree as a script that makes it
-  expect ANSWER                        compares the first line of the last answer with ANSWER
+  expect ANSWER                        compares the last answer with ANSWER, its lines joined by '\\n'
+  expect-only PATH MASK [SID]...       compares whom the published node itself grants rights of the
+                                       mask with the SIDs: 'ok' if it is nobody else
 
 Generic rights are mapped by '--mapping KIND' before 'script', and without it as those of a file:
 'sdstore help verdict' lists the kinds. With '--percent' before 'script' paths are percent-encoded.
 '--nodes N' and '--edits N' before 'script' limit the tree and its journal.
 
 Statuses:
-  0  the script was carried out to its end, even with faults and refusals
-  1  an expected answer wasn't given; with '--strict', a line had a fault or was refused, or an import
-     wasn't answered 'ok': standard error reports the first line of each kind; or the value of an
-     option is invalid: its fault was printed, and no input was read
+  0  the script was carried out to its end, even if some lines had a fault or were refused
+  1  each line had a fault or was refused, or there was none; an expected answer wasn't given; with
+     '--strict', a line had a fault or was refused, or an import wasn't answered 'ok': standard error
+     reports the first line of each kind; or the value of an option is invalid: its fault was printed,
+     and no input was read
   2  the arguments aren't a valid command line
   3  out of memory, an input error, more than 16777216 bytes of input, or an output error";
 
@@ -242,10 +249,11 @@ An id has printable ASCII characters, and doesn't begin with '#'. A line without
 and its answer has none. An id alone isn't answered.
 
 Statuses:
-  0  the script was carried out to its end, even with faults and refusals
-  1  an expected answer wasn't given; with '--strict', a line had a fault or was refused, or an import
-     wasn't answered 'ok': standard error reports the first line of each kind; or the value of an
-     option is invalid: its fault was printed, and no input was read
+  0  the script was carried out to its end, even if some lines had a fault or were refused
+  1  each line had a fault or was refused, or there was none; an expected answer wasn't given; with
+     '--strict', a line had a fault or was refused, or an import wasn't answered 'ok': standard error
+     reports the first line of each kind; or the value of an option is invalid: its fault was printed,
+     and no input was read
   2  the arguments aren't a valid command line
   3  out of memory, an input error, a line of more than 16777216 bytes, or an output error. The
      complete lines before are answered; after an output error a prefix of the answers was written";
@@ -254,16 +262,17 @@ const AUDIT_NOTES: &str = "\
 Has the output of 'sdstore script', except for these lines:
   open N SDDL                          opens the store with a reader for each worker
   check I PATH USER MASK [WORD]...     is answered at the end, for any number I
-  tell, learn, why, find, delete, show, list, dump, who, review, expect
+  tell, learn, why, find, delete, show, list, dump, who, review, expect, expect-only
                                        are faults
 At the end all accepted edits are published, and then the checks are answered, in order.
 Options go before 'audit', as before 'script'.
 
 Statuses:
-  0  the audit was carried out to its end, even with faults and refusals
-  1  an expected answer wasn't given; with '--strict', a line had a fault or was refused, or an import
-     wasn't answered 'ok': standard error reports the first line of each kind; or the value of an
-     option is invalid: its fault was printed, and no input was read
+  0  the audit was carried out to its end, even if some lines had a fault or were refused
+  1  each line had a fault or was refused, or there was none; an expected answer wasn't given; with
+     '--strict', a line had a fault or was refused, or an import wasn't answered 'ok': standard error
+     reports the first line of each kind; or the value of an option is invalid: its fault was printed,
+     and no input was read
   2  the arguments aren't a valid command line
   3  out of memory, an input error, more than 16777216 bytes of input, an output error, or no
      answers from the workers";

@@ -43,7 +43,7 @@ class Model:
         self._known.clear()
         for line in lines:
             answer = self._ask(line)
-            if answer != "ok":
+            if answer.split(" ")[0] != "ok":
                 return REFUSALS[int(answer.split()[1])]
             words = line.split(" ")
             if words[0] in ("addc", "addo"):

@@ -1,0 +1,8 @@
+-- What is left of the lines is spelled after what came so far.
+use Rattle.std.proofs.Common.{◌≡◌, ◌++◌, drop}
+use Rattle.std.specs.List.{flat_map}
+use Rattle.sd_script.specs.Expect.{spelled_byte}
+use Rattle.sd_script.proofs.expect.spelled.Given as goal
+
+abbrev pub invariant-loop-byte : goal.invariant-loop-byte
+invariant-loop-byte l = flat_map spelled_byte l.lines ≡ l.text.items ++ flat_map spelled_byte (drop l.byte-index l.lines)

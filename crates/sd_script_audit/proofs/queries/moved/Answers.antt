@@ -1,0 +1,19 @@
+-- The node's entries before are those in the tree of all edits that were accepted until then.
+use Rattle.std.proofs.Common.{◌≡◌, ◌∙◌, refl, string_bytes, subst, sym}
+use Rattle.std.proofs.lemmas.Result.{IfOk-weaker}
+use Rattle.sd_script.specs.Importing.{entries_at}
+use Rattle.sd_script.specs.Moving.{IsMoved}
+use Rattle.sd_script_audit.specs.Parts.{machine_of}
+use Rattle.sd_script_audit.proofs.queries.moved.Goals as goal
+
+pub returns : goal.returns
+returns g c = λ readers.
+    let old = machine_of g.J.StoreId.opening readers c.args.writer.now in
+    let new = machine_of g.J.StoreId.opening readers c.edit_reply-reply.new.writer in
+    let same : c.deref.result.now ≡ entries_at old c.args.source.now =
+    c.deref.ensures.value ∙ c.in_ok-before.ensures ∙ (rw (c.draft.ensures.opening, c.draft.ensures.journal) refl) in
+    IfOk-weaker c.move_line.result _ _ (λ text said. (
+      c.edit_reply-reply.result,
+      c.edit_reply-reply.ensures readers,
+      subst (λ before. IsMoved c.args.spelling before new c.args.target.now c.edit_reply-reply.result (string_bytes text)) same said,
+    )) (c.move_line.ensures new (sym c.draft-2.ensures.opening) (sym c.draft-2.ensures.journal))
