@@ -93,7 +93,7 @@ abbrev pub entries_in : Dacl → List Ace
 entries_in (dacls.List entries) = entries
 entries_in dacl = []
 
--- those of a descriptor that has a DACL; a null one has none
+-- the entries of a descriptor that has a DACL; a null one has none
 abbrev pub given_in : Dacl → Option (List Ace)
 given_in dacls.Absent = None
 given_in dacl = Some (entries_in dacl)
