@@ -10,10 +10,10 @@ use std::alloc::{AllocError, Global};
 
 /// The outcome of a script, the worst of its lines: a fault where none was carried out, or with `strict` where one had
 /// a fault or was refused; else a refusal where an expected answer wasn't given, or with `strict` where a line imported
-/// a node whose entries differ from what they were. The notes for standard error: that no line was carried out, and what
-/// mends that; that the script begins with a byte order mark; the first line whose node inherits otherwise than it did,
-/// and the first whose node's own entries were put in order; with `strict` the first fault or refusal; how many answers
-/// were expected, and weren't given. No notes if out of memory: the output is there by then.
+/// a node whose entries differ from what they were. The notes for standard error: that no line was carried out, and
+/// what mends that; that the script begins with a byte order mark; the first line whose node inherits otherwise than it
+/// did, and the first whose node's own entries were put in order; with `strict` the first fault or refusal; how many
+/// answers were expected, and weren't given. No notes if out of memory: the output is there by then.
 #[tactic(auto, unfolding(crate::specs::Scripts::script_outcome))]
 pub(crate) fn end_of_script(alloc: Global, strict: bool, counts: &ScriptCounts) -> Ended
     ensures told { IsToldOfScript strict counts.now (string_bytes result.told) }
