@@ -29,7 +29,7 @@ impl LastAnswer {
         LastAnswer { answer: None }
     }
 
-    /// The first line of this answer. The only error is out of memory.
+    /// This whole answer, with all its lines. The only error is out of memory.
     pub(crate) fn of(alloc: Global, answer: &[u8]) -> Result<LastAnswer, AllocError>
         ensures { IfOk result (λ last. last ≡ Some answer.now) }
     {
