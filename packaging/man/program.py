@@ -80,10 +80,12 @@ class Program:
         self.commands = {name: read_help(self._says("help", name)) for name in self.names}
 
     def values_of(self, option: Described) -> list[str]:
-        """The possible values of an option, where the help lists them: with the option, or those of --mapping in the
-        table of the generic rights."""
+        """The possible values of an option, where the help lists them: with the option, those of --logon in quotes, and
+        those of --mapping in the table of the generic rights."""
         if "--mapping" in option.names:
             return re.findall(r"^  ([a-z]+) +GR 0x", self.commands["verdict"].notes, re.MULTILINE)
+        if "--logon" in option.names:
+            return re.findall("'([a-z]+)'", option.text)
         return option.values
 
     @property
