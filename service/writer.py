@@ -259,11 +259,14 @@ class Writer:
             view.close()
 
     def _reload(self) -> None:
-        """Makes the store that of the journal; if it isn't known how that ends, it is read again, as at a start.
-        Readers keep what was published, which is on disk."""
-        if not self._before.restore(self.state, self.journal.last_place()):
-            self._go_on_in(load(self.journal))
+        """Makes the store that of the journal; if it isn't known how that ends, it is read again, as at a start."""
+        if self._before.restore(self.state, self.journal.last_place()):
+            self.is_lost = False
+            return
+        self._go_on_in(load(self.journal))
         self.is_lost = False
+        # (readers see it at once: a publish closes a view that they don't, and the next commit may fail too)
+        self._answer([])
 
     def _may_try_again(self) -> bool:
         """Whether a failed commit is all that edits wait for. A service that leads by a lease asks whether it leads."""

@@ -136,6 +136,22 @@ class Batches(rig.Case):
                 self.doCleanups()
                 self.setUp()
 
+    def test_a_commit_that_fails_after_the_journal_was_read_again(self) -> None:
+        """What the store goes back to isn't closed by the publish that failed."""
+        append, failed = Journal.append, list[object]()
+
+        def fail(journal: Journal, lines: list[object]) -> None:
+            if not failed:
+                failed.append(lines)
+                raise sqlite3.OperationalError("disk I/O error")
+            append(journal, lines)
+
+        self.writer.is_lost = True
+        with mock.patch.object(Journal, "append", fail), mock.patch("writer.MOST_AT_ONCE", 2):
+            answers = self.run_all(*(self.task(line) for line in (ADD.format("a"), "publish", ADD.format("b"), "publish")))
+        self.assertEqual(answers, [[UNAVAILABLE], [UNAVAILABLE], ["ok"], ["published 1"]])
+        self.assertEqual(self.nodes(), ["/b"])
+
     def test_memory(self) -> None:
         """Out of memory at any of them: none is made."""
         with mock.patch("tree.Tree.publish", side_effect=MemoryError):
