@@ -85,7 +85,7 @@ class Program:
         if "--mapping" in option.names:
             return re.findall(r"^  ([a-z]+) +GR 0x", self.commands["verdict"].notes, re.MULTILINE)
         if "--logon" in option.names:
-            return re.findall("'([a-z]+)'", option.text)
+            return [each for each in re.findall("'([a-z]+)'", option.text) if each not in self.names]
         return option.values
 
     @property

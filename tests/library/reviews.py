@@ -47,7 +47,8 @@ def replies(lines):
         reply = [next(said)]
         while line == "review" and reply[-1] != "":
             reply.append(next(said))
-        yield "\n".join(reply[:-2] if line == "review" else reply)
+        # (the library doesn't say what a moved node inherits at its new place)
+        yield "\n".join(reply[:-2] if line == "review" else reply).removesuffix(" reinherited")
 
 
 def reply_of(store, line):
