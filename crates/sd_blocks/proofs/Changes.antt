@@ -1,12 +1,5 @@
 -- What a split, an insertion and a removal do to the blocks.
-use Rattle.std.proofs.Common.{◌≡◌, ℕ, zero, suc, ◌+◌, ◌-◌, ◌<◌, ◌≤◌, List, [], ◌∷◌, ◌++◌, length, get_or, take, drop, map, refl, arith, ap, sym, ◌∙◌, length-append, append_assoc, add-one, Result, Ok, Err, OnOk, OnErr}
-use Rattle.std.proofs.Math.ListN.{set}
-use Rattle.std.specs.List.{insert, remove}
-use Rattle.std.proofs.lemmas.List.{take-append-drop, drop-set-lt, get_or-drop, length-drop, nil_from_length}
-use Rattle.std.proofs.lemmas.List.Edits.{insert-append_left, insert-append_right, length-insert, remove-append_left, remove-append_right, length-remove}
-use Rattle.std.proofs.lemmas.List.Concat.{flat_map-append}
-use Rattle.std.proofs.lemmas.List.Folds.{length-flat_map-take}
-use Rattle.sd_blocks.specs.Stored.{joined, StartFrom, IsBlockOf, AreHalves, up, down}
+use Rattle.sd_blocks.proofs.Cited.{AreHalves, Err, IsBlockOf, List, Ok, OnErr, OnOk, Result, StartFrom, [], add-one, ap, append_assoc, arith, down, drop, drop-set-lt, flat_map-append, get_or, get_or-drop, insert, insert-append_left, insert-append_right, joined, length, length-append, length-drop, length-flat_map-take, length-insert, length-remove, map, nil_from_length, refl, remove, remove-append_left, remove-append_right, set, suc, sym, take, take-append-drop, up, zero, ℕ, ◌++◌, ◌+◌, ◌-◌, ◌<◌, ◌∙◌, ◌∷◌, ◌≡◌, ◌≤◌}
 use Rattle.sd_blocks.proofs.Written.{joined_round, joined_set, starts_set}
 use Rattle.sd_blocks.proofs.Starts.{start_at}
 

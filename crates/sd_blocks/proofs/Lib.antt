@@ -1,3 +1,4 @@
+pub mod Cited
 pub mod Changes
 pub mod Parts
 pub mod RunSteps

@@ -1,9 +1,5 @@
 -- Some of a list's blocks, as a list.
-use Rattle.std.proofs.Common.{◌≡◌, ℕ, zero, suc, ◌+◌, ◌-◌, ◌<◌, ◌≤◌, List, [], ◌∷◌, ◌++◌, length, get_or, take, drop, map, refl, arith, ap, sym, ◌∙◌, length-append}
-use Rattle.std.proofs.lemmas.List.{take-append-drop}
-use Rattle.std.proofs.lemmas.List.Concat.{flat_map-append}
-use Rattle.sd_blocks.specs.Stored.{joined, StartFrom, lowered}
-use Rattle.sd_blocks.specs.Runs.{AreParts}
+use Rattle.sd_blocks.proofs.Cited.{AreParts, List, StartFrom, [], ap, arith, drop, flat_map-append, get_or, joined, length, length-append, lowered, map, refl, suc, sym, take, take-append-drop, zero, ℕ, ◌++◌, ◌+◌, ◌-◌, ◌<◌, ◌∙◌, ◌∷◌, ◌≡◌, ◌≤◌}
 use Rattle.sd_blocks.proofs.Starts.{start_at}
 use Rattle.sd_blocks.proofs.Searched.{start_within}
 

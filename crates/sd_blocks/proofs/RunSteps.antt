@@ -1,9 +1,5 @@
 -- A run that is removed or inserted element by element.
-use Rattle.std.proofs.Common.{◌≡◌, ℕ, ◌+◌, ◌-◌, ◌<◌, ◌≤◌, List, [], ◌∷◌, ◌++◌, length, take, drop, arith, ap, sym, ◌∙◌, length-append, append_assoc}
-use Rattle.std.specs.List.{insert, remove}
-use Rattle.std.proofs.lemmas.List.{take-append-drop, take_at, drop_at, drop-drop, length-take, length-drop}
-use Rattle.std.proofs.lemmas.List.Edits.{remove-append_right}
-use Rattle.sd_blocks.specs.Runs.{without_run, with_run}
+use Rattle.sd_blocks.proofs.Cited.{List, [], ap, append_assoc, arith, drop, drop-drop, drop_at, insert, length, length-append, length-drop, length-take, remove, remove-append_right, sym, take, take-append-drop, take_at, with_run, without_run, ℕ, ◌++◌, ◌+◌, ◌-◌, ◌<◌, ◌∙◌, ◌∷◌, ◌≡◌, ◌≤◌}
 
 module _ {T : Type 0} where
   front_length : (n : ℕ) (xs : List T) → n ≤ length xs → length (take n xs) ≡ n

@@ -1,15 +1,5 @@
 -- A search over blocks is one over the list.
-use Rattle.std.proofs.Common.{◌≡◌, ℕ, zero, suc, ◌+◌, ◌-◌, ◌<◌, ◌≤◌, List, [], ◌∷◌, length, get_or, take, refl, arith, ap, sym, ◌∙◌, inl, inr}
-use Rattle.std.specs.List.{AllWithin, HoldsAt}
-use Rattle.std.specs.List.Sorted.{IsNonDecreasingBy, IsPartitionPoint}
-use Rattle.std.specs.Ordering.{ordering_index}
-use Rattle.std.specs.declared.cmp.Ordering.{Ordering}
-use Rattle.std.specs.declared.cmp.Ordering.TheVariants.{Less, Equal, Greater}
-use Rattle.std.proofs.lemmas.Bool.{cases_lt}
-use Rattle.std.proofs.lemmas.List.{get_or_default}
-use Rattle.std.proofs.lemmas.List.Concat.{get_or-flat_map}
-use Rattle.std.proofs.lemmas.List.Folds.{length-flat_map-take}
-use Rattle.sd_blocks.specs.Stored.{joined, StartFrom}
+use Rattle.sd_blocks.proofs.Cited.{AllWithin, Equal, Greater, HoldsAt, IsNonDecreasingBy, IsPartitionPoint, Less, List, Ordering, StartFrom, [], ap, arith, cases_lt, get_or, get_or-flat_map, get_or_default, inl, inr, joined, length, length-flat_map-take, ordering_index, refl, suc, sym, take, zero, ℕ, ◌+◌, ◌-◌, ◌<◌, ◌∙◌, ◌∷◌, ◌≡◌, ◌≤◌}
 use Rattle.sd_blocks.proofs.Starts.{joined_more, start_here}
 
 least : (o : Ordering) → ordering_index o ≤ 0 → o ≡ Less

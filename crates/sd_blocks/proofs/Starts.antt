@@ -1,8 +1,5 @@
 -- Where the blocks of a list start.
-use Rattle.std.proofs.Common.{◌≡◌, ℕ, zero, suc, ◌+◌, ◌<◌, ◌≤◌, List, [], ◌∷◌, length, get_or, take, arith, ap, sym, ◌∙◌, length-append, add-one, ◌⊎◌, inl, inr}
-use Rattle.std.proofs.lemmas.List.{take_all}
-use Rattle.std.proofs.lemmas.Bool.{cases_lt}
-use Rattle.sd_blocks.specs.Stored.{joined, StartFrom, IsBlockOf}
+use Rattle.sd_blocks.proofs.Cited.{IsBlockOf, List, StartFrom, [], add-one, ap, arith, cases_lt, get_or, inl, inr, joined, length, length-append, suc, sym, take, take_all, zero, ℕ, ◌+◌, ◌<◌, ◌∙◌, ◌∷◌, ◌≡◌, ◌≤◌, ◌⊎◌}
 
 -- the k-th block starts behind the blocks before it
 pub start_at : {T : Type 0} (n : ℕ) (bs : List (ℕ × List T)) (k : ℕ) (d : ℕ × List T) → StartFrom n bs → k < length bs → (get_or bs k d).0 ≡ n + length (joined (take k bs))

@@ -1,9 +1,5 @@
 -- A run of a block is one of the list.
-use Rattle.std.proofs.Common.{◌≡◌, ℕ, suc, ◌+◌, ◌-◌, ◌<◌, ◌≤◌, List, ◌++◌, length, get_or, take, drop, arith, ap, sym, ◌∙◌}
-use Rattle.std.proofs.Math.Seq.{drop-append-add}
-use Rattle.std.proofs.lemmas.List.{drop-append-le, take-append-le, length-take}
-use Rattle.sd_blocks.specs.Runs.{IsRunAt}
-use Rattle.sd_blocks.specs.Stored.{joined, IsBlockOf}
+use Rattle.sd_blocks.proofs.Cited.{IsBlockOf, IsRunAt, List, ap, arith, drop, drop-append-add, drop-append-le, get_or, joined, length, length-take, suc, sym, take, take-append-le, ℕ, ◌++◌, ◌+◌, ◌-◌, ◌<◌, ◌∙◌, ◌≡◌, ◌≤◌}
 use Rattle.sd_blocks.proofs.Written.{joined_round}
 
 pub run_joined : {T : Type 0} (bs : List (ℕ × List T)) (at k : ℕ) (b : ℕ × List T) (start : ℕ) (ys : List T) → IsBlockOf bs at k → at < length (joined bs) → b ≡ get_or bs k b → start ≡ b.0 → IsRunAt b.1 (at - start) ys → IsRunAt (joined bs) at ys

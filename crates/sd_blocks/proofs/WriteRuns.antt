@@ -1,10 +1,5 @@
 -- A run that is written over as many elements, block by block.
-use Rattle.std.proofs.Common.{◌≡◌, ℕ, suc, ◌+◌, ◌-◌, ◌<◌, ◌≤◌, List, ◌++◌, length, get_or, take, drop, arith, ap, sym, ◌∙◌, append_assoc, Result, Ok, Err, OnOk}
-use Rattle.std.proofs.Math.ListN.{set}
-use Rattle.std.proofs.Math.Seq.{take-append-add, drop-append-add}
-use Rattle.std.proofs.lemmas.List.{take-append-drop, take-append-le, drop-append-le, take-take, drop_at, length-drop, length-take-le}
-use Rattle.sd_blocks.specs.Runs.{written}
-use Rattle.sd_blocks.specs.Stored.{joined, IsBlockOf}
+use Rattle.sd_blocks.proofs.Cited.{Err, IsBlockOf, List, Ok, OnOk, Result, ap, append_assoc, arith, drop, drop-append-add, drop-append-le, drop_at, get_or, joined, length, length-drop, length-take-le, set, suc, sym, take, take-append-add, take-append-drop, take-append-le, take-take, written, ℕ, ◌++◌, ◌+◌, ◌-◌, ◌<◌, ◌∙◌, ◌≡◌, ◌≤◌}
 use Rattle.sd_blocks.proofs.Written.{joined_round, joined_set}
 
 module _ {T : Type 0} where

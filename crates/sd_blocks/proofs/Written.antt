@@ -1,9 +1,5 @@
 -- What a change of one block does to the list.
-use Rattle.std.proofs.Common.{◌≡◌, ℕ, zero, suc, ◌+◌, ◌-◌, ◌<◌, List, [], ◌∷◌, ◌++◌, length, get_or, take, drop, refl, arith, ap, sym, ◌∙◌, length-append, append_assoc, Result, Ok, Err, OnOk}
-use Rattle.std.proofs.Math.ListN.{set}
-use Rattle.std.proofs.lemmas.List.{set-append_left, set-append_right}
-use Rattle.std.proofs.lemmas.List.Concat.{get_or-flat_map}
-use Rattle.sd_blocks.specs.Stored.{joined, StartFrom, IsBlockOf}
+use Rattle.sd_blocks.proofs.Cited.{Err, IsBlockOf, List, Ok, OnOk, Result, StartFrom, [], ap, append_assoc, arith, drop, get_or, get_or-flat_map, joined, length, length-append, refl, set, set-append_left, set-append_right, suc, sym, take, zero, ℕ, ◌++◌, ◌+◌, ◌-◌, ◌<◌, ◌∙◌, ◌∷◌, ◌≡◌}
 
 -- the list round one block
 pub joined_round : {T : Type 0} (bs : List (ℕ × List T)) (k : ℕ) (d : ℕ × List T) → k < length bs → joined bs ≡ joined (take k bs) ++ ((get_or bs k d).1 ++ joined (drop (suc k) bs))

@@ -1,6 +1,6 @@
 -- That masks computed from masks are those of the tests on places.
 use Rattle.std.proofs.Common.{◌≡◌, ℕ, ◌<◌, Bool, true, false, ◌&&◌, ◌||◌, not, nat_lt, refl, ◌∙◌, ap, arith, List, Option, Some, None}
-use Rattle.sd_check.proofs.Words.{agree_below_at, holds, mask_of, MappingValue, holds_place, mask_of-alike, missing_of, most_of, joined_with, is_implied, maximum_verdict, Ace, and_comm}
+use Rattle.sd_check.proofs.Cited.{agree_below_at, holds, mask_of, MappingValue, holds_place, mask_of-alike, missing_of, most_of, joined_with, is_implied, maximum_verdict, Ace, and_comm}
 use Rattle.sd_check.proofs.Given.{implied_low}
 
 pub holds_object : (b : ℕ) → b < 32 → holds 0x001FFFFF b ≡ nat_lt b 21

@@ -1,6 +1,6 @@
 -- The chains of a token's index: one more group, one more SID at a place, and a walk along a chain.
 use Rattle.std.proofs.Common.{◌≡◌, ℕ, suc, zero, ◌+◌, ◌-◌, ◌<◌, ◌≤◌, ◌⊎◌, inl, inr, Bool, true, false, ◌&&◌, ◌||◌, List, [], ◌∷◌, length, get_or, set, take, drop, refl, sym, ◌∙◌, ap, subst, arith, length-set, replicate}
-use Rattle.sd_check.proofs.Words.{AceKind, a_group_stands_for, and_parts, cases_eq, cases_lt, false≢true, SidValue, same_sid, same_sid-true, Deny, GroupState, counts, list_any, list_any_more, false_from_ne_true, get_or_default, get_or-set_other, get_or-replicate, length-replicate, OnChain, here, behind, IsIndex, IsMarked, Keeps, MarksEach, owner_rights, or_cases, list_any_at, eqb-true, may_hold, place_of, get_or-eq_default}
+use Rattle.sd_check.proofs.Cited.{AceKind, a_group_stands_for, and_parts, cases_eq, cases_lt, false≢true, SidValue, same_sid, same_sid-true, Deny, GroupState, counts, list_any, list_any_more, false_from_ne_true, get_or_default, get_or-set_other, get_or-replicate, length-replicate, OnChain, here, behind, IsIndex, IsMarked, Keeps, MarksEach, owner_rights, or_cases, list_any_at, eqb-true, may_hold, place_of, get_or-eq_default}
 use Rattle.std.proofs.lemmas.Grind.{get_or-set_at}
 use Rattle.sd_check.specs.declared.token.GroupState.TheVariants.{Enabled, DenyOnly, Disabled}
 

@@ -1,6 +1,6 @@
 -- What is granted without an entry, as masks.
 use Rattle.std.proofs.Common.{◌≡◌, ℕ, ◌<◌, Bool, true, false, ◌&&◌, ◌||◌, ◌==◌, nat_lt, cond, refl, sym, ◌∙◌, arith}
-use Rattle.sd_check.proofs.Words.{agree_below_at, eqb-true, nat_tests, and-false, holds, mask_of, holds_when, mask_of-alike, is_implied}
+use Rattle.sd_check.proofs.Cited.{agree_below_at, eqb-true, nat_tests, and-false, holds, mask_of, holds_when, mask_of-alike, is_implied}
 use Rattle.sd_check.proofs.LowMasks.{no_places}
 
 holds_owners : (b : ℕ) → b < 32 → holds 0x00060000 b ≡ (b == 17 || b == 18)

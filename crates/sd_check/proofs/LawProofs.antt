@@ -1,6 +1,6 @@
 -- The proofs of the laws.
 use Rattle.std.proofs.Common.{◌≡◌, ℕ, ◌^◌, ◌<◌, Bool, true, false, ◌&&◌, ◌||◌, not, ◌==◌, nat_lt, cond, List, [], ◌∷◌, ◌++◌, Option, Some, None, inl, inr, refl, sym, ◌∙◌, ap, arith, find}
-use Rattle.sd_check.proofs.Words.{and_parts, ltb-true, cases_Bool, cases_eq, or_left, or_right, false≢true, lt-ltb, ne_eqb, cond-true, cond-false, and-false, bit_at-pow_same, bit_at-pow_other, bit_at-zero, holds, MappingValue, mapped, SidValue, same_sid-true, holds_place, holds-mask_of, mask_of-alike, is_allow, is_inherit_only, decides, is_allowed_by, is_limit, first, limits_owner, subject, judged, missing_of, joined_with, reserved_of, without_maximum, applies, applies_again, stands_for_subject, is_granted, is_given, is_listed, Ace, AceKind, Allow, Deny, Verdict, Granted, Denied, TokenValue, AllByRecursion, list_any, or_cases, le-ltb, find-append, list_any-append, option_or}
+use Rattle.sd_check.proofs.Cited.{and_parts, ltb-true, cases_Bool, cases_eq, or_left, or_right, false≢true, lt-ltb, ne_eqb, cond-true, cond-false, and-false, bit_at-pow_same, bit_at-pow_other, bit_at-zero, holds, MappingValue, mapped, SidValue, same_sid-true, holds_place, holds-mask_of, mask_of-alike, is_allow, is_inherit_only, decides, is_allowed_by, is_limit, first, limits_owner, subject, judged, missing_of, joined_with, reserved_of, without_maximum, applies, applies_again, stands_for_subject, is_granted, is_given, is_listed, Ace, AceKind, Allow, Deny, Verdict, Granted, Denied, TokenValue, AllByRecursion, list_any, or_cases, le-ltb, find-append, list_any-append, option_or}
 use Rattle.sd_sid.specs.Mask.{mask_of}
 use Rattle.std.proofs.Math.Pow.{pow_pos}
 use Rattle.std.proofs.lemmas.Nat.{pow_below}

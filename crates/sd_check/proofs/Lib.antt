@@ -1,4 +1,4 @@
-pub mod Words
+pub mod Cited
 pub mod LowMasks
 pub mod Given
 pub mod Chains

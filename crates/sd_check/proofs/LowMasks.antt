@@ -1,6 +1,6 @@
 -- Requests for some of the object's own rights and the standard ones alone, the places below 21.
 use Rattle.std.proofs.Common.{◌≡◌, ℕ, ◌^◌, ◌<◌, ◌≤◌, Bool, true, false, ◌&&◌, not, ◌==◌, inl, inr, refl, sym, ◌∙◌, ap, arith}
-use Rattle.sd_check.proofs.Words.{agree_below_at, cases_lt, lt-ltb, nat_tests, bit_at_above, and-true, or-false, holds, MappingValue, mapped, is_mapped, is_mask_of, mask_of-alike, reserved_of, without_maximum, answered, judged, missing_of, plain_verdict, wanted_bits}
+use Rattle.sd_check.proofs.Cited.{agree_below_at, cases_lt, lt-ltb, nat_tests, bit_at_above, and-true, or-false, holds, MappingValue, mapped, is_mapped, is_mask_of, mask_of-alike, reserved_of, without_maximum, answered, judged, missing_of, plain_verdict, wanted_bits}
 use Rattle.sd_sid.specs.Mask.{mask_of}
 
 -- such a mask has no place from 21 on

@@ -1,6 +1,6 @@
 -- Where more bits are granted, a request that was granted is granted still, with all that it had.
 use Rattle.std.proofs.Common.{◌≡◌, ℕ, ◌<◌, Bool, true, false, not, ◌&&◌, ◌||◌, ◌==◌, sym, ◌∙◌, ap, arith, inl, inr, eqb-true, eq-eqb}
-use Rattle.sd_check.proofs.Words.{false≢true, cases_Bool, bit_at-zero, holds, mask_of, MappingValue, mapped, holds_place, mask_of-alike, judged, missing_of, joined_with, without_maximum, Granted}
+use Rattle.sd_check.proofs.Cited.{false≢true, cases_Bool, bit_at-zero, holds, mask_of, MappingValue, mapped, holds_place, mask_of-alike, judged, missing_of, joined_with, without_maximum, Granted}
 use Rattle.sd_check.proofs.LowMasks.{no_places}
 
 -- ---- nothing is missing where more is granted

@@ -1,7 +1,7 @@
 -- An entry and an owner that are owned are themselves.
 use Rattle.std.proofs.Common.{◌≡◌, ℕ, ◌∙◌, ◌++◌, [], List, Option, Some, map, ap, append-nil}
 use Rattle.std.proofs.lemmas.Iterator.Adapters.{option_map_id}
-use Rattle.sd_check.proofs.Words.{MappingValue, SidValue, Ace, verdict, TokenValue, Verdict, option_map, map-id}
+use Rattle.sd_check.proofs.Cited.{MappingValue, SidValue, Ace, verdict, TokenValue, Verdict, option_map, map-id}
 
 module _ (r : Verdict) (owner : Option SidValue) (g : MappingValue) (t : TokenValue) (asked : ℕ) where
   pub owned_lists : (front back : List Ace) → r ≡ verdict (option_map (λ s. s) owner) (Some (map (λ e. e) front ++ map (λ e. e) back)) g t asked

@@ -1,6 +1,6 @@
 -- What a pass comes to with one more entry, bit by bit.
 use Rattle.std.proofs.Common.{◌≡◌, ℕ, ◌<◌, ◌≤◌, ◌-◌, ◌++◌, length, map, take, drop, get_or, Bool, true, false, not, ◌&&◌, ◌||◌, ◌==◌, cond, List, [], ◌∷◌, Option, Some, None, refl, sym, ◌∙◌, ap, arith, subst, append-nil, append_assoc, eqb-true}
-use Rattle.sd_check.proofs.Words.{or-false, bit_at-zero, holds, mask_of, MappingValue, mapped, SidValue, same_sid, owner_rights, holds_when, mask_of-alike, is_allow, is_inherit_only, applies, applies_again, applies_in, decides, first, is_allowed_by, is_limit, is_restricting_subject, limits_owner, stands_for_subject, subject, TokenValue, is_restricting, stands_for, Pass, First, Second, Ace, AceKind, IsCheckProgress, part_of, option_or, is_none, find-append, list_any-append, CheckProgress, take_all, Asking, IsPass, IsSettled, TakesOn}
+use Rattle.sd_check.proofs.Cited.{or-false, bit_at-zero, holds, mask_of, MappingValue, mapped, SidValue, same_sid, owner_rights, holds_when, mask_of-alike, is_allow, is_inherit_only, applies, applies_again, applies_in, decides, first, is_allowed_by, is_limit, is_restricting_subject, limits_owner, stands_for_subject, subject, TokenValue, is_restricting, stands_for, Pass, First, Second, Ace, AceKind, IsCheckProgress, part_of, option_or, is_none, find-append, list_any-append, CheckProgress, take_all, Asking, IsPass, IsSettled, TakesOn}
 use Rattle.sd_check.specs.declared.check_progress.PassProgress.{PassProgress}
 use Rattle.sd_check.proofs.Answered.{stands}
 

@@ -1,6 +1,6 @@
 -- The proofs of the laws on restricting SIDs.
 use Rattle.std.proofs.Common.{◌≡◌, ℕ, ◌<◌, true, not, ◌&&◌, ◌||◌, ◌==◌, nat_lt, List, [], ◌∷◌, length, Option, Some, None, refl, sym, ◌∙◌, ap, arith}
-use Rattle.sd_check.proofs.Words.{or_left, false≢true, and-true, holds, MappingValue, SidValue, same_sid, holds_place, limits_owner, subject, is_implied, judged, most_of, applies, applies_again, stands_for_subject, is_restricting_subject, is_granted, is_given, is_listed, most, Ace, Allow, TokenValue, is_restricted, is_restricting, list_any, same_sid-itself, acl_grants}
+use Rattle.sd_check.proofs.Cited.{or_left, false≢true, and-true, holds, MappingValue, SidValue, same_sid, holds_place, limits_owner, subject, is_implied, judged, most_of, applies, applies_again, stands_for_subject, is_restricting_subject, is_granted, is_given, is_listed, most, Ace, Allow, TokenValue, is_restricted, is_restricting, list_any, same_sid-itself, acl_grants}
 use Rattle.std.proofs.Math.Dec.{eqb-suc-zero}
 use Rattle.sd_check.specs.Laws.{restricted_to, NobodyRestrictsNothing, RestrictionGrantsNoBit, RestrictionGrantsNoRequest, OrderOfRestrictingSidsIsFree}
 use Rattle.sd_check.proofs.LawProofs.{one_test}

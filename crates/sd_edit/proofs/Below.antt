@@ -1,13 +1,6 @@
 -- What stands on the way to a node, and that nothing stands below a free path.
-use Rattle.std.proofs.Common.{◌≡◌, true, false, List, [], ◌∷◌, ◌++◌, Option, Some, None, IsSome, is_some, option_map, inl, inr, refl, sym, ap, ◌∙◌, ℕ}
-use Rattle.std.proofs.lemmas.Bool.{cases_Bool, false≢true}
-use Rattle.sd_path.specs.Names.{Names, up, is_within}
-use Rattle.sd_edit.specs.Plain.{PlainTree, row_at}
-use Rattle.sd_edit.specs.Closed.{IsClosed}
-use Rattle.sd_inheritance.specs.declared.kind.NodeKind.{NodeKind}
-use Rattle.sd_edit.specs.declared.node.NodeRow.{NodeRow}
+use Rattle.sd_edit.proofs.Cited.{IsClosed, IsSome, List, Names, NodeKind, NodeRow, None, Option, PlainTree, Some, [], ap, cases_Bool, false, false≢true, inl, inr, is_some, is_within, option_map, refl, row_at, sym, true, up, up-push, up_within, ℕ, ◌++◌, ◌∙◌, ◌∷◌, ◌≡◌}
 use Rattle.sd_edit.proofs.Lists.{by_last}
-use Rattle.sd_path.proofs.Paths.{up-push, up_within}
 use Rattle.sd_edit.proofs.Rows.{same_or_other}
 
 -- the parent of a node is there

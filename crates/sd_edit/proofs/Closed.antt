@@ -1,26 +1,6 @@
 -- The root of a tree is there and is a container, and so is what holds each node.
-use Rattle.std.proofs.Common.{◌≡◌, ◌≢◌, inl, inr, Bool, true, false, not, ◌&&◌, List, [], ◌∷◌, Option, Some, None, is_some, option_map, refl, sym, ◌∙◌, ap, is_eq}
-use Rattle.std.specs.List.{list_any}
+use Rattle.sd_edit.proofs.Cited.{Ace, AddContainer, AddObject, Bool, Container, Edit, IsAddable, IsClosed, IsLawful, IsMovable, List, MappingValue, Move, Names, NodeDacl, NodeKind, NodeRow, None, Object, Opening, Option, PlainTree, ProtectKeeping, Remove, SetDacl, SetGroup, SetOwner, Some, [], addition_tests, ap, changed, contains_key-keys, dacl_at, early_refusal, early_tests, edited, eq_by_cmp, false, false≢true, first_fit, has_child, inl, inr, is_eq, is_object, is_object_kind, is_root, is_some, keeping, kind_at, list_any, move_tests, names_cmp, not, opened, option_map, or_cases, or_parts, refl, replay, root_row, row_at, sym, true, up, ◌&&◌, ◌∙◌, ◌∷◌, ◌≡◌, ◌≢◌}
 use Rattle.std.specs.FinMap as map
-use Rattle.std.specs.FinMap.{contains_key-keys}
-use Rattle.std.specs.Ordering.{eq_by_cmp}
-use Rattle.std.proofs.lemmas.Bool.{or_cases, or_parts, false≢true}
-use Rattle.sd_sid.specs.Mapping.{MappingValue}
-use Rattle.sd_acl.specs.declared.ace.Ace.{Ace}
-use Rattle.sd_path.specs.Names.{Names, names_cmp, up, is_root}
-use Rattle.sd_edit.specs.Plain.{PlainTree, row_at, dacl_at}
-use Rattle.sd_edit.specs.Closed.{IsClosed, IsAddable, IsMovable}
-use Rattle.sd_edit.specs.Edits.{keeping, changed, edited}
-use Rattle.sd_edit.specs.Answers.{kind_at}
-use Rattle.sd_edit.specs.Journal.{opened, root_row, replay, IsLawful}
-use Rattle.sd_edit.specs.Refusals.{early_refusal, early_tests, first_fit, is_object, is_object_kind, has_child, addition_tests, move_tests}
-use Rattle.sd_edit.specs.declared.node.NodeRow.{NodeRow}
-use Rattle.sd_inheritance.specs.declared.kind.NodeKind.{NodeKind}
-use Rattle.sd_inheritance.specs.declared.kind.NodeKind.TheVariants.{Container, Object}
-use Rattle.sd_edit.specs.declared.node.NodeDacl.{NodeDacl}
-use Rattle.sd_edit.specs.declared.edit.Edit.{Edit}
-use Rattle.sd_edit.specs.declared.edit.Edit.TheVariants.{AddContainer, AddObject, SetOwner, SetGroup, SetDacl, Remove, ProtectKeeping, Move}
-use Rattle.sd_edit.specs.declared.opening.Opening.{Opening}
 use Rattle.sd_edit.proofs.Rows.{one_path, path_itself, same_or_other, row_at-empty, row_at-insert_same, row_at-insert_other, row_at-remove_same, row_at-remove_other, row_at-changed_same, row_at-changed_other}
 use Rattle.sd_edit.proofs.Moved.{closed_moved}
 use Rattle.sd_edit.proofs.Refused.{none_fits, not_refused}

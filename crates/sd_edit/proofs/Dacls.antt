@@ -1,10 +1,6 @@
 -- The DACL at a path, step by step down the path, and on which nodes it rests.
-use Rattle.std.proofs.Common.{◌≡◌, cond, true, false, ℕ, List, [], ◌∷◌, ◌++◌, Option, None, refl, sym, ◌∙◌, ap, append_assoc, append-nil}
-use Rattle.sd_sid.specs.Mapping.{MappingValue}
-use Rattle.sd_acl.specs.declared.ace.Ace.{Ace}
-use Rattle.sd_path.specs.Names.{Names, up, is_root, is_within}
-use Rattle.sd_edit.specs.Plain.{PlainTree, row_at, dacl_here, dacl_below, dacl_at}
-use Rattle.sd_path.proofs.Paths.{last_name, push-up, within-append, within-step}
+use Rattle.sd_edit.proofs.Cited.{Ace, List, MappingValue, Names, None, Option, PlainTree, [], ap, append-nil, append_assoc, cond, dacl_below, dacl_here, false, is_root, is_within, last_name, push-up, refl, row_at, sym, true, up, within-append, within-step, ℕ, ◌++◌, ◌∙◌, ◌∷◌, ◌≡◌}
+use Rattle.sd_edit.specs.Plain.{dacl_at}
 
 -- ---- the steps
 

@@ -1,16 +1,6 @@
 -- What was given to a node fits a list, as the whole that it begins does.
-use Rattle.std.proofs.Common.{◌≡◌, ◌≤◌, List, ◌++◌, Option, Some, ap, ◌∙◌, arith}
-use Rattle.std.proofs.lemmas.List.Sums.{sum_by-append}
-use Rattle.sd_sid.specs.Mapping.{MappingValue}
-use Rattle.sd_acl.specs.Ace.{ace_size, acl_size_of}
-use Rattle.sd_acl.specs.declared.ace.Ace.{Ace}
-use Rattle.sd_path.specs.Names.{Names}
-use Rattle.sd_edit.specs.Inheritance.{dacl_under}
-use Rattle.sd_edit.specs.Plain.{PlainTree, row_at, dacl_at, dacl_here}
-use Rattle.sd_edit.specs.Refusals.{dacl_size, own_entries}
-use Rattle.sd_edit.specs.declared.node.NodeDacl.{NodeDacl}
-use Rattle.sd_edit.specs.declared.node.NodeDacl.TheVariants.{Null, List as Entries}
-use Rattle.sd_edit.specs.declared.node.NodeRow.{NodeRow}
+use Rattle.sd_edit.proofs.Cited.{Ace, List, MappingValue, Names, NodeDacl, NodeRow, Null, Option, PlainTree, Some, ace_size, acl_size_of, ap, arith, dacl_at, dacl_here, dacl_size, dacl_under, own_entries, row_at, sum_by-append, ◌++◌, ◌∙◌, ◌≡◌, ◌≤◌}
+use Rattle.sd_edit.specs.declared.node.NodeDacl.TheVariants.{List as Entries}
 use Rattle.sd_edit.proofs.Dacls.{dacl_over, dacl_at_here}
 
 front_fits : (own behind : List Ace) → acl_size_of (own ++ behind) ≤ 65535 → acl_size_of own ≤ 65535

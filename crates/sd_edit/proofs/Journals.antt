@@ -1,20 +1,6 @@
 -- Journals with one more edit, and what holds of the tree of each lawful one.
-use Rattle.std.proofs.Common.{◌≡◌, ℕ, ◌<◌, ◌≤◌, Bool, true, false, cond, nat_le, List, [], ◌∷◌, ◌++◌, length, take, Some, None, slice_get, refl, sym, ◌∙◌, ap, inl, inr, arith}
-use Rattle.std.proofs.lemmas.Option.{slice_get_within, slice_get-get_or}
-use Rattle.std.proofs.Math.ListN.{get_or-append}
-use Rattle.std.proofs.Math.Seq.{get_or-append_seam, take-append_seam}
-use Rattle.std.proofs.lemmas.List.{take-append-le, length-append}
-use Rattle.std.proofs.lemmas.Bool.{cases_order}
-use Rattle.std.proofs.lemmas.Bool.Decides.{nat_tests}
-use Rattle.sd_sid.specs.Mapping.{MappingValue}
-use Rattle.sd_edit.specs.Plain.{PlainTree}
-use Rattle.sd_edit.specs.Edits.{edited}
-use Rattle.sd_edit.specs.Journal.{opened, edited_by, replay, refusal, IsLawful}
-use Rattle.sd_edit.specs.Refusals.{first_fit, refusal_in, has_large_dacl, room_tests}
-use Rattle.sd_edit.specs.declared.edit.Edit.{Edit}
-use Rattle.sd_edit.specs.declared.opening.Opening.{Opening}
-use Rattle.sd_edit.specs.declared.refusal.EditRefusal.{EditRefusal}
-use Rattle.sd_edit.specs.declared.refusal.EditRefusal.TheVariants.{AclTooLarge, JournalFull}
+use Rattle.sd_edit.proofs.Cited.{AclTooLarge, Bool, Edit, EditRefusal, IsLawful, JournalFull, List, MappingValue, None, Opening, PlainTree, Some, [], ap, arith, cases_order, cond, edited, edited_by, false, first_fit, get_or-append, get_or-append_seam, has_large_dacl, inl, inr, length, length-append, nat_le, nat_tests, opened, refl, refusal, refusal_in, room_tests, slice_get, slice_get-get_or, slice_get_within, sym, take, take-append-le, take-append_seam, true, ℕ, ◌++◌, ◌<◌, ◌∙◌, ◌∷◌, ◌≡◌, ◌≤◌}
+use Rattle.sd_edit.specs.Journal.{replay}
 use Rattle.sd_edit.proofs.Lists.{by_last}
 use Rattle.sd_edit.proofs.Refused.{not_refused}
 

@@ -1,3 +1,4 @@
+pub mod Cited
 pub mod Below
 pub mod Closed
 pub mod Dacls

@@ -1,21 +1,8 @@
 -- The nodes of a tree after a move, and their DACLs.
-use Rattle.std.proofs.Common.{◌≡◌, ◌≢◌, ℕ, zero, suc, ◌<◌, true, false, cond, List, [], ◌∷◌, ◌++◌, length, map, get_or, Option, Some, None, option_map, inl, inr, refl, sym, ap, ◌∙◌, arith, append_assoc, append-nil}
-use Rattle.std.proofs.lemmas.List.{length-append}
-use Rattle.std.proofs.lemmas.Bool.{cases_Bool, false≢true}
+use Rattle.sd_edit.proofs.Cited.{Ace, Container, IsClosed, IsMovable, List, MappingValue, Names, NodeRow, None, Option, PlainTree, Some, [], ap, append-nil, append_assoc, arith, cases_Bool, cond, dacl_at, dacl_below, dacl_here, dacl_of_row, entries_sorted, eq_by_cmp, false, false≢true, find, get-entries, get-from_entries, get_or, inl, inr, is_root, is_within, kind_at, length, length-append, map, moved_entry, moved_path, moved_path-append, moved_path-outside, names_cmp, names_cmp_prefix, names_cmp_total, option_map, refl, row_at, suc, sym, true, up, up-append, within-append, within_rest, within_trans, within_up, zero, ℕ, ◌++◌, ◌<◌, ◌∙◌, ◌∷◌, ◌≡◌, ◌≢◌}
 use Rattle.std.specs.FinMap as finite
-use Rattle.std.specs.FinMap.{find, get-entries, get-from_entries, entries_sorted}
-use Rattle.std.specs.Ordering.{is_eq, eq_by_cmp}
-use Rattle.sd_sid.specs.Mapping.{MappingValue}
-use Rattle.sd_acl.specs.declared.ace.Ace.{Ace}
-use Rattle.sd_path.specs.Names.{Names, names_cmp, up, is_root, is_within, moved_path}
-use Rattle.sd_edit.specs.Answers.{kind_at}
-use Rattle.sd_edit.specs.Closed.{IsClosed, IsMovable}
-use Rattle.sd_edit.specs.Edits.{moved_entry, moved}
-use Rattle.sd_edit.specs.Inheritance.{dacl_of_row}
-use Rattle.sd_edit.specs.Plain.{PlainTree, row_at, dacl_here, dacl_below, dacl_at}
-use Rattle.sd_edit.specs.declared.node.NodeRow.{NodeRow}
-use Rattle.sd_inheritance.specs.declared.kind.NodeKind.TheVariants.{Container}
-use Rattle.sd_path.proofs.Paths.{names_cmp_total, names_cmp_prefix, within-append, within_rest, within_trans, within_up, moved_path-append, moved_path-outside, up-append}
+use Rattle.std.specs.Ordering.{is_eq}
+use Rattle.sd_edit.specs.Edits.{moved}
 use Rattle.sd_edit.proofs.Below.{nothing_below}
 use Rattle.sd_edit.proofs.Dacls.{dacl_at_up, dacl_at_alike}
 use Rattle.sd_edit.proofs.Rows.{other_path}

@@ -1,15 +1,5 @@
 -- The DACL of one node with a new row.
-use Rattle.std.proofs.Common.{◌≡◌, ◌≢◌, true, false, None, inl, inr, sym, ap, ◌∙◌}
-use Rattle.std.specs.FinMap.{insert}
-use Rattle.std.specs.declared.cmp.Ordering.TheVariants.{Less}
-use Rattle.std.specs.Cmp.{tied_itself}
-use Rattle.std.proofs.lemmas.Bool.{cases_Bool}
-use Rattle.sd_sid.specs.Mapping.{MappingValue}
-use Rattle.sd_path.specs.Names.{Names, names_cmp, up, is_root, is_within}
-use Rattle.sd_edit.specs.Inheritance.{dacl_of_row}
-use Rattle.sd_edit.specs.Plain.{PlainTree, row_at, dacl_here, dacl_at}
-use Rattle.sd_edit.specs.declared.node.NodeRow.{NodeRow}
-use Rattle.sd_path.proofs.Paths.{names_cmp_total, root_is_empty, within_before, up_before}
+use Rattle.sd_edit.proofs.Cited.{Less, MappingValue, Names, NodeRow, None, PlainTree, ap, cases_Bool, dacl_at, dacl_here, dacl_of_row, false, inl, inr, insert, is_root, is_within, names_cmp, names_cmp_total, root_is_empty, row_at, sym, tied_itself, true, up, up_before, within_before, ◌∙◌, ◌≡◌, ◌≢◌}
 use Rattle.sd_edit.proofs.Dacls.{dacl_at_root, dacl_at_up, dacl_at_outside}
 use Rattle.sd_edit.proofs.Rows.{row_at-insert_same, row_at-insert_other}
 use Rattle.sd_edit.proofs.Sorted.{greater_from_less}

@@ -1,18 +1,5 @@
 -- What an edit that isn't refused has passed.
-use Rattle.std.proofs.Common.{◌≡◌, ℕ, Bool, true, false, cond, List, [], ◌∷◌, ◌++◌, Option, Some, None, refl, sym, ap, ◌∙◌, nat_le}
-use Rattle.std.specs.List.{AllByRecursion}
-use Rattle.std.specs.Option.{option_or}
-use Rattle.sd_sid.specs.Mapping.{MappingValue}
-use Rattle.sd_edit.specs.Limits.{LimitsValue}
-use Rattle.sd_edit.specs.Plain.{PlainTree}
-use Rattle.sd_edit.specs.Refusals.{first_fit, early_refusal, late_refusal, refusal_in, late_tests, is_early}
-use Rattle.sd_edit.specs.Refusals.{is_without_memory, has_large_dacl, room_tests}
-use Rattle.sd_edit.specs.declared.edit.Edit.{Edit}
-use Rattle.sd_edit.specs.declared.edit.Edit.TheVariants.{AddContainer, AddObject, SetOwner, SetGroup, SetDacl, Remove}
-use Rattle.sd_edit.specs.declared.edit.Edit.TheVariants.{ProtectKeeping, Move}
-use Rattle.sd_edit.specs.declared.refusal.EditRefusal.{EditRefusal}
-use Rattle.sd_edit.specs.Edits.{edited}
-use Rattle.sd_edit.specs.declared.refusal.EditRefusal.TheVariants.{AclTooLarge, JournalFull}
+use Rattle.sd_edit.proofs.Cited.{AclTooLarge, AddContainer, AddObject, AllByRecursion, Bool, Edit, EditRefusal, JournalFull, LimitsValue, List, MappingValue, Move, None, Option, PlainTree, ProtectKeeping, Remove, SetDacl, SetGroup, SetOwner, Some, [], ap, cond, early_refusal, edited, false, first_fit, has_large_dacl, is_early, is_without_memory, late_refusal, late_tests, nat_le, option_or, refl, refusal_in, room_tests, sym, true, ℕ, ◌++◌, ◌∙◌, ◌∷◌, ◌≡◌}
 
 passed : (b : Bool) (x : EditRefusal) (rest : Option EditRefusal) → cond b (Some x) rest ≡ None → (b ≡ false) × (rest ≡ None)
 passed true x rest e = absurd cc

@@ -1,18 +1,7 @@
 -- The nodes of a tree after an edit.
-use Rattle.std.proofs.Common.{◌≡◌, ◌≢◌, ◌⊎◌, inl, inr, true, false, cond, Option, Some, None, option_map, refl, sym, ◌∙◌, ap, is_eq}
+use Rattle.sd_edit.proofs.Cited.{Equal, Greater, Less, Names, NodeRow, None, Option, Ordering, PlainTree, Some, ap, cases_Bool, changed, changed_where, cond, eq_by_cmp, false, false_from_ne_true, false≢true, get-empty, get-insert, get-remove, inl, inr, is_eq, names_cmp, names_cmp_antisymmetric, names_cmp_total, option_map, ordering_index, refl, row_at, sym, true, ◌==◌, ◌∙◌, ◌≡◌, ◌≢◌, ◌⊎◌}
 use Rattle.std.specs.FinMap as map
-use Rattle.std.specs.FinMap.{get-insert, get-remove, get-empty}
-use Rattle.std.specs.Bool.{◌==◌}
-use Rattle.std.specs.Ordering.{eq_by_cmp, ordering_index}
-use Rattle.std.specs.declared.cmp.Ordering.{Ordering}
-use Rattle.std.specs.declared.cmp.Ordering.TheVariants.{Less, Equal, Greater}
 use Rattle.std.proofs.lemmas.Cmp.{tied_itself}
-use Rattle.std.proofs.lemmas.Bool.{cases_Bool, false_from_ne_true, false≢true}
-use Rattle.sd_path.specs.Names.{Names, names_cmp}
-use Rattle.sd_edit.specs.Plain.{PlainTree, row_at}
-use Rattle.sd_edit.specs.Edits.{changed_where, changed}
-use Rattle.sd_edit.specs.declared.node.NodeRow.{NodeRow}
-use Rattle.sd_path.proofs.Paths.{names_cmp_total, names_cmp_antisymmetric}
 
 -- ---- one path or two
 

@@ -1,14 +1,8 @@
 -- Lists of entries whose keys strictly rise, by their places: what is found in them, and what one more entry, a new
 -- value or one entry less makes of them.
-use Rattle.std.proofs.Common.{◌≡◌, ℕ, zero, suc, ◌<◌, ◌≤◌, Bool, true, false, cond, not, ◌&&◌, List, [], ◌∷◌, length, get_or, set, Some, None, refl, ap, ◌∙◌, arith}
-use Rattle.std.specs.Prelude.{T}
-use Rattle.std.specs.Ordering.{is_lt, is_eq, eq_by_cmp, ordering_reverse}
-use Rattle.std.specs.declared.cmp.Ordering.{Ordering}
-use Rattle.std.specs.declared.cmp.Ordering.TheVariants.{Less, Equal, Greater}
-use Rattle.std.specs.Cmp.{IsTotalOrder, tied_itself}
-use Rattle.std.specs.List.{insert, remove}
-use Rattle.std.specs.FinMap.{find, put, is_sorted}
-use Rattle.std.specs.FinMap.Entries.{below_all, where_key, by_order}
+use Rattle.sd_edit.proofs.Cited.{Bool, Equal, Greater, IsTotalOrder, Less, List, None, Ordering, Some, T, [], ap, arith, below_all, by_order, cond, eq_by_cmp, false, find, get_or, is_lt, is_sorted, length, not, ordering_reverse, put, refl, remove, set, suc, tied_itself, true, where_key, zero, ℕ, ◌&&◌, ◌<◌, ◌∙◌, ◌∷◌, ◌≡◌, ◌≤◌}
+use Rattle.std.specs.Ordering.{is_eq}
+use Rattle.std.specs.List.{insert}
 
 front : (a b : Bool) → T (a && b) → T a
 front true b h = tt

@@ -1,26 +1,9 @@
 -- A node that hands on what it did changes the DACL of no other node; so another owner or group of it changes none.
-use Rattle.std.proofs.Common.{◌≡◌, ◌≢◌, ℕ, Bool, true, false, cond, List, [], ◌∷◌, ◌++◌, length, Option, Some, None, option_map, refl, sym, ◌∙◌, ap, ap₂, inl, inr, append-nil, length-append, arith}
-use Rattle.std.specs.List.{flat_map}
-use Rattle.std.proofs.lemmas.Bool.{cases_Bool}
-use Rattle.std.proofs.lemmas.Grind.{flat_map-append}
-use Rattle.sd_sid.specs.Mapping.{MappingValue}
-use Rattle.sd_sid.specs.Sid.{SidValue}
-use Rattle.sd_acl.specs.declared.ace.Ace.{Ace}
-use Rattle.sd_path.specs.Names.{Names, up, is_root, is_within}
-use Rattle.sd_path.proofs.Paths.{within_rest}
-use Rattle.sd_path.proofs.PathBytes.{length-up}
-use Rattle.sd_inheritance.specs.Inheritance.{object_inherit, container_inherit, no_propagate, effective_copy, waiting_copy, whole_copy, is_split, pass_on}
-use Rattle.sd_edit.specs.Inheritance.{handed_on, dacl_under, dacl_of_row}
-use Rattle.sd_edit.specs.Plain.{PlainTree, row_at, dacl_at, dacl_here, dacl_below}
-use Rattle.sd_edit.specs.Edits.{changed, ChangesOneNode}
-use Rattle.sd_edit.specs.declared.node.NodeRow.{NodeRow}
-use Rattle.sd_inheritance.specs.declared.kind.NodeKind.{NodeKind}
-use Rattle.sd_inheritance.specs.declared.kind.NodeKind.TheVariants.{Container, Object}
-use Rattle.sd_edit.specs.declared.node.NodeDacl.{NodeDacl}
-use Rattle.sd_edit.specs.declared.node.NodeDacl.TheVariants.{Null, List as Entries}
+use Rattle.sd_edit.proofs.Cited.{Ace, Bool, ChangesOneNode, Container, List, MappingValue, Names, NodeDacl, NodeKind, NodeRow, None, Null, Object, Option, PlainTree, SidValue, Some, [], ap, append-nil, ap₂, arith, cases_Bool, changed, cond, container_inherit, dacl_at, dacl_below, dacl_here, dacl_of_row, dacl_under, effective_copy, effective_hands_nothing, false, flat_map, flat_map-append, handed_on, inl, inr, is_root, is_split, is_within, length, length-up, no_propagate, object_inherit, once, option_map, pass_on, refl, row_at, sym, true, up, waiting_copy, whole_copy, within_rest, ℕ, ◌++◌, ◌∙◌, ◌∷◌, ◌≡◌, ◌≢◌}
+use Rattle.std.proofs.Common.{length-append}
+use Rattle.sd_edit.specs.declared.node.NodeDacl.TheVariants.{List as Entries}
 use Rattle.sd_edit.proofs.Rows.{row_at-changed_same, row_at-changed_other}
 use Rattle.sd_edit.proofs.Dacls.{dacl_at_here, dacl_over, dacl_at-append, below_alike, dacl_at_outside}
-use Rattle.sd_inheritance.proofs.HandedOn.{effective_hands_nothing, once}
 
 -- ---- what is handed on two levels down doesn't depend on the trustees of the first
 

@@ -1,11 +1,5 @@
 -- One walk that finds for each bit the entry that settles it.
-use Rattle.std.proofs.Common.{◌≡◌, ℕ, ◌+◌, ◌<◌, ◌≤◌, ◌==◌, ◌&&◌, Bool, true, false, not, cond, List, length, get_or, drop, ◌∙◌, ap, arith}
-use Rattle.sd_check.proofs.Words.{eqb-true, bit_at-zero, holds, mask_of, MappingValue, mapped, SidValue, holds_when, is_allow, is_inherit_only, decides, Ace, AceKind, part_of}
-use Rattle.std.proofs.lemmas.List.{drop_all}
-use Rattle.sd_check.proofs.Answered.{stands}
-use Rattle.sd_explain.specs.Reasons.{finding_of}
-use Rattle.sd_explain.specs.declared.reason.Finding.{Finding}
-use Rattle.sd_explain.specs.declared.reason.Finding.TheVariants.{Allowed, Denied, NoEntry}
+use Rattle.sd_explain.proofs.Cited.{Ace, AceKind, Allowed, Bool, Denied, Finding, List, MappingValue, NoEntry, SidValue, ap, arith, bit_at-zero, cond, decides, drop, drop_all, eqb-true, false, finding_of, get_or, holds, holds_when, is_allow, is_inherit_only, length, mapped, mask_of, not, part_of, stands, true, ℕ, ◌&&◌, ◌+◌, ◌<◌, ◌==◌, ◌∙◌, ◌≡◌, ◌≤◌}
 use Rattle.sd_explain.proofs.Findings.{finding_from, from_the_first, passes, settled}
 
 -- an undecided bit has no finding yet: that of the rest of the list is its own. Any other bit has its finding

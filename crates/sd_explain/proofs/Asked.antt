@@ -1,8 +1,5 @@
 -- Which bits a list is asked for.
-use Rattle.std.proofs.Common.{◌≡◌, ◌==◌, ℕ, ◌<◌, true, false, ◌&&◌, ◌||◌, nat_lt, List, Option, None, refl, arith}
-use Rattle.sd_check.proofs.Words.{nat_tests, holds, mask_of, MappingValue, mapped, SidValue, Ace, reserved_of, without_maximum, rights_in, wanted_bits, TokenValue}
-use Rattle.sd_check.proofs.Answered.{stands, holds_object}
-use Rattle.sd_explain.specs.Reasons.{reason_at}
+use Rattle.sd_explain.proofs.Cited.{Ace, List, MappingValue, None, Option, SidValue, TokenValue, arith, false, holds, holds_object, mapped, mask_of, nat_lt, nat_tests, reason_at, refl, reserved_of, rights_in, stands, true, wanted_bits, without_maximum, ℕ, ◌&&◌, ◌<◌, ◌==◌, ◌||◌, ◌≡◌}
 
 -- with MAXIMUM_ALLOWED, each right is looked for
 wanted : (q b : ℕ) → b < 32 → holds (mask_of (λ k. holds q k || holds 0x001FFFFF k) 32) b ≡ (holds q b || nat_lt b 21)

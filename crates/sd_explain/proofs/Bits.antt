@@ -1,9 +1,5 @@
 -- Masks that are gathered place by place.
-use Rattle.std.proofs.Common.{◌≡◌, ℕ, ◌+◌, ◌*◌, ◌%◌, ◌^◌, ◌<◌, ◌≤◌, Bool, false, ◌&&◌, ◌||◌, nat_lt, cond, refl, sym, ◌∙◌, arith}
-use Rattle.sd_check.proofs.Words.{cases_eq, nat_tests, bit_at-pow_same, bit_at-pow_other, holds, mask_of, mask_of-lt, holds-mask_of, holds_when, mask_of-alike, is_mask_of}
-use Rattle.std.proofs.lemmas.Nat.{pow_below}
-use Rattle.std.proofs.Math.Nat.{one-mul}
-use Rattle.std.proofs.Math.Pow.{pow_mono}
+use Rattle.sd_explain.proofs.Cited.{Bool, arith, bit_at-pow_other, bit_at-pow_same, cases_eq, cond, false, holds, holds-mask_of, holds_when, is_mask_of, mask_of, mask_of-alike, mask_of-lt, nat_lt, nat_tests, one-mul, pow_below, pow_mono, refl, sym, ℕ, ◌%◌, ◌&&◌, ◌*◌, ◌+◌, ◌<◌, ◌^◌, ◌||◌, ◌∙◌, ◌≡◌, ◌≤◌}
 
 -- the mask of the places below n, as a mask of 32 places
 narrow : (p : ℕ → Bool) (n : ℕ) → n ≤ 32 → mask_of p n ≡ mask_of (λ b. nat_lt b n && p b) 32

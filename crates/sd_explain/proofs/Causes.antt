@@ -1,12 +1,5 @@
 -- That a cause grants just what the rules of the check grant.
-use Rattle.std.proofs.Common.{◌≡◌, ℕ, ◌<◌, Bool, true, false, not, ◌&&◌, ◌||◌, ◌==◌, nat_lt, List, Option, Some, None, inl, inr, refl, ◌∙◌, ap, arith}
-use Rattle.std.specs.List.{position_or_len}
-use Rattle.sd_check.proofs.Words.{cases_lt, lt-ltb, nat_tests, holds, MappingValue, SidValue, holds_place, decides, first, is_allowed_by, is_implied, applies, applies_again, is_granted, is_given, most, Ace, TokenValue, is_restricted}
-use Rattle.sd_check.specs.Check.{implied_of}
-use Rattle.sd_check.specs.declared.grounds.Implied.{Implied}
-use Rattle.sd_explain.specs.Reasons.{finding_at, is_allowed, grants, listed_cause, granting_or, named_cause, maximum_cause, same_cause}
-use Rattle.sd_explain.specs.declared.reason.Cause.{Cause}
-use Rattle.sd_explain.specs.declared.reason.Cause.TheVariants.{Reserved}
+use Rattle.sd_explain.proofs.Cited.{Ace, Bool, Cause, Implied, List, MappingValue, None, Option, Reserved, SidValue, Some, TokenValue, ap, applies, applies_again, arith, cases_lt, decides, false, finding_at, first, granting_or, grants, holds, holds_place, implied_of, inl, inr, is_allowed, is_allowed_by, is_given, is_granted, is_implied, is_restricted, listed_cause, lt-ltb, maximum_cause, most, named_cause, nat_lt, nat_tests, not, position_or_len, refl, same_cause, true, ℕ, ◌&&◌, ◌<◌, ◌==◌, ◌||◌, ◌∙◌, ◌≡◌}
 
 -- ---- a finding, and what the list grants
 

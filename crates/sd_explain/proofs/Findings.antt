@@ -1,11 +1,5 @@
 -- What a pass finds, entry by entry.
-use Rattle.std.proofs.Common.{◌≡◌, ℕ, ◌+◌, ◌<◌, Bool, true, false, cond, not, List, ◌∷◌, length, get_or, drop, Some, refl, sym, ◌∙◌, ap, arith, add-one, add-zero, zero-add, find}
-use Rattle.std.specs.List.{position_or_len}
-use Rattle.std.proofs.Math.Seq.{drop-cons}
-use Rattle.sd_check.proofs.Words.{is_allow, Ace}
-use Rattle.sd_explain.specs.Reasons.{finding_at}
-use Rattle.sd_explain.specs.declared.reason.Finding.{Finding}
-use Rattle.sd_explain.specs.declared.reason.Finding.TheVariants.{Allowed, Denied}
+use Rattle.sd_explain.proofs.Cited.{Ace, Allowed, Bool, Denied, Finding, List, Some, add-one, add-zero, ap, arith, cond, drop, drop-cons, false, find, finding_at, get_or, is_allow, length, not, position_or_len, refl, sym, true, zero-add, ℕ, ◌+◌, ◌<◌, ◌∙◌, ◌∷◌, ◌≡◌}
 
 -- what the rest of a list finds, which begins at the place
 abbrev pub finding_from : (Ace → Bool) → List Ace → ℕ → Finding

@@ -1,3 +1,4 @@
+pub mod Cited
 pub mod Findings
 pub mod Written
 pub mod AllFound

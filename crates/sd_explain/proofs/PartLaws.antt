@@ -1,17 +1,7 @@
 -- The proofs of the laws on parts.
-use Rattle.std.proofs.Common.{◌≡◌, ◌≢◌, ℕ, zero, suc, ◌+◌, ◌*◌, ◌^◌, ◌<◌, Bool, true, false, ◌==◌, cond, Option, Some, None, inl, inr, refl, sym, ◌∙◌, ap, arith}
-use Rattle.sd_check.proofs.Words.{cases_Bool, and_parts, eqb-true, lt-ltb, cond-true, false≢true, bit_at-zero, holds, holds_place, holds-mask_of}
-use Rattle.std.proofs.lemmas.Bool.{cases_order, and_from, eq-eqb}
+use Rattle.sd_explain.proofs.Cited.{Allowed, BeyondAll, Bool, Cause, Denied, Finding, IsPartOf, Listed, NoEntry, NoList, NoSecurity, None, Option, Owner, Part, Reason, Reserved, Restricted, Security, Some, TakeOwnership, and_from, and_parts, ap, arith, bit_at-zero, bits_of, cases_Bool, cases_order, cond, cond-true, eq-eqb, eqb-true, false, false≢true, holds, holds-mask_of, holds_place, inl, inr, is_of_share, lt-ltb, part_at, refl, same_cause, same_finding, suc, sym, true, zero, ℕ, ◌*◌, ◌+◌, ◌<◌, ◌==◌, ◌^◌, ◌∙◌, ◌≡◌, ◌≢◌}
 use Rattle.sd_sid.specs.Mask.{mask_of}
-use Rattle.sd_explain.specs.Reasons.{same_finding, same_cause}
-use Rattle.sd_explain.specs.Parts.{is_of_share, bits_of, part_of, part_at}
-use Rattle.sd_explain.specs.Laws.{IsPartOf}
-use Rattle.sd_explain.specs.declared.explanation.Part.{Part}
-use Rattle.sd_explain.specs.declared.reason.Finding.{Finding}
-use Rattle.sd_explain.specs.declared.reason.Finding.TheVariants.{Allowed, Denied, NoEntry}
-use Rattle.sd_explain.specs.declared.reason.Cause.{Cause}
-use Rattle.sd_explain.specs.declared.reason.Cause.TheVariants.{NoList, Listed, Restricted, Owner, TakeOwnership, Security, NoSecurity, BeyondAll, Reserved}
-use Rattle.sd_explain.specs.declared.reason.Reason.{Reason}
+use Rattle.sd_explain.specs.Parts.{part_of}
 use Rattle.sd_explain.specs.declared.reason.Share.TheVariants as shares
 
 -- ---- causes that pass the test are one

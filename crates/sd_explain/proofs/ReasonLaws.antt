@@ -1,11 +1,5 @@
 -- The proofs of the laws on findings, causes and requests.
-use Rattle.std.proofs.Common.{◌≡◌, ℕ, Bool, true, false, cond, List, Option, Some, None, refl, sym, ap, arith, slice_get}
-use Rattle.std.specs.List.{position_or_len}
-use Rattle.std.proofs.lemmas.List.Folds.{find_at}
-use Rattle.sd_check.proofs.Words.{MappingValue, SidValue, decides, first, subject, stands_for_subject, is_restricting_subject, Ace, AceKind, TokenValue, stands_for, is_restricting}
-use Rattle.sd_explain.specs.Reasons.{finding_at}
-use Rattle.sd_explain.specs.Laws.{IsFirstAt, AllowedNamesFirst, DeniedNamesFirst, NoEntryWhereNone, FirstPassHasSubject, SecondPassHasSubject, ReasonsJoinToRequest, GrantedAreTheParts}
-use Rattle.sd_explain.specs.declared.reason.Finding.TheVariants.{Allowed, Denied, NoEntry}
+use Rattle.sd_explain.proofs.Cited.{Ace, AceKind, Allowed, AllowedNamesFirst, Bool, Denied, DeniedNamesFirst, FirstPassHasSubject, GrantedAreTheParts, IsFirstAt, List, MappingValue, NoEntry, NoEntryWhereNone, None, Option, ReasonsJoinToRequest, SecondPassHasSubject, SidValue, Some, TokenValue, ap, arith, cond, decides, false, find_at, finding_at, first, is_restricting, is_restricting_subject, position_or_len, refl, slice_get, stands_for, stands_for_subject, subject, sym, true, ℕ, ◌≡◌}
 use Rattle.sd_explain.proofs.Told.{told_verdict_is}
 
 -- ---- findings

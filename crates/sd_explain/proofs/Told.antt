@@ -1,16 +1,8 @@
 -- That the verdict follows from the reasons.
-use Rattle.std.proofs.Common.{◌≡◌, ℕ, ◌<◌, Bool, true, false, not, ◌&&◌, ◌||◌, ◌==◌, nat_lt, cond, List, get_or, Option, Some, None, lit<, inl, inr, refl, sym, ◌∙◌, ap, arith}
-use Rattle.std.proofs.lemmas.List.FromFn.{get_or-map-range_with_len}
-use Rattle.sd_check.proofs.Words.{cases_Bool, eqb-true, ne_eqb, false≢true, ltb-true, cond-true, cond-false, bit_at-zero, holds, MappingValue, mapped, is_mapped, SidValue, holds_place, mask_of-alike, mask_of-lt, reserved_of, without_maximum, missing_of, joined_with, answered, plain_verdict, maximum_verdict, is_granted, is_given, most, verdict, Ace, TokenValue}
+use Rattle.sd_explain.proofs.Cited.{Ace, Bool, EmptyRequest, List, MappingValue, None, Option, Reason, Share, SidValue, Some, TokenValue, Verdict, answered, ap, arith, belongs, bit_at-zero, bits_of, cases_Bool, cond, cond-false, cond-true, eqb-true, false, false≢true, get_or, get_or-map-range_with_len, grants, holds, holds_place, inl, inr, is_given, is_granted, is_mapped, is_of_share, joined_with, lit<, ltb-true, mapped, mask_of-alike, mask_of-lt, maximum_cause, maximum_verdict, missing_of, most, named_cause, nat_lt, ne_eqb, no_places, not, plain_verdict, reason_at, reason_in, reasons_of, refl, reserved_of, sym, told_verdict, true, verdict, without_maximum, ℕ, ◌&&◌, ◌<◌, ◌==◌, ◌||◌, ◌∙◌, ◌≡◌}
 use Rattle.sd_sid.specs.Mask.{mask_of}
-use Rattle.sd_check.specs.declared.verdict.Verdict.{Verdict}
-use Rattle.sd_check.specs.declared.verdict.Verdict.TheVariants.{Granted, Denied, Reserved, EmptyRequest}
-use Rattle.sd_explain.specs.Reasons.{grants, named_cause, maximum_cause, reason_at, reasons_of, belongs}
-use Rattle.sd_explain.specs.Parts.{is_of_share, bits_of, reason_in, told_verdict}
-use Rattle.sd_explain.specs.declared.reason.Reason.{Reason}
-use Rattle.sd_explain.specs.declared.reason.Share.{Share}
+use Rattle.sd_check.specs.declared.verdict.Verdict.TheVariants.{Granted, Denied, Reserved}
 use Rattle.sd_explain.specs.declared.reason.Share.TheVariants as shares
-use Rattle.sd_check.proofs.LowMasks.{no_places}
 use Rattle.sd_explain.proofs.Bits.{own_places}
 use Rattle.sd_explain.proofs.Causes.{named_grants, maximum_grants, named_unreserved, maximum_unreserved}
 

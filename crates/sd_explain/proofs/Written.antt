@@ -1,12 +1,5 @@
 -- What a loop writes at the places that a mask holds, from its lowest to its highest.
-use Rattle.std.proofs.Common.{◌≡◌, ◌==◌, ◌-◌, ◌^◌, ℕ, ◌+◌, ◌<◌, ◌≤◌, true, false, cond, List, length, get_or, set, sym, ◌∙◌, ap, arith, inl, inr, length-set}
-use Rattle.sd_check.proofs.Words.{cases_eq, cases_lt, bit_at-zero, bit_at_above, holds}
-use Rattle.std.proofs.lemmas.List.{get_or-set_other}
-use Rattle.std.proofs.lemmas.Grind.{get_or-set_at}
-use Rattle.std.proofs.lemmas.Nat.{leading_length}
-use Rattle.std.proofs.lemmas.Nat.Bits.{bit_at-trailing_zeros}
-use Rattle.std.specs.Int.{trailing_zeros, leading_zeros}
-use Rattle.std.specs.Int.Width.{w32}
+use Rattle.sd_explain.proofs.Cited.{List, ap, arith, bit_at-trailing_zeros, bit_at-zero, bit_at_above, cases_eq, cases_lt, cond, false, get_or, get_or-set_at, get_or-set_other, holds, inl, inr, leading_length, leading_zeros, length, length-set, set, sym, trailing_zeros, true, w32, ℕ, ◌+◌, ◌-◌, ◌<◌, ◌==◌, ◌^◌, ◌∙◌, ◌≡◌, ◌≤◌}
 
 -- the places below i are written where the mask holds them, and the others are as they were
 pub record IsWritten {A : Type 0} (none : A) (xs : List A) (old : ℕ → A) (mask : ℕ) (new : ℕ → A) (i : ℕ) : Type 0 where

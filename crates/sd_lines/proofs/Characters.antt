@@ -1,14 +1,5 @@
 -- The characters at the front of bytes of UTF-16.
-use Rattle.std.proofs.Common.{◌≡◌, ℕ, ◌<◌, ◌≤◌, ◌^◌, true, false, ◌&&◌, leb, ltb, List, [], ◌∷◌, ◌++◌, length, get_or, Option, Some, None, refl, ap, append_assoc, arith}
-use Rattle.std.specs.Prelude.{MatchOption, SomeIff}
-use Rattle.std.specs.Char.{InScalarRange, IsScalar, OutOfScalarRange}
-use Rattle.std.specs.Char.Utf16.{is_high_surrogate, is_low_surrogate, lone_unit_char, surrogate_pair_char, utf16_chars}
-use Rattle.std.specs.List.{flat_map}
-use Rattle.std.proofs.lemmas.Bool.{and_parts}
-use Rattle.std.proofs.lemmas.Bool.Decides.{nat_tests}
-use Rattle.std.proofs.lemmas.Str.{utf16_chars-nil, utf16_chars_lone, utf16_chars_pair}
-use Rattle.sd_lines.specs.Utf16.{char_text, over_in, unfinished, unit, utf16_text}
-use Rattle.sd_lines.specs.declared.utf16.ByteOrder.{ByteOrder}
+use Rattle.sd_lines.proofs.Cited.{ByteOrder, InScalarRange, IsScalar, List, MatchOption, None, Option, OutOfScalarRange, Some, SomeIff, [], and_parts, ap, append_assoc, arith, char_text, false, flat_map, get_or, is_high_surrogate, is_low_surrogate, leb, length, lone_unit_char, ltb, nat_tests, over_in, refl, surrogate_pair_char, true, unfinished, unit, utf16_chars, utf16_chars-nil, utf16_chars_lone, utf16_chars_pair, utf16_text, ℕ, ◌&&◌, ◌++◌, ◌<◌, ◌^◌, ◌∷◌, ◌≡◌, ◌≤◌}
 
 -- ---- the first character
 

@@ -1,14 +1,5 @@
 -- Where a line ends, and what the lines of a text are that begins with a whole one.
-use Rattle.std.proofs.Common.{◌≡◌, ℕ, ◌+◌, ◌<◌, ◌≤◌, Bool, true, false, cond, eqb, ltb, Option, Some, None, List, [], ◌∷◌, ◌++◌, length, take, drop, get_or, refl, ◌∙◌, ap, arith, length-take}
-use Rattle.std.specs.Prelude.{All, unwrap_or}
-use Rattle.std.specs.List.{slice_split, position_or_len}
-use Rattle.std.proofs.lemmas.Bool.Decides.{nat_tests}
-use Rattle.std.proofs.lemmas.List.{drop_more, get_or-take}
-use Rattle.std.proofs.lemmas.List.Splits.{slice_split_at, slice_split_none, length-slice_split}
-use Rattle.std.proofs.lemmas.List.Sums.{fails_before_first, passes_at_first}
-use Rattle.sd_lines.specs.Lines.{HasNoEnd, end_byte, ended_line, lines_between, lines_in}
-use Rattle.sd_lines.specs.declared.ending.Ending.{Ending}
-use Rattle.sd_lines.specs.declared.ending.Ending.TheVariants.{Feed, Zero}
+use Rattle.sd_lines.proofs.Cited.{All, Bool, Ending, Feed, HasNoEnd, List, None, Option, Some, Zero, [], ap, arith, cond, drop, drop_more, end_byte, ended_line, eqb, fails_before_first, false, get_or, get_or-take, length, length-slice_split, length-take, lines_between, lines_in, ltb, nat_tests, passes_at_first, position_or_len, refl, slice_split, slice_split_at, slice_split_none, take, true, unwrap_or, ℕ, ◌++◌, ◌+◌, ◌<◌, ◌∙◌, ◌∷◌, ◌≡◌, ◌≤◌}
 
 abbrev pub ends : Ending → ℕ → Bool
 ends ending b = eqb b (end_byte ending)

@@ -1,6 +1,5 @@
 -- Lines that are answered one after the other.
-use Rattle.std.proofs.Common.{ℕ, List, [], ◌∷◌, ◌++◌, ap, append_assoc}
-use Rattle.sd_lines.specs.Answers.{AreAnswered}
+use Rattle.sd_lines.proofs.Cited.{AreAnswered, List, [], ap, append_assoc, ℕ, ◌++◌, ◌∷◌}
 
 -- and then more lines
 pub joined : {State : Type 0} (Next : State → List ℕ → List ℕ → State → Type 0) (old between last : State) (front back : List (List ℕ)) (p q : List ℕ)

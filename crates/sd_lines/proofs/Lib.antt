@@ -1,3 +1,4 @@
+pub mod Cited
 pub mod Cutting
 pub mod InOrder
 pub mod Steps

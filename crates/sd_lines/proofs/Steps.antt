@@ -1,22 +1,5 @@
 -- Lines that are answered as they end, and what is left where a run ends.
-use Rattle.std.proofs.Common.{◌≡◌, ℕ, ◌+◌, ◌-◌, ◌<◌, ◌≤◌, true, false, ltb, lit<, List, [], ◌∷◌, ◌++◌, length, take, ◌⊎◌, Option, refl, sym, ◌∙◌, ap, append_assoc, append-nil, length-take, arith, inl, inr}
-use Rattle.std.specs.Io.KnownBytes.{Appends, Consumes, IsAtEnd}
-use Rattle.std.proofs.KnownBytes.{Appends-trans, Consumes-all}
-use Rattle.std.proofs.lemmas.Bool.{and_parts, cases_lt}
-use Rattle.std.proofs.lemmas.Bool.Decides.{nat_tests}
-use Rattle.std.proofs.lemmas.List.{nil_from_length, take-append-le, take_all}
-use Rattle.std.proofs.lemmas.List.Elements.{All-append}
-use Rattle.std.proofs.Math.Seq.{take-append-add}
-use Rattle.sd_lines.specs.Streams.{AppendsBeginning}
-use Rattle.sd_lines.specs.declared.input.TheConstants.{MAX_INPUT_BYTES}
-use Rattle.sd_lines.specs.Answers.{Answering, AreAnswered, Prints, PrintsAndLeaves, of_form}
-use Rattle.sd_lines.specs.Lines.{HasNoEnd, IsEnded, IsLong, asked_of, end_byte, ended_line, lines_in, text_of}
-use Rattle.sd_lines.specs.Output.{AnswersEnded, AnswersPart, AppendsOutput}
-use Rattle.sd_lines.specs.Steps.{Answered, ends_run}
-use Rattle.sd_lines.specs.declared.ending.Ending.{Ending}
-use Rattle.sd_lines.specs.declared.ending.Ending.TheVariants.{Feed, Zero}
-use Rattle.sd_lines.specs.declared.form.Form.{Form}
-use Rattle.sd_lines.specs.declared.form.TheConstants.{KEPT_BYTES}
+use Rattle.sd_lines.proofs.Cited.{All-append, Answered, Answering, AnswersEnded, AnswersPart, Appends, Appends-trans, AppendsBeginning, AppendsOutput, AreAnswered, Consumes, Consumes-all, Ending, Feed, Form, HasNoEnd, IsAtEnd, IsEnded, IsLong, KEPT_BYTES, List, MAX_INPUT_BYTES, Option, Prints, PrintsAndLeaves, Zero, [], and_parts, ap, append-nil, append_assoc, arith, asked_of, cases_lt, end_byte, ended_line, ends_run, false, inl, inr, length, length-take, lines_in, lit<, ltb, nat_tests, nil_from_length, of_form, refl, sym, take, take-append-add, take-append-le, take_all, text_of, true, ℕ, ◌++◌, ◌+◌, ◌-◌, ◌<◌, ◌∙◌, ◌∷◌, ◌≡◌, ◌≤◌, ◌⊎◌}
 use Rattle.sd_lines.proofs.Cutting.{ends, lines_cut, lines_last, no_lines}
 
 -- ---- what is kept of a line

@@ -1,3 +1,4 @@
+pub mod Cited
 pub mod Moved
 pub mod PathBytes
 pub mod PathTexts

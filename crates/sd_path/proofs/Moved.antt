@@ -1,10 +1,5 @@
 -- The bytes of a path whose beginning is replaced.
-use Rattle.std.proofs.Common.{◌≡◌, ℕ, ◌+◌, ◌-◌, ◌≤◌, true, ◌&&◌, List, [], ◌∷◌, ◌++◌, length, drop, refl, sym, ap, subst, ◌∙◌, arith, append_assoc}
-use Rattle.std.proofs.lemmas.List.{length-append}
-use Rattle.std.proofs.lemmas.List.Folds.{list_all-append}
-use Rattle.std.proofs.lemmas.Bool.{and_parts, and_from}
-use Rattle.std.specs.List.{list_all}
-use Rattle.sd_path.specs.Names.{Names, is_within, is_name, moved_path, IsPath, ended, names_of, Keeps}
+use Rattle.sd_path.proofs.Cited.{IsPath, Keeps, List, Names, [], and_from, and_parts, ap, append_assoc, arith, drop, ended, is_name, is_within, length, length-append, list_all, list_all-append, moved_path, names_of, refl, subst, sym, true, ℕ, ◌&&◌, ◌++◌, ◌+◌, ◌-◌, ◌∙◌, ◌∷◌, ◌≡◌, ◌≤◌}
 use Rattle.sd_path.proofs.PathBytes.{names_of-path, Keeps-ended}
 use Rattle.sd_path.proofs.Paths.{within_rest, moved_path-append}
 

@@ -1,20 +1,7 @@
 -- Paths as they are kept: what is said of names is said of the bytes in which each is ended by a zero byte.
-use Rattle.std.proofs.Common.{◌≡◌, ◌≢◌, ℕ, zero, suc, ◌+◌, ◌-◌, ◌<◌, ◌≤◌, true, false, ◌&&◌, nat_eq, nat_lt, nat_le, nat_cmp, cond, List, [], ◌∷◌, ◌++◌, length, take, drop, get_or, refl, sym, ◌∙◌, ap, subst, arith, length-append, append_assoc}
-use Rattle.std.specs.Str.{bytes_eq}
-use Rattle.std.specs.List.{list_all, onto_first, starts_with}
-use Rattle.std.specs.Ordering.{ordering_then}
-use Rattle.std.specs.Cmp.Lexicographic.{slice_cmp}
-use Rattle.std.specs.Cmp.Derive.{then_next}
-use Rattle.std.specs.declared.cmp.Ordering.TheVariants.{Less, Equal, Greater}
-use Rattle.std.proofs.Math.Bool.{and_assoc}
-use Rattle.std.proofs.Math.Seq.{take-append_seam, drop-append_seam, get_or-append_seam, get_or-append_right}
-use Rattle.std.proofs.Math.ListN.{get_or-append}
-use Rattle.std.proofs.lemmas.Bool.{and_parts}
-use Rattle.std.proofs.lemmas.List.{length-take-le}
-use Rattle.std.proofs.lemmas.List.Folds.{list_all-append}
-use Rattle.std.proofs.lemmas.Bool.Decides.{nat_tests}
+use Rattle.sd_path.proofs.Cited.{Equal, Greater, IsPath, Keeps, Less, List, Names, [], and_assoc, and_parts, ap, append_assoc, arith, bytes_eq, cond, drop, drop-append_seam, ended, false, get_or, get_or-append, get_or-append_right, get_or-append_seam, is_name, is_name_byte, is_root, is_within, length, length-take-le, list_all, list_all-append, names_cmp, names_of, nat_cmp, nat_eq, nat_le, nat_lt, nat_tests, onto_first, ordering_then, refl, slice_cmp, starts_with, subst, suc, sym, take, take-append_seam, then_next, true, up, zero, ℕ, ◌&&◌, ◌++◌, ◌+◌, ◌-◌, ◌<◌, ◌∙◌, ◌∷◌, ◌≡◌, ◌≢◌, ◌≤◌}
+use Rattle.std.proofs.Common.{length-append}
 use Rattle.sd_path.proofs.Paths.{last_name, push-up}
-use Rattle.sd_path.specs.Names.{Names, names_cmp, up, is_root, is_within, is_name_byte, is_name, IsPath, ended, names_of, Keeps}
 
 -- no byte is zero
 abbrev pub HasNoZero : List ℕ → Type 0

@@ -1,18 +1,7 @@
 -- Paths as texts: how their names are found and judged.
-use Rattle.std.proofs.Common.{◌≡◌, ◌≢◌, ℕ, zero, suc, ◌+◌, ◌-◌, ◌<◌, ◌≤◌, true, false, not, ◌||◌, ◌==◌, cond, List, [], ◌∷◌, ◌++◌, length, take, drop, get_or, map, Option, Some, None, Result, Ok, Err, refl, sym, ◌∙◌, ap, ap₂, arith, append-nil, append_assoc}
-use Rattle.std.specs.List.{list_all, onto_first, before_first, position_or_len, prefix_len}
-use Rattle.std.specs.Option.{option_or}
-use Rattle.std.proofs.lemmas.Bool.Decides.{nat_tests}
-use Rattle.std.proofs.lemmas.List.Sums.{prefix_len-le-length, position_or_len_is, prefix_len_passes, prefix_len_stops, passes_at_first, fails_before_first, list_all-from_AllPass}
-use Rattle.std.proofs.lemmas.List.{length-take-le, get_or-take, take_all}
-use Rattle.std.proofs.lemmas.List.Elements.{All-from_get_or}
-use Rattle.std.proofs.lemmas.List.Folds.{list_all_at}
-use Rattle.std.proofs.lemmas.List.Splits.{slice_split_first, slice_split_none}
-use Rattle.sd_path.specs.Names.{Names, up, is_root, is_name_byte, is_name, IsPath, ended, names_of, Keeps}
-use Rattle.sd_path.specs.PathText.{slashed, between_slashes, name_fault, fault_of, unless, path_of, IsReadAs}
+use Rattle.sd_path.proofs.Cited.{All-from_get_or, Err, IsPath, IsReadAs, Keeps, List, Memory, NameTooLong, Names, None, Ok, Option, PathError, Result, Some, Syntax, TooManyNames, [], ap, append-nil, append_assoc, ap₂, arith, before_first, between_slashes, cond, drop, ended, fails_before_first, false, fault_of, get_or, get_or-take, is_name, is_name_byte, is_root, length, length-take-le, list_all, list_all-from_AllPass, list_all_at, map, name_fault, names_of, nat_tests, not, onto_first, option_or, passes_at_first, position_or_len, position_or_len_is, prefix_len, prefix_len-le-length, prefix_len_passes, prefix_len_stops, refl, slashed, slice_split_first, slice_split_none, suc, sym, take, take_all, true, unless, up, zero, ℕ, ◌++◌, ◌+◌, ◌-◌, ◌<◌, ◌==◌, ◌||◌, ◌∙◌, ◌∷◌, ◌≡◌, ◌≢◌, ◌≤◌}
+use Rattle.sd_path.specs.PathText.{path_of}
 use Rattle.sd_path.proofs.PathBytes.{names_of-path, Keeps-ended}
-use Rattle.sd_path.specs.declared.error.PathError.{PathError}
-use Rattle.sd_path.specs.declared.error.PathError.TheVariants.{Syntax, NameTooLong, TooManyNames, Memory}
 
 -- ---- the bytes of a name at the front
 

@@ -1,16 +1,6 @@
 -- Paths: what holds a path, what it begins with, and the order.
-use Rattle.std.proofs.Common.{◌≡◌, ℕ, true, false, ◌&&◌, List, [], ◌∷◌, ◌++◌, length, drop, if◌then◌else◌, refl, sym, ◌∙◌, ap, ap₂, ◌≢◌, append_assoc}
-use Rattle.std.specs.Str.{bytes_eq}
-use Rattle.std.specs.Ordering.{nat_cmp, ordering_then}
-use Rattle.std.specs.Cmp.{IsTotalOrder}
-use Rattle.std.specs.Cmp.Lexicographic.{slice_cmp}
-use Rattle.std.specs.FinMap.{IsAntisymmetric, nat_cmp-IsAntisymmetric, slice_cmp-IsAntisymmetric}
-use Rattle.std.specs.declared.cmp.Ordering.{Ordering}
-use Rattle.std.specs.declared.cmp.Ordering.TheVariants.{Less, Equal, Greater}
-use Rattle.std.proofs.lemmas.Cmp.{lists_total, nat_list_cmp_total, tied_itself, tied_back}
-use Rattle.std.proofs.lemmas.Bool.{and_parts, and_from, false≢true}
-use Rattle.std.proofs.lemmas.Slice.Eq.{bytes_eq-Decides}
-use Rattle.sd_path.specs.Names.{Names, names_cmp, up, is_root, is_within, moved_path}
+use Rattle.sd_path.proofs.Cited.{Equal, Greater, IsAntisymmetric, IsTotalOrder, Less, List, Names, Ordering, [], and_from, and_parts, ap, append_assoc, ap₂, bytes_eq, bytes_eq-Decides, drop, false, false≢true, if◌then◌else◌, is_root, is_within, length, lists_total, moved_path, names_cmp, nat_cmp-IsAntisymmetric, nat_list_cmp_total, ordering_then, refl, slice_cmp, slice_cmp-IsAntisymmetric, sym, tied_back, tied_itself, true, up, ℕ, ◌&&◌, ◌++◌, ◌∙◌, ◌∷◌, ◌≡◌, ◌≢◌}
+use Rattle.std.specs.Ordering.{nat_cmp}
 
 -- ---- what holds a path
 

@@ -1,18 +1,5 @@
 -- That SIDs compare as their values do, though they are kept with zeros behind the sub-authorities.
-use Rattle.std.proofs.Common.{◌≡◌, ◌<◌, ◌≤◌, ℕ, zero, suc, ◌+◌, ◌-◌, true, ◌&&◌, ◌==◌, nat_eq, List, [], ◌∷◌, ◌++◌, length, get_or, take, refl, sym, ◌∙◌, ap, arith, replicate, nat_cmp, nat_lt, cond, length-append}
-use Rattle.std.specs.Str.{bytes_eq}
-use Rattle.std.specs.Ordering.{ordering_then}
-use Rattle.std.specs.Cmp.Lexicographic.{slice_cmp}
-use Rattle.std.specs.declared.cmp.Ordering.{Ordering}
-use Rattle.std.specs.declared.cmp.Ordering.TheVariants.{Less, Equal, Greater}
-use Rattle.std.proofs.Math.Bool.{and-false, and_assoc}
-use Rattle.std.proofs.Math.Dec.{eqb-suc-suc, eqb-zero-suc, eqb-suc-zero, leb-suc-suc}
-use Rattle.std.proofs.lemmas.List.{length-replicate, length-take-le, ext_get_or, get_or-take}
-use Rattle.std.proofs.lemmas.Bool.{lt-ltb, le-ltb, and_parts, and_from, eqb-true, eq-eqb}
-use lib.Pointwise.{bytes_decides}
-use Rattle.sd_sid.specs.Sid.{SidValue, IsSid, IsPadded, same_sid, sid_cmp}
-use Rattle.sd_sid.specs.SidParts.{value_of, fields_of, parts_come_back}
-use Rattle.sd_sid.specs.declared.sid.Sid.TheInside.{Inside}
+use Rattle.sd_sid.proofs.Cited.{Equal, Greater, Inside, IsPadded, IsSid, Less, List, Ordering, SidValue, [], and-false, and_assoc, and_from, and_parts, ap, arith, bytes_decides, bytes_eq, cond, eq-eqb, eqb-suc-suc, eqb-suc-zero, eqb-true, eqb-zero-suc, ext_get_or, fields_of, get_or, get_or-take, le-ltb, leb-suc-suc, length, length-append, length-replicate, length-take-le, lt-ltb, nat_cmp, nat_eq, nat_lt, ordering_then, parts_come_back, refl, replicate, same_sid, sid_cmp, slice_cmp, suc, sym, take, true, value_of, zero, ℕ, ◌&&◌, ◌++◌, ◌+◌, ◌-◌, ◌<◌, ◌==◌, ◌∙◌, ◌∷◌, ◌≡◌, ◌≤◌}
 
 zeros_equal : (m : ℕ) → bytes_eq (replicate m 0) (replicate m 0) ≡ true
 zeros_equal zero = refl

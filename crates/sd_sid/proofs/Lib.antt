@@ -1,3 +1,4 @@
+pub mod Cited
 pub mod Masks
 pub mod Mapped
 pub mod Compared

@@ -1,9 +1,5 @@
 -- That the steps of `map` give the mapped mask.
-use Rattle.std.proofs.Common.{◌≡◌, ℕ, ◌<◌, Bool, ◌&&◌, ◌||◌, ◌==◌, nat_lt, cond, sym, ◌∙◌, ap, inl, inr}
-use Rattle.std.proofs.lemmas.Nat.Bits.{bit_at_ones, bit_at_ones_above}
-use Rattle.std.proofs.lemmas.Bool.{cases_lt, lt-ltb, le-ltb}
-use Rattle.sd_sid.specs.Mask.{holds, mask_of}
-use Rattle.sd_sid.specs.Mapping.{MappingValue, mapped, is_mapped}
+use Rattle.sd_sid.proofs.Cited.{Bool, MappingValue, ap, bit_at_ones, bit_at_ones_above, cases_lt, cond, holds, inl, inr, is_mapped, le-ltb, lt-ltb, mapped, mask_of, nat_lt, sym, ℕ, ◌&&◌, ◌<◌, ◌==◌, ◌||◌, ◌∙◌, ◌≡◌}
 use Rattle.sd_sid.proofs.Masks.{holds_place, holds_when, mask_of-alike}
 
 -- 0x0FFFFFFF holds the places that aren't generic

@@ -1,15 +1,6 @@
 -- Masks as sets of places: what `mask_of` holds, and when two masks are one.
-use Rattle.std.proofs.Common.{◌≡◌, ℕ, zero, suc, ◌+◌, ◌-◌, ◌*◌, ◌^◌, ◌<◌, Bool, true, false, ◌&&◌, ◌||◌, not, ◌==◌, nat_lt, cond, refl, sym, ◌∙◌, ap, arith, inl, inr, ◌⊎◌, bit_and, bit_or, lit<, min, max}
-use Rattle.std.specs.Int.{bit_at, w32}
-use Rattle.std.proofs.lemmas.Nat.Bits.{bit_at_cat_low, bit_at_cat_high, bit_at-zero, bit_at-lt, bit_at_above, same_from_bits_below, bit_at_and, bit_at_or, bit_at_not, and_pow}
-use Rattle.std.proofs.lemmas.Nat.{or_lt}
-use Rattle.std.specs.Int.Bits.{and_lt}
-use Rattle.std.proofs.lemmas.Bool.{cases_order, lt-ltb, le-ltb, ne_eqb, eq-eqb}
-use Rattle.std.proofs.Math.Pow.{pow_pos}
-use Rattle.std.proofs.Math.Nat.{zero-mul, one-mul}
-use Rattle.std.proofs.Math.Nat.{pow-suc}
-use Rattle.std.proofs.lemmas.Bool.Decides.{nat_tests}
-use Rattle.sd_sid.specs.Mask.{holds, mask_of}
+use Rattle.sd_sid.proofs.Cited.{Bool, and_lt, and_pow, ap, arith, bit_and, bit_at, bit_at-lt, bit_at-zero, bit_at_above, bit_at_and, bit_at_cat_high, bit_at_cat_low, bit_at_not, bit_at_or, bit_or, cases_order, cond, eq-eqb, false, holds, inl, inr, le-ltb, lit<, lt-ltb, max, min, nat_lt, nat_tests, ne_eqb, not, one-mul, or_lt, pow-suc, pow_pos, refl, same_from_bits_below, suc, sym, true, w32, zero, zero-mul, ℕ, ◌&&◌, ◌*◌, ◌+◌, ◌-◌, ◌<◌, ◌==◌, ◌^◌, ◌||◌, ◌∙◌, ◌≡◌, ◌⊎◌}
+use Rattle.sd_sid.specs.Mask.{mask_of}
 
 mask_step : (b : Bool) (power rest : ℕ) → rest < power → cond b 1 0 * power + rest < power * 2
 mask_step true power rest h = omega (arith, h)

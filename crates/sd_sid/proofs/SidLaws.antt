@@ -1,15 +1,7 @@
 -- The two laws on SIDs as bytes.
-use Rattle.std.proofs.Common.{◌≡◌, ℕ, zero, suc, ◌+◌, ◌*◌, ◌^◌, ◌<◌, ◌≤◌, false, ◌==◌, nat_lt, List, [], ◌∷◌, ◌++◌, length, get_or, take, drop, Result, Ok, refl, sym, ap, ◌∙◌, arith, append_assoc}
-use Rattle.std.specs.Int.{w32, w64, from_be_bytes, to_be_bytes, to_le_bytes}
-use Rattle.std.specs.List.{flat_map}
-use Rattle.std.proofs.Math.Seq.{take-add}
-use Rattle.std.proofs.lemmas.Bool.{ltb-false, le-ltb, eqb-true, not-false, ne_eqb}
+use Rattle.sd_sid.proofs.Cited.{IsSid, List, Ok, Result, SidError, SidValue, SidsComeBack, SidsStand, [], ap, append_assoc, arith, authority_of, be_bytes_8, drop, eqb-true, false, flat_map, from_be_bytes, from_be_bytes-to_be_bytes_8, get_or, le-ltb, length, length-map-range_with_len, ltb-false, nat_lt, ne_eqb, not-false, refl, suc, sym, take, take-add, to_be_bytes, to_le_bytes, u32_at, u32s_at, w32, w64, zero, ℕ, ◌*◌, ◌++◌, ◌+◌, ◌<◌, ◌==◌, ◌^◌, ◌∙◌, ◌∷◌, ◌≡◌, ◌≤◌}
 use Rattle.std.proofs.lemmas.List.{length-append}
-use Rattle.std.proofs.lemmas.List.FromFn.{length-map-range_with_len}
-use Rattle.std.proofs.lemmas.Nat.{be_bytes_8, from_be_bytes-to_be_bytes_8}
-use Rattle.sd_sid.specs.Sid.{SidValue, IsSid}
-use Rattle.sd_sid.specs.SidBytes.{u32_at, u32s_at, authority_of, sid_reading, bytes_of_sid, SidsComeBack, SidsStand}
-use Rattle.sd_sid.specs.declared.sid.SidError.{SidError}
+use Rattle.sd_sid.specs.SidBytes.{sid_reading, bytes_of_sid}
 use Rattle.sd_sid.proofs.Outcomes.{passed}
 use Rattle.sd_sid.proofs.SidWords.{cells, words_stand, length_words, words_again}
 

@@ -1,16 +1,5 @@
 -- Numbers in bytes: what is written at a place is read there, and what is read there stands there.
-use Rattle.std.proofs.Common.{◌≡◌, ℕ, zero, suc, ◌+◌, ◌*◌, ◌^◌, ◌<◌, ◌≤◌, List, [], ◌∷◌, ◌++◌, length, get_or, take, drop, refl, sym, ap, ◌∙◌, arith, inl, inr, add-zero, add_assoc, All}
-use Rattle.std.specs.Prelude.{map}
-use Rattle.std.specs.Int.{w32, from_le_bytes, to_le_bytes}
-use Rattle.std.specs.List.{flat_map, range_with_len}
-use Rattle.std.proofs.Math.Seq.{take-add}
-use Rattle.std.proofs.lemmas.Bool.{cases_lt}
-use Rattle.std.proofs.lemmas.List.{length-take, length-drop, length-take-le, get_or-take, get_or-drop, get_or_past, get_or-append-add, get_or_append_left, drop-drop}
-use Rattle.std.proofs.lemmas.List.Concat.{get_or-flat_map}
-use Rattle.std.proofs.lemmas.List.Elements.{All-get_or}
-use Rattle.std.proofs.lemmas.List.FromFn.{fill_by_all}
-use Rattle.std.proofs.lemmas.Nat.{le_bytes_4, from_le_bytes-to_le_bytes_4}
-use Rattle.sd_sid.specs.SidBytes.{u32_at, u32s_at}
+use Rattle.sd_sid.proofs.Cited.{All, All-get_or, List, [], add-zero, add_assoc, ap, arith, cases_lt, drop, drop-drop, fill_by_all, flat_map, from_le_bytes, from_le_bytes-to_le_bytes_4, get_or, get_or-append-add, get_or-drop, get_or-flat_map, get_or-take, get_or_append_left, get_or_past, inl, inr, le_bytes_4, length, length-drop, length-take, length-take-le, map, range_with_len, refl, suc, sym, take, take-add, to_le_bytes, u32_at, u32s_at, w32, zero, ℕ, ◌*◌, ◌++◌, ◌+◌, ◌<◌, ◌^◌, ◌∙◌, ◌∷◌, ◌≡◌, ◌≤◌}
 
 -- the bytes from a place on, one by one
 pub cells : (bytes : List ℕ) (o n : ℕ) → o + n ≤ length bytes → take n (drop o bytes) ≡ map (λ k. get_or bytes (o + k) 0) (range_with_len 0 n)

@@ -1,15 +1,5 @@
 -- Answers of a worker, as its checker sees more and one answer more is given.
-use Rattle.std.proofs.Common.{◌≡◌, ℕ, ◌+◌, ◌*◌, ◌<◌, ◌≤◌, ◌⊎◌, List, [], ◌∷◌, ◌++◌, length, take, slice_index_or, sym, ap, ◌∙◌, subst, arith, inl, inr, le_trans}
-use Rattle.std.proofs.lemmas.List.{take-append-le, take_all, get_or_append_left, get_or_push, length_push}
-use mathlib.Core.List.{IsPrefix}
-use Rattle.sd_edit.specs.Journal.{IsLawful}
-use Rattle.sd_edit.specs.declared.edit.Edit.{Edit}
-use Rattle.sd_edit.specs.declared.opening.Opening.{Opening}
-use Rattle.sd_edit.specs.declared.reply.Answer.{Answer}
-use Rattle.sd_store.specs.Audits.{IsAnswer, reply_by}
-use Rattle.sd_store.specs.Sights.{Sight}
-use Rattle.sd_store.specs.Workers.{IsFresh, IsAnswered, IsDrawnAt, IsDrawn, IsUnderWay}
-use Rattle.sd_store.specs.declared.query.Query.{Query}
+use Rattle.sd_store.proofs.Cited.{Answer, Edit, IsAnswer, IsAnswered, IsDrawn, IsDrawnAt, IsFresh, IsLawful, IsPrefix, IsUnderWay, List, Opening, Query, Sight, [], ap, arith, get_or_append_left, get_or_push, inl, inr, le_trans, length, length_push, reply_by, slice_index_or, subst, sym, take, take-append-le, take_all, ℕ, ◌*◌, ◌++◌, ◌+◌, ◌<◌, ◌∙◌, ◌∷◌, ◌≡◌, ◌≤◌, ◌⊎◌}
 use Rattle.sd_store.proofs.Prefixes.{prefix_self, prefix_trans, prefix_length}
 
 take_prefix : {A : Type 0} (n : ℕ) (xs ys : List A) → IsPrefix xs ys → n ≤ length xs → take n ys ≡ take n xs

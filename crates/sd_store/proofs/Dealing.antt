@@ -1,20 +1,6 @@
 -- Workers whose answers are put together.
-use Rattle.std.proofs.Common.{◌≡◌, ℕ, zero, suc, ◌+◌, ◌-◌, ◌*◌, ◌/◌, ◌%◌, ◌<◌, ◌≤◌, ◌≢◌, ◌⊎◌, List, [], ◌∷◌, ◌++◌, length, slice_index_or, slice_set, None, Some, Result, Ok, Err, IfOk, refl, sym, ap, ◌∙◌, subst, arith, inl, inr}
-use Rattle.std.proofs.Math.Nat.{lt_of_mul-lt-mul_left, mod-lt, mod-eq-sub-mod, div-eq-sub-div, mod-add-div}
-use Rattle.std.proofs.lemmas.List.{get_or_append_left, get_or_push, length_push, get_or-set_other}
-use Rattle.std.proofs.lemmas.Grind.{get_or-set_at}
-use mathlib.Core.List.{IsPrefix}
-use Rattle.sd_edit.specs.Journal.{IsLawful}
-use Rattle.sd_edit.specs.declared.edit.Edit.{Edit}
-use Rattle.sd_edit.specs.declared.opening.Opening.{Opening}
-use Rattle.sd_edit.specs.declared.reply.Answer.{Answer}
-use Rattle.sd_store.specs.Audits.{IsAnswer, AreAnswers, HasGrown, HaveGrown}
-use Rattle.sd_store.specs.Sights.{Sight}
-use Rattle.sd_store.specs.Workers.{IsDrawn, IsDrawnAt, IsFurther, IsWorked, IsDone, AreDone, IsInformed, AreInformed, IsDealt}
+use Rattle.sd_store.proofs.Cited.{Answer, AreAnswers, AreDone, AreInformed, Edit, Err, HasGrown, HaveGrown, IfOk, IsAnswer, IsDealt, IsDone, IsDrawn, IsDrawnAt, IsFurther, IsInformed, IsLawful, IsPrefix, IsWorked, KnownJournal, List, None, Ok, Opening, Query, Result, Sight, Some, [], ap, arith, div-eq-sub-div, get_or-set_at, get_or-set_other, get_or_append_left, get_or_push, inl, inr, length, length_push, lt_of_mul-lt-mul_left, mod-add-div, mod-eq-sub-mod, mod-lt, newcomer, refl, slice_index_or, slice_set, subst, suc, sym, zero, ℕ, ◌%◌, ◌*◌, ◌++◌, ◌+◌, ◌-◌, ◌/◌, ◌<◌, ◌∙◌, ◌∷◌, ◌≡◌, ◌≢◌, ◌≤◌, ◌⊎◌}
 use Rattle.sd_store.specs.declared.error.AuditError.TheVariants as failed
-use Rattle.sd_store.specs.declared.query.Query.{Query}
-use Rattle.sd_store.specs.declared.rule.KnownJournal.{KnownJournal}
-use Rattle.sd_store.specs.Rules.{newcomer}
 use Rattle.sd_store.proofs.Answering.{answer_stays}
 use Rattle.sd_store.proofs.Prefixes.{prefix_self, prefix_trans}
 

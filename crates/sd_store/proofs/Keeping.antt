@@ -1,13 +1,5 @@
 -- The rule of the store is kept by every step.
-use Rattle.std.proofs.Common.{◌≡◌, ◌≢◌, ℕ, Result, Ok, Err, OnOk, refl, subst, ⊎_elim}
-use mathlib.Core.Option.{some}
-use mathlib.Core.List.{IsPrefix}
-use lib.ListN.{get_elem?}
-use Rattle.left_right.specs.Register.{Admits, TurnsAt, Turns}
-use Rattle.atomic_table.proofs.Lists.{at_set, at_snoc}
-use Rattle.sd_store.specs.Rules.{StoreIdValue, Fits, Kept, Shows, IsSound, newcomer, whole_of}
-use Rattle.sd_store.specs.declared.published.Published.{Published}
-use Rattle.sd_store.specs.declared.rule.KnownJournal.{KnownJournal}
+use Rattle.sd_store.proofs.Cited.{Admits, Err, Fits, IsPrefix, IsSound, Kept, KnownJournal, Ok, OnOk, Published, Result, Shows, StoreIdValue, Turns, TurnsAt, at_set, at_snoc, get_elem?, newcomer, refl, some, subst, whole_of, ℕ, ⊎_elim, ◌≡◌, ◌≢◌}
 use Rattle.sd_store.proofs.Prefixes.{prefix_self, prefix_trans}
 
 -- a reader that comes knows the empty journal

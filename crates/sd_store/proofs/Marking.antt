@@ -1,9 +1,5 @@
 -- Operations that join what waits, and what a publish makes of what is shown.
-use Rattle.std.proofs.Common.{◌≡◌, ℕ, ◌-◌, ◌<◌, true, false, List, [], ◌∷◌, ◌++◌, length, fold, slice_set, refl, ap, arith, length-append}
-use Rattle.std.proofs.Math.Seq.{set-append_seam}
-use Rattle.sd_store.specs.declared.operation.Facts.{Facts}
-use Rattle.sd_store.specs.declared.operation.Operation.{Operation}
-use Rattle.sd_store.specs.Marks.{last_of, marks_with, marked, Follow, IsOnePublish, ShowTree}
+use Rattle.sd_store.proofs.Cited.{Facts, Follow, IsOnePublish, List, Operation, ShowTree, [], ap, arith, false, fold, last_of, length, length-append, marked, marks_with, refl, set-append_seam, slice_set, true, ℕ, ◌++◌, ◌-◌, ◌<◌, ◌∷◌, ◌≡◌}
 
 -- ---- what waits, and one operation more
 

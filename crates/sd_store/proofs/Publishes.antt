@@ -1,16 +1,5 @@
 -- One publish, as a step of the store.
-use Rattle.std.proofs.Common.{◌≡◌, ℕ, List, [], ◌∷◌, ◌++◌, length, fold, Result, Ok, Err, MatchResult, sym, ap, ◌∙◌, subst}
-use mathlib.Core.List.{IsPrefix}
-use Rattle.left_right.specs.Register.{TurnsAt}
-use Rattle.sd_edit.specs.Journal.{TreeValue, IsLawful}
-use Rattle.sd_edit.specs.declared.edit.Edit.{Edit}
-use Rattle.sd_history.specs.Chains.{Sighting, items_from}
-use Rattle.sd_store.specs.declared.operation.Facts.{Facts}
-use Rattle.sd_store.specs.declared.operation.Operation.{Operation}
-use Rattle.sd_store.specs.declared.published.Published.{Published}
-use Rattle.sd_store.specs.declared.rule.KnownJournal.{KnownJournal}
-use Rattle.sd_store.specs.Marks.{marked, last_of, with_shown, ShowTree}
-use Rattle.sd_store.specs.Rules.{StoreIdValue, Kept, Shows, IsSound, IsFrontOf}
+use Rattle.sd_store.proofs.Cited.{Edit, Err, Facts, IsFrontOf, IsLawful, IsPrefix, IsSound, Kept, KnownJournal, List, MatchResult, Ok, Operation, Published, Result, ShowTree, Shows, Sighting, StoreIdValue, TreeValue, TurnsAt, [], ap, fold, items_from, last_of, length, marked, subst, sym, with_shown, ℕ, ◌++◌, ◌∙◌, ◌∷◌, ◌≡◌}
 use Rattle.sd_store.proofs.Keeping.{turns}
 use Rattle.sd_store.proofs.Marking.{last_push}
 use Rattle.sd_store.proofs.Prefixes.{prefix_append, prefix_trans}

@@ -1,16 +1,6 @@
 -- The code's tables of aliases are those of the grammar.
-use Rattle.std.proofs.Common.{◌≡◌, ℕ, true, List, Option, Some, None, Ok, Err, refl, ap, sym, ◌∙◌}
-use Rattle.sd_sid.specs.Sid.{SidValue}
-use Rattle.sd_text.specs.declared.alias.WellKnown.{WellKnown}
-use Rattle.sd_text.specs.declared.domain.Domain.{Domain}
-use Rattle.sd_text.specs.declared.fault.TextFault.TheVariants.{DomainAlias}
-use Rattle.sd_text.specs.Grammar.{Grammar, Name, named, one_of}
-use Rattle.sd_text.specs.Finding.{find}
-use Rattle.sd_text.specs.Alias.{aliases}
-use Rattle.sd_text.specs.Domain.{account_sid}
-use Rattle.sd_text.specs.Names.{renamed, well_known}
-use Rattle.sd_text.specs.Sid.{no_alias, domain_alias}
-use Rattle.sd_text.specs.Places.{are_placed}
+use Rattle.sd_text.proofs.Cited.{Domain, DomainAlias, Err, Grammar, List, Name, None, Ok, Option, SidValue, Some, WellKnown, account_sid, aliases, ap, are_placed, find, named, no_alias, one_of, refl, renamed, sym, true, well_known, ℕ, ◌∙◌, ◌≡◌}
+use Rattle.sd_text.specs.Sid.{domain_alias}
 use Rattle.sd_text.proofs.Placed.{placed_renamed}
 use Rattle.sd_text.proofs.Tables.{named_renamed}
 

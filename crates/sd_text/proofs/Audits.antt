@@ -1,17 +1,7 @@
 -- Reading the entries of a SACL.
-use Rattle.std.proofs.Common.{◌≡◌, ℕ, zero, suc, ◌+◌, ◌<◌, ◌≤◌, true, false, List, [], ◌∷◌, ◌++◌, length, drop, get_or, Some, None, Ok, Err, refl, sym, arith, add-one, ap, ◌∙◌, inl, inr}
-use Rattle.std.proofs.Math.Seq.{drop-cons}
-use Rattle.std.specs.Prelude.{codes}
-use Rattle.std.proofs.lemmas.List.{drop_all}
-use Rattle.sd_text.specs.declared.fault.TextFault.{TextFault}
-use Rattle.sd_text.specs.Grammar.{begins}
-use Rattle.sd_text.specs.Finding.{find}
-use Rattle.sd_text.specs.Entry.{opening}
-use Rattle.sd_acl.specs.Descriptor.{DescriptorValue}
-use Rattle.sd_text.specs.Laws.{AreReadAlike}
+use Rattle.sd_text.proofs.Cited.{AreReadAlike, DescriptorValue, Err, List, None, Ok, Some, TextFault, Within, [], add-one, after_byte, ap, arith, at_start, begins, codes, drop, drop-cons, drop_all, entry_len, false, find, get_or, inl, inr, length, one_more, opening, refl, sacl_entry, suc, sym, true, zero, ℕ, ◌++◌, ◌+◌, ◌<◌, ◌∙◌, ◌∷◌, ◌≡◌, ◌≤◌}
 use Rattle.sd_text.specs.Sddl.{sections, no_sacl}
-use Rattle.sd_text.specs.declared.sacl.Within.{Within}
-use Rattle.sd_text.specs.Sacl.{after_byte, all_sections, at_start, entry_len, one_more, sacl_entries, sacl_entry, sacl_section}
+use Rattle.sd_text.specs.Sacl.{all_sections, sacl_entries, sacl_section}
 use Rattle.sd_text.proofs.Loops.{Reaches, reaches_start, item_more, item_last, item_fault}
 
 -- entries have been read, and this is behind them

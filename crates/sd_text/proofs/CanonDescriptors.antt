@@ -1,23 +1,9 @@
 -- The printed text of a descriptor is read as the descriptor.
-use Rattle.std.proofs.Common.{◌≡◌, ℕ, Bool, true, false, List, [], ◌∷◌, ◌++◌, Option, Some, None, Ok, refl, append_assoc, length, drop}
-use Rattle.std.specs.Prelude.{codes, IfSome, IsTrue, not, ◌&&◌}
-use Rattle.std.specs.List.{flat_map}
-use Rattle.std.proofs.lemmas.List.{append-nil}
-use Rattle.sd_sid.specs.Sid.{SidValue, IsSid}
-use Rattle.sd_acl.specs.Dacl.{Dacl, IsAbsent}
-use Rattle.sd_acl.specs.Descriptor.{DescriptorValue, IsDacl, IsDescriptor, HaveNamedFlags}
-use Rattle.sd_acl.specs.declared.ace.Ace.{Ace}
-use Rattle.sd_acl.specs.declared.descriptor.DaclOf.TheVariants.{Absent, Null, List as Entries}
-use Rattle.sd_text.specs.declared.descriptor.DaclPart.{DaclPart}
-use Rattle.sd_text.specs.declared.alias.Aliases.{Aliases}
-use Rattle.sd_text.specs.Grammar.{begins}
-use Rattle.sd_text.specs.Finding.{find}
-use Rattle.sd_text.specs.Rights.{names_from_greatest, mask_text, rights}
-use Rattle.sd_text.specs.Sid.{sid_text_in, sid}
-use Rattle.sd_text.specs.Sddl.{sid_section, words, dacl_behind, dacl_section, no_sacl, parts, sections, sddl_in}
-use Rattle.sd_text.specs.Canon.{where_set, words_canon, entry_canon_in, section_canon, dacl_canon, sid_canon, rights_canon_in, canon_in}
-use Rattle.sd_text.specs.declared.right_names.RightNames.{RightNames}
-use Rattle.sd_text.specs.Laws.{DescriptorsComeBack, SidsComeBack, MasksComeBack}
+use Rattle.sd_text.proofs.Cited.{Absent, Ace, Aliases, Bool, Dacl, DaclPart, DescriptorValue, DescriptorsComeBack, HaveNamedFlags, IfSome, IsAbsent, IsDacl, IsDescriptor, IsSid, IsTrue, List, MasksComeBack, None, Null, Ok, Option, RightNames, SidValue, SidsComeBack, Some, [], append-nil, append_assoc, begins, codes, dacl_canon, drop, entry_canon_in, false, find, flat_map, length, mask_text, not, refl, rights, rights_canon_in, sddl_in, section_canon, sid, sid_canon, sid_text_in, true, where_set, ℕ, ◌&&◌, ◌++◌, ◌∷◌, ◌≡◌}
+use Rattle.sd_acl.specs.declared.descriptor.DaclOf.TheVariants.{List as Entries}
+use Rattle.sd_text.specs.Rights.{names_from_greatest}
+use Rattle.sd_text.specs.Sddl.{sid_section, words, dacl_behind, dacl_section, no_sacl, parts, sections}
+use Rattle.sd_text.specs.Canon.{words_canon, canon_in}
 use Rattle.sd_text.proofs.Engine.{find_spells}
 use Rattle.sd_text.proofs.CanonSids.{Stops, sid_read}
 use Rattle.sd_text.proofs.CanonRights.{rights_read}

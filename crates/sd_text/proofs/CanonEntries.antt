@@ -1,21 +1,8 @@
 -- The printed text of an entry, and of a list of them, is read as they are.
-use Rattle.std.proofs.Common.{◌≡◌, ℕ, ◌+◌, ◌≤◌, List, [], ◌∷◌, ◌++◌, Ok, refl, arith, sym, ◌∙◌, subst, append_assoc}
-use Rattle.std.specs.Prelude.{codes}
-use Rattle.std.specs.List.{flat_map, AllByRecursion}
-use Rattle.std.proofs.lemmas.Bool.{le-ltb}
-use Rattle.std.proofs.lemmas.List.{append-nil}
-use Rattle.std.proofs.lemmas.List.Sums.{sum_by-append, sum_by-cons}
-use Rattle.sd_acl.specs.Ace.{ace_size, acl_size_of}
-use Rattle.sd_acl.specs.Descriptor.{IsAce, HasNamedFlags}
-use Rattle.sd_acl.specs.declared.ace.Ace.{Ace}
-use Rattle.sd_acl.specs.declared.ace.AceKind.{AceKind}
-use Rattle.sd_acl.specs.declared.ace.AceKind.TheVariants.{Allow, Deny}
-use Rattle.sd_text.specs.Finding.{find}
+use Rattle.sd_text.proofs.Cited.{Ace, AceKind, Aliases, AllByRecursion, Allow, Deny, HasNamedFlags, IsAce, List, Ok, RightNames, [], ace_size, acl_size_of, append-nil, append_assoc, arith, codes, find, flags_canon, flat_map, kind_canon, le-ltb, opening, refl, rights_canon_in, sid_canon, subst, sum_by-append, sum_by-cons, sym, ℕ, ◌++◌, ◌+◌, ◌∙◌, ◌∷◌, ◌≡◌, ◌≤◌}
 use Rattle.sd_text.specs.Rights.{names_from_greatest}
-use Rattle.sd_text.specs.Entry.{opening, kind, guid, entry, entry_end, entries}
-use Rattle.sd_text.specs.declared.alias.Aliases.{Aliases}
-use Rattle.sd_text.specs.Canon.{kind_canon, flags_canon, rights_canon_in, sid_canon, entry_canon_in}
-use Rattle.sd_text.specs.declared.right_names.RightNames.{RightNames}
+use Rattle.sd_text.specs.Entry.{kind, guid, entry, entry_end, entries}
+use Rattle.sd_text.specs.Canon.{entry_canon_in}
 use Rattle.sd_text.proofs.Loops.{reaches_start, item_more, item_last}
 use Rattle.sd_text.proofs.Entries.{EntriesReach}
 use Rattle.sd_text.proofs.CanonSids.{Stops, sid_read}

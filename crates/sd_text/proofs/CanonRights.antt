@@ -1,17 +1,8 @@
 -- The printed text of a mask, and of flags, is read as the mask and the flags.
-use Rattle.std.proofs.Common.{◌≡◌, ℕ, zero, suc, ◌^◌, ◌<◌, Bool, true, false, cond, List, [], ◌∷◌, ◌++◌, Option, Some, None, Ok, refl, arith, sym, append_assoc, inl, inr}
-use Rattle.std.specs.Prelude.{codes, unwrap_or, ◌==◌, ◌&&◌, bit_and, bit_or, fold}
-use Rattle.std.specs.List.{flat_map, AllByRecursion}
-use Rattle.std.proofs.lemmas.Bool.{eqb-true, eq-eqb, cases_lt, and_parts}
-use Rattle.std.proofs.lemmas.Fmt.{digits_is_IsNumeral}
-use Rattle.sd_acl.specs.Ace.{all_named}
-use Rattle.sd_text.specs.Grammar.{Name, begins_digit, named}
-use Rattle.sd_text.specs.Finding.{find}
-use Rattle.sd_text.specs.Rights.{names_from_greatest, right_names, bits_of, mask_number, rights}
-use Rattle.sd_text.specs.Entry.{flag_names}
-use Rattle.sd_text.specs.Canon.{hex, rights_canon_in, flag_canon, flags_canon}
-use Rattle.sd_text.specs.RightNames.{PrintedRight, printed_rights, name_in}
-use Rattle.sd_text.specs.declared.right_names.RightNames.{RightNames}
+use Rattle.sd_text.proofs.Cited.{AllByRecursion, Bool, List, Name, None, Ok, Option, PrintedRight, RightNames, Some, [], all_named, and_parts, append_assoc, arith, begins_digit, bit_and, bit_or, cases_lt, codes, cond, digits_is_IsNumeral, eq-eqb, eqb-true, false, find, flag_canon, flag_names, flat_map, fold, hex, inl, inr, name_in, named, refl, right_names, suc, sym, true, unwrap_or, zero, ℕ, ◌&&◌, ◌++◌, ◌<◌, ◌==◌, ◌^◌, ◌∷◌, ◌≡◌}
+use Rattle.sd_text.specs.Rights.{names_from_greatest, bits_of, mask_number, rights}
+use Rattle.sd_text.specs.Canon.{rights_canon_in, flags_canon}
+use Rattle.sd_text.specs.RightNames.{printed_rights}
 use Rattle.sd_text.proofs.Parts.{went}
 use Rattle.sd_text.proofs.Tables.{IsTogether, run_start, run_more, run_end, right_row}
 use Rattle.sd_text.proofs.CanonSids.{number_read}

@@ -1,24 +1,8 @@
 -- The printed text of a SID is read as the SID.
-use Rattle.std.proofs.Common.{◌≡◌, ℕ, zero, suc, ◌+◌, ◌-◌, ◌^◌, ◌<◌, ◌≤◌, false, List, [], ◌∷◌, ◌++◌, length, drop, replicate, Option, Some, None, Ok, rules, refl, arith, lit<, ap, sym, subst, ◌∙◌, append_assoc, inl, inr}
-use Rattle.std.specs.Prelude.{codes, nat_lt, unwrap_or}
-use Rattle.std.specs.List.{flat_map, All, AllByRecursion}
-use Rattle.std.specs.Char.{digit_value, eq_ignore_ascii_case}
-use Rattle.std.specs.Str.Parse.{IsNumeral, digits_value}
-use Rattle.std.specs.Fmt.{decimal}
-use Rattle.std.proofs.lemmas.Grind.{common_steps}
-use Rattle.std.proofs.lemmas.Bool.Decides.{nat_tests}
-use Rattle.std.proofs.lemmas.Bool.{lt-ltb}
-use Rattle.std.proofs.Math.Bool.{and-false}
-use Rattle.std.proofs.lemmas.Fmt.{decimal_is_IsNumeral, digits_is_IsNumeral}
-use Rattle.std.proofs.lemmas.List.{append-nil}
-use Rattle.std.proofs.lemmas.List.Elements.{All-head, All-tail}
-use Rattle.sd_sid.specs.Sid.{SidValue, IsSid}
-use Rattle.sd_text.specs.Grammar.{Name, number, begins, begins_digit, named}
-use Rattle.sd_text.specs.Finding.{find}
-use Rattle.sd_text.specs.Alias.{aliases, alias_in}
-use Rattle.sd_text.specs.Sid.{dash, sub, subs_of, authority, sid}
-use Rattle.sd_text.specs.declared.alias.Aliases.{Aliases}
-use Rattle.sd_text.specs.Canon.{hex, authority_canon, sub_canon, full_canon, sid_canon}
+use Rattle.sd_text.proofs.Cited.{Aliases, All, All-head, All-tail, AllByRecursion, IsNumeral, IsSid, List, Name, None, Ok, Option, SidValue, Some, [], alias_in, and-false, ap, append-nil, append_assoc, arith, begins, begins_digit, codes, common_steps, dash, decimal, decimal_is_IsNumeral, digit_value, digits_is_IsNumeral, digits_value, drop, eq_ignore_ascii_case, false, find, flat_map, hex, inl, inr, length, lit<, lt-ltb, named, nat_lt, nat_tests, number, refl, replicate, rules, sub_canon, subs_of, subst, suc, sym, unwrap_or, zero, ℕ, ◌++◌, ◌+◌, ◌-◌, ◌<◌, ◌^◌, ◌∙◌, ◌∷◌, ◌≡◌, ◌≤◌}
+use Rattle.sd_text.specs.Alias.{aliases}
+use Rattle.sd_text.specs.Sid.{sub, authority, sid}
+use Rattle.sd_text.specs.Canon.{authority_canon, full_canon, sid_canon}
 use Rattle.sd_text.proofs.Parts.{went}
 use Rattle.sd_text.proofs.Engine.{spells_find}
 use Rattle.sd_text.proofs.Tables.{alias_row}

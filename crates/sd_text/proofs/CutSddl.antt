@@ -1,26 +1,11 @@
 -- A text whose SACL is left out, cut at the SACL: what is before it is the text of the descriptor.
-use Rattle.std.proofs.Common.{◌≡◌, ℕ, ◌+◌, ◌<◌, ◌≤◌, inl, inr, Bool, true, false, List, [], ◌∷◌, ◌++◌, length, Option, Some, None, refl, arith, ap, ◌∙◌}
-use Rattle.std.specs.Prelude.{◌&&◌, ◌^◌, not, nat_lt, bit_or, codes}
-use Rattle.std.specs.Char.{eq_ignore_ascii_case, to_ascii_lowercase}
-use Rattle.std.proofs.lemmas.Bool.{eqb-true, ne_eqb, not-true, and_parts}
-use Rattle.std.proofs.lemmas.List.{length-append}
-use Rattle.sd_sid.specs.Sid.{SidValue}
-use Rattle.sd_acl.specs.Ace.{ace_size, acl_size_of}
-use Rattle.sd_acl.specs.Descriptor.{DescriptorValue}
-use Rattle.sd_acl.specs.declared.ace.Ace.{Ace}
-use Rattle.sd_acl.specs.declared.ace.AceKind.{AceKind}
-use Rattle.sd_acl.specs.declared.ace.AceKind.TheVariants.{Allow, Deny}
-use Rattle.sd_text.specs.declared.alias.Aliases.{Aliases}
-use Rattle.sd_text.specs.declared.domain.Domain.{Domain}
-use Rattle.sd_text.specs.declared.fault.TextFault.TheVariants.{Syntax, AclTooLarge}
-use Rattle.sd_text.specs.Grammar.{Grammar, Name, value, refused, and_then, word, number, one_of, many, begins, begins_digit, named, spells}
-use Rattle.sd_text.specs.Alias.{aliases}
-use Rattle.sd_text.specs.Rights.{bits_of, right_names, mask_number, rights}
-use Rattle.sd_text.specs.Sid.{dash, sub, subs_of, authority, begins_letter, no_alias, domain_alias, other_alias, sid}
-use Rattle.sd_text.specs.Entry.{opening, flag_names, is_type, kind, guid, entry_end, entry, entries}
-use Rattle.sd_text.specs.Sddl.{sid_section, dacl_words, with_word, no_words, words, dacl_behind, dacl_section, no_sacl, parts, sections}
+use Rattle.sd_text.proofs.Cited.{Ace, AceKind, AclTooLarge, Aliases, Allow, Bool, Deny, DescriptorValue, Domain, EndsWithItsSacl, Grammar, List, Name, None, Option, SidValue, Some, Syntax, [], ace_size, acl_size_of, aliases, and_parts, and_then, ap, arith, begins, begins_digit, begins_letter, bit_or, codes, dacl_words, dash, eq_ignore_ascii_case, eqb-true, false, flag_names, inl, inr, is_type, length, length-append, many, named, nat_lt, ne_eqb, no_words, not, not-true, number, one_of, opening, other_alias, refl, refused, right_names, spells, to_ascii_lowercase, true, value, with_word, word, ℕ, ◌&&◌, ◌++◌, ◌+◌, ◌<◌, ◌∙◌, ◌∷◌, ◌≡◌, ◌≤◌}
+use Rattle.std.specs.Prelude.{◌^◌}
+use Rattle.sd_text.specs.Rights.{bits_of, mask_number, rights}
+use Rattle.sd_text.specs.Sid.{sub, subs_of, authority, no_alias, domain_alias, sid}
+use Rattle.sd_text.specs.Entry.{kind, guid, entry_end, entry, entries}
+use Rattle.sd_text.specs.Sddl.{sid_section, words, dacl_behind, dacl_section, no_sacl, parts, sections}
 use Rattle.sd_text.specs.Sacl.{sacl_section, all_sections}
-use Rattle.sd_text.specs.Laws.{EndsWithItsSacl}
 use Rattle.sd_text.proofs.Parts.{named_takes}
 use Rattle.sd_text.proofs.Cuts.{no_longer, items_suffix, suffix, Cuts, cut_at, begins_less, begins_kept, digit_less, digit_kept, cuts_value, cuts_refused, cuts_then, cuts_word, cuts_number, cuts_one_of, cuts_many, cuts_run, cuts_choose, cuts_if, Takes, cuts_headed, takes_word, takes_then, takes_number, takes_choose, takes_less, cuts_headed_word}
 

@@ -1,9 +1,5 @@
 -- Cutting a text at the end of what was parsed: a spelling needs none of the text after it.
-use Rattle.std.proofs.Common.{◌≡◌, ℕ, zero, suc, ◌+◌, ◌<◌, ◌≤◌, inl, inr, Bool, true, false, List, [], ◌∷◌, ◌++◌, length, drop, take, Option, Some, None, refl, arith, ap, sym, ◌∙◌, append_assoc}
-use Rattle.std.specs.Char.{eq_ignore_ascii_case}
-use Rattle.std.proofs.lemmas.Bool.{and_parts}
-use Rattle.std.proofs.lemmas.List.{append-nil, append_cancel_right, length-append, length-drop, take-append-drop}
-use Rattle.sd_text.specs.Grammar.{Grammar, Name, value, refused, choose, and_then, word, number, through, one_of, many, run, begins, begins_digit, named, Items, spells}
+use Rattle.sd_text.proofs.Cited.{Bool, Grammar, Items, List, Name, None, Option, Some, [], and_parts, and_then, ap, append-nil, append_assoc, append_cancel_right, arith, begins, begins_digit, choose, drop, eq_ignore_ascii_case, false, inl, inr, length, length-append, length-drop, many, named, number, one_of, refl, refused, run, spells, suc, sym, take, take-append-drop, through, true, value, word, zero, ℕ, ◌++◌, ◌+◌, ◌<◌, ◌∙◌, ◌∷◌, ◌≡◌, ◌≤◌}
 use Rattle.sd_text.proofs.Parts.{went, chosen, found_name, name_is, begins_fits}
 
 -- ---- what follows a part is a suffix of the text

@@ -1,14 +1,6 @@
 -- What find answers is what the relations say, for each grammar; so a text has one value or one fault.
-use Rattle.std.proofs.Common.{◌≡◌, ℕ, zero, suc, ◌+◌, ◌-◌, ◌≤◌, ◌⊎◌, inl, inr, true, false, List, [], ◌∷◌, ◌++◌, length, drop, take, Option, Some, None, Ok, Err, refl, arith, ap, sym, subst, ◌∙◌, append_assoc}
-use Rattle.std.specs.Prelude.{Bool, nat_lt, ◌==◌, IsOkAnd, IsErrOf, IfOk}
-use Rattle.std.specs.Option.{ok_or}
-use Rattle.std.specs.Str.Parse.{digits_value}
-use Rattle.std.proofs.lemmas.Bool.{ltb-true, ltb-false, lt-ltb, le-ltb, eqb-true}
-use Rattle.std.proofs.lemmas.List.{append-nil, length-drop}
-use Rattle.sd_text.specs.declared.fault.TextFault.{TextFault}
-use Rattle.sd_text.specs.declared.fault.TextError.TheVariants.{Memory}
-use Rattle.sd_text.specs.Grammar.{Grammar, Name, value, refused, choose, and_then, word, number, through, one_of, many, begins, begins_digit, named, Items, spells, faults, Spells, SpellsOne, HasFault, end, whole}
-use Rattle.sd_text.specs.Finding.{Found, GivesUnlessMemory, behind_part, digits_len, find_items, find, name_or}
+use Rattle.sd_text.proofs.Cited.{Err, Found, GivesUnlessMemory, Grammar, HasFault, IfOk, IsErrOf, IsOkAnd, Items, List, Memory, Name, None, Ok, Option, Some, Spells, SpellsOne, TextFault, [], and_then, ap, append-nil, append_assoc, arith, begins, begins_digit, behind_part, choose, digits_len, digits_value, drop, end, eqb-true, false, faults, find, find_items, inl, inr, le-ltb, length, length-drop, lt-ltb, ltb-false, ltb-true, many, name_or, named, nat_lt, number, ok_or, one_of, refl, refused, spells, subst, suc, sym, take, through, true, value, whole, word, zero, ℕ, ◌++◌, ◌+◌, ◌-◌, ◌==◌, ◌∙◌, ◌∷◌, ◌≡◌, ◌≤◌, ◌⊎◌}
+use Rattle.std.specs.Prelude.{Bool}
 use Rattle.sd_text.proofs.Parts.{went, found, found_is, stopped, stopped_is, named_takes, named_none}
 use Rattle.sd_text.proofs.Runs.{run_of, run_digits, run_behind, run_begins}
 

@@ -1,13 +1,7 @@
 -- Reading the entries of a list.
-use Rattle.std.proofs.Common.{◌≡◌, ℕ, ◌+◌, true, false, List, [], ◌∷◌, ◌++◌, drop, Ok, Err, Result, refl, arith, ap, sym, ◌∙◌, ◌≤◌}
-use Rattle.std.specs.Prelude.{codes, Bool, IfOk}
-use Rattle.std.proofs.lemmas.List.Sums.{sum_by_push}
-use Rattle.sd_acl.specs.Ace.{ace_size, acl_size_of}
-use Rattle.sd_acl.specs.declared.ace.Ace.{Ace}
+use Rattle.sd_text.proofs.Cited.{Ace, Err, Grammar, IfOk, List, Ok, Result, [], ace_size, acl_size_of, ap, arith, begins, codes, drop, false, find, has_one, opening, refl, sum_by_push, sym, true, ℕ, ◌++◌, ◌+◌, ◌∙◌, ◌∷◌, ◌≡◌, ◌≤◌}
+use Rattle.std.specs.Prelude.{Bool}
 use Rattle.sd_acl.specs.declared.list.AclTooLarge.{AclTooLarge}
-use Rattle.sd_text.specs.Grammar.{Grammar, begins}
-use Rattle.sd_text.specs.Finding.{find}
-use Rattle.sd_text.specs.Entry.{opening, has_one}
 use Rattle.sd_text.proofs.Loops.{Reaches, item_more}
 
 -- these entries have been read, and this is behind them

@@ -1,12 +1,5 @@
 -- Letters that a text begins with.
-use Rattle.std.proofs.Common.{inl, inr, ◌≡◌, ℕ, suc, ◌+◌, ◌<◌, ◌≤◌, Bool, true, false, List, [], ◌∷◌, length, refl, arith, ap, sym, add-one, get_or, drop}
-use Rattle.std.proofs.Math.Seq.{drop-cons}
-use Rattle.std.specs.Prelude.{◌&&◌, ◌==◌}
-use Rattle.std.proofs.lemmas.Bool.{ne_eqb}
-use Rattle.std.proofs.Math.Bool.{and-true}
-use Rattle.std.proofs.lemmas.List.{drop_all}
-use Rattle.std.specs.Char.{eq_ignore_ascii_case}
-use Rattle.sd_text.specs.Grammar.{begins}
+use Rattle.sd_text.proofs.Cited.{Bool, List, [], add-one, and-true, ap, arith, begins, drop, drop-cons, drop_all, eq_ignore_ascii_case, false, get_or, inl, inr, length, ne_eqb, refl, suc, sym, true, ℕ, ◌&&◌, ◌+◌, ◌<◌, ◌==◌, ◌∷◌, ◌≡◌, ◌≤◌}
 use Rattle.sd_text.proofs.Parts.{went, begins_fits}
 
 pub begins_nothing : (text letters : List ℕ) → length letters ≡ 0 → begins text letters ≡ false

@@ -1,3 +1,4 @@
+pub mod Cited
 pub mod Letters
 pub mod Parts
 pub mod Runs

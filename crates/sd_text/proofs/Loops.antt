@@ -1,9 +1,5 @@
 -- Loops that read the items of a `many`, one after the other.
-use Rattle.std.proofs.Common.{◌≡◌, ℕ, ◌<◌, true, false, List, [], ◌∷◌, ◌++◌, length, drop, Some, None, Ok, Err, refl, arith, append_assoc}
-use Rattle.std.proofs.lemmas.List.{append-nil}
-use Rattle.sd_text.specs.declared.fault.TextFault.{TextFault}
-use Rattle.sd_text.specs.Grammar.{Grammar, Name, Items, many, named, begins, spells}
-use Rattle.sd_text.specs.Finding.{find}
+use Rattle.sd_text.proofs.Cited.{Err, Grammar, Items, List, Name, None, Ok, Some, TextFault, [], append-nil, append_assoc, arith, begins, drop, false, find, length, many, named, refl, spells, true, ℕ, ◌++◌, ◌<◌, ◌∷◌, ◌≡◌}
 use Rattle.sd_text.proofs.Parts.{begins_takes}
 use Rattle.sd_text.proofs.Engine.{find_spells, spells_find, find_faults, faults_find, shorter}
 

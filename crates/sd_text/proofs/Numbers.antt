@@ -1,9 +1,6 @@
 -- Decimal digits, two at a time from the last ones on.
-use Rattle.std.proofs.Common.{◌≡◌, ℕ, ◌/◌, ◌%◌, ◌<◌, ◌≤◌, [], ◌∷◌, ◌+◌, List, false, length, replicate, ◌-◌, refl, arith, ◌^◌, ◌++◌, append_assoc}
-use Rattle.std.specs.Fmt.{char_count, decimal, format_spec, number_padding, padded_integral}
-use Rattle.std.proofs.lemmas.Fmt.{decimal_digit, decimal_step}
-use Rattle.std.proofs.lemmas.List.{append-nil}
-use Rattle.sd_text.specs.Canon.{hex, two_digits}
+use Rattle.sd_text.proofs.Cited.{List, [], append-nil, append_assoc, arith, decimal, decimal_digit, decimal_step, false, format_spec, hex, length, number_padding, refl, replicate, two_digits, ℕ, ◌%◌, ◌++◌, ◌+◌, ◌-◌, ◌/◌, ◌<◌, ◌^◌, ◌∷◌, ◌≡◌, ◌≤◌}
+use Rattle.std.specs.Fmt.{char_count, padded_integral}
 
 pub one_digit : (n : ℕ) → n < 10 → decimal n ≡ (48 + n) ∷ []
 one_digit n small = decimal_digit n small

@@ -1,11 +1,5 @@
 -- What is found behind a part, behind a name, and how far the text has come.
-use Rattle.std.proofs.Common.{◌≡◌, ℕ, ◌<◌, ◌≤◌, ◌⊎◌, inl, inr, Bool, true, false, cond, List, [], ◌∷◌, length, drop, Option, Some, None, Ok, Err, refl, arith, ap, sym}
-use Rattle.std.specs.Char.{eq_ignore_ascii_case}
-use Rattle.std.proofs.lemmas.Bool.{and_parts}
-use Rattle.std.proofs.lemmas.List.{length-drop}
-use Rattle.sd_text.specs.declared.fault.TextFault.{TextFault}
-use Rattle.sd_text.specs.Grammar.{Name, begins, named}
-use Rattle.sd_text.specs.Finding.{Found, behind_part, name_or}
+use Rattle.sd_text.proofs.Cited.{Bool, Err, Found, List, Name, None, Ok, Option, Some, TextFault, [], and_parts, ap, arith, begins, behind_part, cond, drop, eq_ignore_ascii_case, false, inl, inr, length, length-drop, name_or, named, refl, sym, true, ℕ, ◌<◌, ◌∷◌, ◌≡◌, ◌≤◌, ◌⊎◌}
 
 -- a test, with how it went
 pub went : (b : Bool) → (b ≡ true) ⊎ (b ≡ false)

@@ -1,17 +1,6 @@
 -- What stands in a text of a table of names of two letters: the row at the place that the letters tell of, or none.
-use Rattle.std.proofs.Common.{◌≡◌, ℕ, zero, suc, ◌+◌, ◌<◌, ◌≤◌, ◌⊎◌, inl, inr, true, false, cond, List, [], ◌∷◌, length, drop, get_or, Some, None, refl, arith, ap, sym, subst, ◌∙◌}
-use Rattle.std.specs.Prelude.{◌&&◌, ◌==◌, slice_index}
-use Rattle.std.proofs.lemmas.List.{get_or_default}
-use Rattle.std.specs.Char.{to_ascii_lowercase, eq_ignore_ascii_case}
-use Rattle.std.proofs.lemmas.Bool.{eqb-true, and_parts}
-use Rattle.std.proofs.Math.Bool.{and-false}
-use Rattle.sd_sid.specs.Sid.{SidValue, same_sid}
-use Rattle.sd_sid.proofs.Compared.{same_sid-true}
-use Rattle.sd_text.specs.declared.alias.WellKnown.{WellKnown}
-use Rattle.sd_text.specs.Grammar.{Name, begins, named}
-use Rattle.sd_text.specs.Names.{Row, rows, renamed, well_known}
-use Rattle.sd_text.specs.Alias.{aliases, alias_in}
-use Rattle.sd_text.specs.Places.{slot, is_placed, are_placed, sid_slot, sids_are_placed}
+use Rattle.sd_text.proofs.Cited.{List, Name, None, Row, SidValue, Some, WellKnown, [], aliases, and-false, and_parts, ap, are_placed, arith, begins, cond, drop, eq_ignore_ascii_case, eqb-true, false, get_or, get_or_default, inl, inr, is_placed, length, named, refl, renamed, rows, same_sid, same_sid-true, sid_slot, sids_are_placed, slice_index, slot, subst, suc, sym, to_ascii_lowercase, true, well_known, zero, ℕ, ◌&&◌, ◌+◌, ◌<◌, ◌==◌, ◌∙◌, ◌∷◌, ◌≡◌, ◌≤◌, ◌⊎◌}
+use Rattle.sd_text.specs.Alias.{alias_in}
 use Rattle.sd_text.proofs.Letters.{begins_short}
 use Rattle.sd_text.proofs.Parts.{went}
 

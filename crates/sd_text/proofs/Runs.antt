@@ -1,16 +1,6 @@
 -- The run of digits that a text begins with.
-use Rattle.std.proofs.Common.{◌≡◌, ℕ, zero, suc, ◌+◌, ◌*◌, ◌<◌, ◌≤◌, inl, inr, true, false, List, [], ◌∷◌, ◌++◌, length, drop, take, get_or, refl, arith, ap, sym, ◌^◌, lit<}
-use Rattle.std.specs.Prelude.{nat_lt}
-use Rattle.std.specs.Char.{digit_value}
-use Rattle.std.specs.Str.Parse.{AllDigits, IsNumeral, digits_value}
-use Rattle.std.proofs.lemmas.Int.Digits.{digits_value-lt}
-use Rattle.std.proofs.lemmas.Bool.{ltb-false, lt-ltb, le-ltb}
-use Rattle.std.proofs.lemmas.List.{take-append-drop, length-take-le}
-use Rattle.std.proofs.Math.Nat.{mul-le-mul_left, pow-le-pow_left, pow-le-pow_right}
-use Rattle.std.proofs.Math.Seq.{take-append_seam, drop-append_seam}
+use Rattle.sd_text.proofs.Cited.{AllDigits, IsCapped, IsNumeral, List, Run, [], ap, arith, begins_digit, digit_value, digits_len, digits_value, digits_value-lt, drop, drop-append_seam, false, get_or, inl, inr, le-ltb, length, length-take-le, lit<, lt-ltb, ltb-false, mul-le-mul_left, nat_lt, pow-le-pow_left, pow-le-pow_right, refl, suc, sym, take, take-append-drop, take-append_seam, true, zero, ℕ, ◌*◌, ◌++◌, ◌+◌, ◌<◌, ◌^◌, ◌∷◌, ◌≡◌, ◌≤◌}
 use borrow.Author.Tests.{ltb-true}
-use Rattle.sd_text.specs.Grammar.{begins_digit, Run}
-use Rattle.sd_text.specs.Finding.{digits_len, IsCapped}
 use Rattle.sd_text.proofs.Parts.{went}
 
 all_digits : (radix : ℕ) (text : List ℕ) → AllDigits radix (take (digits_len radix text) text) × (begins_digit radix (drop (digits_len radix text) text) ≡ false)

@@ -1,12 +1,6 @@
 -- Reading the sub-authorities of a SID.
-use Rattle.std.proofs.Common.{◌≡◌, ℕ, true, false, List, [], ◌∷◌, length, drop, Ok, Err, zero, suc, refl, arith, ◌<◌, ◌≤◌, ◌^◌, take, get_or}
-use Rattle.std.specs.Prelude.{codes}
-use Rattle.std.proofs.lemmas.Bool.{lt-ltb, le-ltb, ne_eqb}
-use Rattle.sd_sid.specs.Sid.{sid_of}
-use Rattle.sd_text.specs.declared.fault.TextFault.{TextFault}
-use Rattle.sd_text.specs.Grammar.{begins}
-use Rattle.sd_text.specs.Finding.{find}
-use Rattle.sd_text.specs.Sid.{dash, sub, subs_of}
+use Rattle.sd_text.proofs.Cited.{Err, List, Ok, TextFault, [], arith, begins, codes, dash, drop, false, find, get_or, le-ltb, length, lt-ltb, ne_eqb, refl, sid_of, sub, suc, take, true, zero, ℕ, ◌<◌, ◌^◌, ◌∷◌, ◌≡◌, ◌≤◌}
+use Rattle.sd_text.specs.Sid.{subs_of}
 use Rattle.sd_text.proofs.Loops.{Reaches, item_last, item_fault}
 
 -- these sub-authorities have been read, and this is behind them

@@ -1,22 +1,9 @@
 -- Names of a table, one row after the other.
-use Rattle.std.proofs.Common.{◌≡◌, ℕ, ◌+◌, ◌<◌, ◌^◌, cond, List, [], ◌∷◌, ◌++◌, length, drop, get_or, Some, None, Ok, rules, refl, add-one, ap, sym, subst, ◌∙◌, inl, inr}
-use Rattle.std.proofs.Math.Seq.{drop-cons}
-use Rattle.std.specs.Prelude.{fold, bit_or, map, option_map, ◌==◌, ◌&&◌}
-use Rattle.std.specs.Borrow.{Bor}
-use Rattle.std.specs.List.{AllByRecursion}
-use Rattle.std.proofs.lemmas.Bool.{and_parts, eqb-true}
-use Rattle.std.proofs.lemmas.Grind.{fold-append}
-use Rattle.std.proofs.lemmas.Nat.{or_lt, pow_pos}
-use Rattle.sd_text.specs.Grammar.{Name, value, many, named, begins, spells, run, Items}
-use Rattle.sd_text.specs.Finding.{find}
+use Rattle.sd_text.proofs.Cited.{AllByRecursion, Bor, Items, List, Name, None, Ok, PrintedRight, RightNames, Row, SidValue, Some, [], add-one, and_parts, ap, begins, bit_or, cond, drop, drop-cons, eqb-true, find, fold, fold-append, get_or, has, inl, inr, is_due, length, many, map, named, option_map, or_lt, pow_pos, printed_right, refl, renamed, rows, rules, run, same_sid, same_sid-true, spells, subst, sym, value, ℕ, ◌&&◌, ◌++◌, ◌+◌, ◌<◌, ◌==◌, ◌^◌, ◌∙◌, ◌∷◌, ◌≡◌}
 use Rattle.sd_text.specs.Rights.{bits_of}
-use Rattle.sd_sid.specs.Sid.{SidValue, same_sid}
-use Rattle.sd_sid.proofs.Compared.{same_sid-true}
 use Rattle.sd_text.specs.Alias.{aliases, alias_in}
-use Rattle.sd_text.specs.MaskNames.{is_due, named_from, with_word}
-use Rattle.sd_text.specs.RightNames.{PrintedRight, has, name_in, printed_right}
-use Rattle.sd_text.specs.declared.right_names.RightNames.{RightNames}
-use Rattle.sd_text.specs.Names.{Row, rows, renamed}
+use Rattle.sd_text.specs.MaskNames.{named_from, with_word}
+use Rattle.sd_text.specs.RightNames.{name_in}
 use Rattle.sd_text.proofs.Parts.{went, chosen, name_is, found_is, part_ok}
 use Rattle.sd_text.proofs.Engine.{find_spells}
 use Rattle.sd_text.proofs.Loops.{Reaches, reaches_start, reaches_more, reaches_end}

@@ -1,37 +1,11 @@
 -- One more node, where none stands.
-use Rattle.std.proofs.Common.{◌≡◌, ◌≢◌, ◌⊎◌, ℕ, ◌+◌, ◌<◌, ◌≤◌, Bool, true, false, not, cond, List, [], ◌∷◌, ◌++◌, length, map, get_or, None, IsSome, is_some, Some, inl, inr, refl, sym, ap, ◌∙◌, arith}
-use Rattle.std.specs.List.{HoldsAt, AllWithin, insert}
-use Rattle.std.specs.Cmp.{eq_by_cmp_equiv}
+use Rattle.sd_tree.proofs.Cited.{AllWithin, AreStanding, Bool, Equal, Greater, HoldsAt, IsAddable, IsClosed, IsExchange, IsSome, IsWhole, Less, List, MappingValue, Names, Node, NodeRow, None, PlainTree, Some, [], all_one, ap, arith, by_last, cases_Bool, changed, changed_where, cond, dacl_at, dacl_at_outside, dacl_size, entries-insert, entries_sorted, entry_of, eq_by_cmp, eq_by_cmp_equiv, exchanged, false, find-where_key, get-entries, get-remove, get_or, get_or-map, greater_from_less, has_child, inl, inr, is_some, is_sorted-where_key, is_within, length, length-map, less_from_greater, map, names_cmp, names_cmp_antisymmetric, names_cmp_total, no_child, not, nothing_below, parent_there, path_of_node, push_not_root, put, put_insert, refl, row_at, row_at-insert_other, row_at-remove_other, same_entries, same_or_other, some_row, sym, tree_of, true, up-push, up_within, where_key, where_remove, within_root, ℕ, ◌++◌, ◌+◌, ◌<◌, ◌∙◌, ◌∷◌, ◌≡◌, ◌≢◌, ◌≤◌, ◌⊎◌}
+use Rattle.std.specs.List.{insert}
 use Rattle.std.specs.FinMap as finite
-use Rattle.std.specs.FinMap.{put, get-entries, get-remove, entries_sorted, entries-insert}
-use Rattle.std.specs.FinMap.Entries.{where_key, is_sorted-where_key, find-where_key, same_entries}
-use Rattle.std.specs.Ordering.{eq_by_cmp}
-use Rattle.std.specs.declared.cmp.Ordering.TheVariants.{Less, Equal, Greater}
 use Rattle.std.proofs.Math.ListN.{get_or-map as get_or-mapped}
-use Rattle.std.proofs.lemmas.Bool.{cases_Bool}
-use Rattle.std.proofs.lemmas.List.{length-map, get_or-map}
-use Rattle.sd_sid.specs.Mapping.{MappingValue}
-use Rattle.sd_path.specs.Names.{Names, names_cmp, is_within}
-use Rattle.sd_edit.specs.Plain.{PlainTree, row_at, dacl_at}
-use Rattle.sd_edit.specs.Closed.{IsClosed, IsAddable}
-use Rattle.sd_edit.specs.Refusals.{dacl_size, has_child}
-use Rattle.sd_tree.specs.Stored.{path_of_node, entry_of, tree_of, IsWhole, AreStanding}
-use Rattle.sd_blocks.specs.Runs.{exchanged}
-use Rattle.sd_tree.specs.Plans.{IsExchange}
-use Rattle.sd_edit.specs.Edits.{changed, changed_where}
-use Rattle.sd_edit.specs.declared.node.NodeRow.{NodeRow}
-use Rattle.sd_edit.proofs.Lists.{by_last, all_one}
-use Rattle.sd_path.proofs.Paths.{names_cmp_total, names_cmp_antisymmetric, up-push, push_not_root, up_within}
-use Rattle.sd_edit.proofs.Closed.{no_child}
-use Rattle.sd_edit.proofs.Dacls.{dacl_at_outside}
-use Rattle.sd_edit.proofs.Rows.{same_or_other, row_at-insert_other, row_at-remove_other}
 use Rattle.sd_tree.proofs.Kept.{row_here, entries_kept}
 use Rattle.sd_tree.proofs.CarriedOut.{key_at, keys_count, inserted_there, removed_there}
-use Rattle.sd_edit.proofs.Below.{some_row, within_root, nothing_below}
-use Rattle.sd_edit.proofs.Below.{parent_there}
 use Rattle.sd_tree.proofs.Rebuilding.{place_same}
-use Rattle.sd_edit.proofs.Sorted.{put_insert, where_remove, greater_from_less, less_from_greater}
-use Rattle.sd_tree.specs.declared.node.Node.{Node}
 
 pub insertion : (g : MappingValue) (bs : List Node) (standing : AreStanding g bs) (q : Names) (row : NodeRow) → IsAddable (tree_of bs) q
     → (at : ℕ) → at ≤ length bs → AllWithin (λ b. names_cmp (path_of_node b) q ≡ Less) bs 0 at → AllWithin (λ b. names_cmp (path_of_node b) q ≡ Greater) bs at (length bs)

@@ -1,22 +1,7 @@
 -- What a sibling has is what a node beside it would have.
-use Rattle.std.proofs.Common.{◌≡◌, ℕ, ◌-◌, ◌<◌, true, List, ◌++◌, length, get_or, Option, Some, refl, sym, ap, subst, ◌∙◌}
-use Rattle.std.proofs.lemmas.Bool.{false≢true}
-use Rattle.sd_sid.specs.Mapping.{MappingValue}
-use Rattle.sd_acl.specs.declared.ace.Ace.{Ace}
-use Rattle.sd_path.specs.Names.{Names, up}
-use Rattle.sd_edit.specs.Inheritance.{handed_on, dacl_of_row}
-use Rattle.sd_edit.specs.Plain.{dacl_here, dacl_at}
-use Rattle.sd_edit.specs.Refusals.{own_entries}
-use Rattle.sd_tree.specs.Sharing.{IsSibling, AreMadeFor, InheritOne}
-use Rattle.sd_tree.specs.Stored.{path_of_node, tree_of, AreStanding}
-use Rattle.sd_tree.specs.Node.{behind_own, dacl_with, whole_with, inherits}
-use Rattle.sd_edit.specs.declared.node.NodeDacl.{NodeDacl}
-use Rattle.sd_edit.specs.declared.node.NodeDacl.TheVariants.{Null, List as Entries}
-use Rattle.sd_tree.specs.declared.node.Node.{Node}
-use Rattle.sd_edit.specs.declared.node.NodeRow.{NodeRow}
-use Rattle.sd_edit.proofs.Dacls.{dacl_at_up}
+use Rattle.sd_tree.proofs.Cited.{Ace, AreMadeFor, AreStanding, InheritOne, IsSibling, List, MappingValue, Names, Node, NodeDacl, NodeRow, Null, Option, Some, ap, behind_own, dacl_at, dacl_at_up, dacl_here, dacl_of_row, dacl_with, false≢true, get_or, handed_on, inherits, length, own_entries, path_of_node, refl, same_behind, subst, sym, tree_of, true, up, whole_with, ℕ, ◌++◌, ◌-◌, ◌<◌, ◌∙◌, ◌≡◌}
+use Rattle.sd_edit.specs.declared.node.NodeDacl.TheVariants.{List as Entries}
 use Rattle.sd_tree.proofs.Kept.{row_here}
-use Rattle.sd_edit.proofs.Lists.{same_behind}
 use Rattle.sd_tree.proofs.OneDacl.{inheriting_dacl}
 
 pub behind_sibling : (g : MappingValue) (beside row : NodeRow) (above : Option (List Ace)) → InheritOne beside row above

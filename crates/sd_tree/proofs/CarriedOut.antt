@@ -1,24 +1,8 @@
 -- A plan that is carried out makes the nodes of the tree that it is for.
-use Rattle.std.proofs.Common.{◌≡◌, ℕ, suc, ◌+◌, ◌<◌, ◌≤◌, ◌⊎◌, inl, inr, List, [], ◌∷◌, ◌++◌, length, map, get_or, set, take, drop, refl, sym, ap, subst, ◌∙◌, arith}
-use Rattle.std.specs.Prelude.{T, All}
-use Rattle.std.proofs.lemmas.List.{length-map, map-append, take-map, drop-map, get_or-map, get_or-take, get_or-drop, length-drop, take-append-drop, take-set, drop-set}
-use Rattle.std.proofs.lemmas.List.Elements.{All-append, All-take, All-drop}
-use Rattle.std.proofs.Math.Seq.{take-append_seam, drop-append_seam}
-use Rattle.std.specs.List.{insert, remove}
+use Rattle.sd_tree.proofs.Cited.{All, All-append, All-drop, All-take, AreNodes, Exchange, Insert, IsExchange, IsInOrder, IsPlan, IsWhole, List, MappingValue, Names, Node, NodeRow, PlainTree, Plan, Remove, Set, T, [], ap, arith, carried, dacl_at, drop, drop-append_seam, drop-map, drop-set, entries_sorted, entry_of, exchanged, get_or, get_or-drop, get_or-map, get_or-take, inl, inr, is_sorted, length, length-drop, length-map, map, map-append, names_cmp, path_of_node, refl, remove, same_entries_map, set, subst, suc, sym, take, take-append-drop, take-append_seam, take-map, take-set, taken, tree_of, without_run, ℕ, ◌++◌, ◌+◌, ◌<◌, ◌∙◌, ◌∷◌, ◌≡◌, ◌≤◌, ◌⊎◌}
+use Rattle.std.specs.List.{insert}
 use Rattle.std.specs.FinMap as finite
-use Rattle.std.specs.FinMap.{is_sorted, entries_sorted, same_entries_map}
-use Rattle.sd_sid.specs.Mapping.{MappingValue}
-use Rattle.sd_path.specs.Names.{Names, names_cmp}
-use Rattle.sd_edit.specs.Plain.{PlainTree, dacl_at}
-use Rattle.sd_blocks.specs.Runs.{without_run, exchanged}
-use Rattle.sd_tree.specs.Plans.{IsExchange, IsPlan, carried}
-use Rattle.sd_tree.specs.Stored.{path_of_node, entry_of, IsInOrder, tree_of, IsWhole, AreNodes}
-use Rattle.sd_edit.specs.declared.node.NodeRow.{NodeRow}
-use Rattle.sd_tree.specs.declared.plan.Plan.{Plan}
-use Rattle.sd_tree.specs.declared.plan.Plan.TheVariants.{Insert, Set, Remove, Exchange}
 use Rattle.sd_tree.proofs.Kept.{entries_kept}
-use Rattle.sd_edit.proofs.Lists.{taken}
-use Rattle.sd_tree.specs.declared.node.Node.{Node}
 
 -- nodes with a tree's entries are in order, and are that tree
 pub order_from_entries : (bs : List Node) (t : PlainTree) → map entry_of bs ≡ finite.entries t → IsInOrder bs

@@ -1,22 +1,11 @@
 -- A node has children just where the next one stands below it.
-use Rattle.std.proofs.Common.{◌≡◌, ℕ, suc, zero, ◌+◌, ◌<◌, Bool, true, false, not, ◌&&◌, ◌||◌, List, [], ◌∷◌, length, get_or, inl, inr, refl, sym, ap, ◌∙◌, arith}
-use Rattle.std.specs.List.{HoldsAt, list_any}
+use Rattle.sd_tree.proofs.Cited.{AreStanding, Bool, HoldsAt, Less, List, MappingValue, Names, Node, [], ap, arith, cases_Bool, cases_lt, false, false≢true, get_or, has_child, inl, inr, is_eq, is_root, is_within, length, list_any, names_cmp, not, one_path, path_of_node, refl, suc, sym, tree_of, true, up, up_before, within_between, within_up, zero, ℕ, ◌&&◌, ◌+◌, ◌<◌, ◌||◌, ◌∙◌, ◌∷◌, ◌≡◌}
 use Rattle.std.specs.FinMap as finite
-use Rattle.std.specs.Ordering.{is_eq}
-use Rattle.std.specs.declared.cmp.Ordering.TheVariants.{Less}
-use Rattle.std.proofs.lemmas.Bool.{cases_Bool, cases_lt, false≢true}
-use Rattle.sd_sid.specs.Mapping.{MappingValue}
-use Rattle.sd_path.specs.Names.{Names, names_cmp, up, is_root, is_within}
-use Rattle.sd_edit.specs.Refusals.{has_child}
-use Rattle.sd_tree.specs.Stored.{path_of_node, tree_of, AreStanding}
-use Rattle.sd_path.proofs.Paths.{within_up, up_before, within_between}
-use Rattle.sd_edit.proofs.Rows.{one_path}
 use Rattle.sd_tree.proofs.Places.{paths_rise}
 use Rattle.sd_tree.proofs.Kept.{row_here}
 use Rattle.sd_tree.proofs.CarriedOut.{key_at, keys_count}
 use Rattle.sd_tree.proofs.Rebuilding.{place_before, not_before_itself}
 use Rattle.sd_tree.proofs.Adding.{nothing_below_childless}
-use Rattle.sd_tree.specs.declared.node.Node.{Node}
 
 both_true : (a b : Bool) → (a && b) ≡ true → (a ≡ true) × (b ≡ true)
 both_true true b h = (refl, h)

@@ -1,28 +1,8 @@
 -- What is planned fits: no node's DACL takes too many bytes.
-use Rattle.std.proofs.Common.{◌≡◌, ℕ, zero, suc, ◌<◌, ◌≤◌, Bool, false, cond, ◌||◌, List, [], ◌∷◌, length, get_or, Option, None, refl, sym, ap, ◌∙◌, arith, nat_lt, ltb, leb}
-use Rattle.std.specs.List.{list_any}
-use Rattle.std.specs.Option.{option_or}
+use Rattle.sd_tree.proofs.Cited.{AreNodes, Bool, Edit, EditRefusal, IsError, IsLateError, IsPlan, LimitsValue, List, MappingValue, Memory, Node, None, Option, PlainTree, Plan, Refused, TreeError, [], ap, are_late, arith, carried, cond, dacl_at, dacl_size, early_refusal, entry_of, false, get_or, has_large_dacl, is_early, late_refusal, late_refused, late_tests, leb, len-entries, length, length-map, list_any, ltb, nat_lt, nat_tests, option_or, refl, refusal_in, suc, sym, tree_of, zero, ℕ, ◌<◌, ◌||◌, ◌∙◌, ◌∷◌, ◌≡◌, ◌≤◌}
 use Rattle.std.specs.FinMap as finite
-use Rattle.std.specs.FinMap.{len-entries}
-use Rattle.std.proofs.lemmas.Bool.Decides.{nat_tests}
-use Rattle.std.proofs.lemmas.List.{length-map}
-use Rattle.sd_sid.specs.Mapping.{MappingValue}
-use Rattle.sd_edit.specs.Limits.{LimitsValue}
-use Rattle.sd_edit.specs.Plain.{PlainTree, dacl_at}
-use Rattle.sd_edit.specs.Refusals.{early_refusal, refusal_in, dacl_size, has_large_dacl}
-use Rattle.sd_tree.specs.Stored.{entry_of, tree_of, AreNodes}
-use Rattle.sd_tree.specs.Plans.{IsPlan, carried, IsLateError}
-use Rattle.sd_edit.specs.declared.edit.Edit.{Edit}
-use Rattle.sd_tree.specs.declared.plan.Plan.{Plan}
-use Rattle.sd_edit.specs.declared.refusal.EditRefusal.{EditRefusal}
 use Rattle.sd_tree.proofs.Kept.{entries_kept, a_node}
 use Rattle.sd_tree.proofs.CarriedOut.{key_at, keys_count, plan_carried}
-use Rattle.sd_tree.specs.declared.node.Node.{Node}
-use Rattle.sd_edit.specs.Answers.{IsError}
-use Rattle.sd_edit.specs.Refusals.{late_refusal, late_tests, is_early}
-use Rattle.sd_edit.specs.declared.refusal.TreeError.{TreeError}
-use Rattle.sd_edit.specs.declared.refusal.TreeError.TheVariants.{Refused, Memory}
-use Rattle.sd_edit.proofs.Refused.{late_refused, are_late}
 
 pub none_found : {X : Type 0} (p : X → Bool) (xs : List X) → ((k : ℕ) (d : X) → k < length xs → p (get_or xs k d) ≡ false) → list_any p xs ≡ false
 none_found p [] h = refl

@@ -1,18 +1,5 @@
 -- The entries of a tree after a move, in order: a run of them goes elsewhere.
-use Rattle.std.proofs.Common.{◌≡◌, ℕ, zero, suc, ◌-◌, ◌<◌, Bool, true, false, cond, ◌&&◌, List, [], ◌∷◌, ◌++◌, length, get_or, Some, inl, inr, refl, sym, ap, subst, ◌∙◌, arith}
-use Rattle.std.specs.Prelude.{T, All}
-use Rattle.std.proofs.lemmas.Bool.{cases_Bool, cases_lt, false≢true}
-use Rattle.std.proofs.lemmas.List.{get_or_append_left, get_or-append_right, length-append}
-use Rattle.std.specs.FinMap.{find, is_sorted}
-use Rattle.std.specs.FinMap.Entries.{below_all}
-use Rattle.std.specs.Ordering.{is_lt, eq_by_cmp}
-use Rattle.std.specs.declared.cmp.Ordering.{Ordering}
-use Rattle.std.specs.declared.cmp.Ordering.TheVariants.{Less, Equal, Greater}
-use Rattle.sd_path.specs.Names.{Names, names_cmp, is_within}
-use Rattle.sd_edit.specs.declared.node.NodeRow.{NodeRow}
-use Rattle.sd_path.proofs.Paths.{names_cmp_total, names_cmp_antisymmetric, within_before, within_between}
-use Rattle.sd_edit.proofs.Rows.{same_or_other, other_path}
-use Rattle.sd_edit.proofs.Sorted.{less_from_greater}
+use Rattle.sd_tree.proofs.Cited.{All, Bool, Equal, Greater, Less, List, Names, NodeRow, Ordering, Some, T, [], ap, arith, below_all, cases_Bool, cases_lt, cond, eq_by_cmp, false, false≢true, find, get_or, get_or-append_right, get_or_append_left, inl, inr, is_lt, is_sorted, is_within, length, length-append, less_from_greater, names_cmp, names_cmp_antisymmetric, names_cmp_total, other_path, refl, same_or_other, subst, suc, sym, true, within_before, within_between, zero, ℕ, ◌&&◌, ◌++◌, ◌-◌, ◌<◌, ◌∙◌, ◌∷◌, ◌≡◌}
 
 abbrev pub Entry : Type 0
 Entry = Names × NodeRow

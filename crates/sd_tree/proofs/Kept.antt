@@ -1,19 +1,8 @@
 -- The tree that nodes are, by their places.
-use Rattle.std.proofs.Common.{◌≡◌, ℕ, ◌<◌, false, List, [], ◌∷◌, length, map, get_or, Some, None, sym, ap, subst, ◌∙◌, inl, inr, refl, arith}
+use Rattle.sd_tree.proofs.Cited.{AllWithin, Greater, HoldsAt, IsInOrder, IsNodeAt, IsWhole, Less, List, Names, Node, NodeRow, None, Some, [], ap, arith, cases_lt, dacl_at, entries, entries-from_sorted, entry_of, false, find, find_at, find_none, get-entries, get_or, get_or-map, greater_from_less, inl, inr, is_eq, length, length-map, less_from_greater, map, names_cmp, path_of_node, refl, row_at, subst, sym, ℕ, ◌<◌, ◌∙◌, ◌∷◌, ◌≡◌}
 use Rattle.std.proofs.Math.ListN.{get_or-map as get_or-mapped}
-use Rattle.std.proofs.lemmas.List.{length-map, get_or-map}
-use Rattle.std.proofs.lemmas.Bool.{cases_lt}
-use Rattle.std.specs.List.{HoldsAt, AllWithin}
-use Rattle.std.specs.Ordering.{is_eq}
-use Rattle.std.specs.FinMap.{entries, find, get-entries, entries-from_sorted}
-use Rattle.std.specs.declared.cmp.Ordering.TheVariants.{Less, Greater}
-use Rattle.sd_path.specs.Names.{Names, names_cmp}
-use Rattle.sd_edit.specs.Plain.{row_at, dacl_at}
-use Rattle.sd_tree.specs.Stored.{path_of_node, entry_of, IsInOrder, tree_of, IsWhole, IsNodeAt}
-use Rattle.sd_edit.specs.declared.node.NodeRow.{NodeRow}
-use Rattle.sd_tree.specs.declared.node.Node.{Node}
+use Rattle.sd_tree.specs.Stored.{tree_of}
 use Rattle.sd_path.proofs.Paths.{names_cmp_total as names_total}
-use Rattle.sd_edit.proofs.Sorted.{find_at, find_none, greater_from_less, less_from_greater}
 
 -- the tree has just the nodes' entries
 pub entries_kept : (bs : List Node) → IsInOrder bs → entries (tree_of bs) ≡ map entry_of bs

@@ -1,3 +1,4 @@
+pub mod Cited
 pub mod Adding
 pub mod Beside
 pub mod CarriedOut

@@ -1,13 +1,6 @@
 -- The nodes one after the other, as the entries of the tree.
-use Rattle.std.proofs.Common.{◌≡◌, ℕ, ◌<◌, ◌≤◌, List, length, get_or, Some, None, option_map, slice_get, sym, ap, ◌∙◌}
-use Rattle.std.specs.FinMap.{entries}
-use Rattle.std.proofs.lemmas.Option.{slice_get-map, slice_get-get_or, slice_get_past}
-use Rattle.sd_path.specs.Names.{Names}
-use Rattle.sd_edit.specs.Plain.{PlainTree}
-use Rattle.sd_tree.specs.Stored.{entry_of, IsInOrder, tree_of}
-use Rattle.sd_edit.specs.declared.node.NodeRow.{NodeRow}
+use Rattle.sd_tree.proofs.Cited.{IsInOrder, List, Names, Node, NodeRow, None, PlainTree, Some, ap, entries, entry_of, get_or, length, option_map, slice_get, slice_get-get_or, slice_get-map, slice_get_past, sym, tree_of, ℕ, ◌<◌, ◌∙◌, ◌≡◌, ◌≤◌}
 use Rattle.sd_tree.proofs.Kept.{entries_kept}
-use Rattle.sd_tree.specs.declared.node.Node.{Node}
 
 -- the entries are those of the nodes, place by place
 entry_at : (bs : List Node) → IsInOrder bs → (t : PlainTree) → tree_of bs ≡ t → (k : ℕ) → option_map entry_of (slice_get bs k) ≡ slice_get (entries t) k

@@ -1,36 +1,11 @@
 -- The plan of a move, and what is refused of it.
-use Rattle.std.proofs.Common.{◌≡◌, ◌⊎◌, ℕ, ◌+◌, ◌-◌, ◌<◌, ◌≤◌, Bool, true, false, ◌&&◌, nat_lt, List, [], ◌∷◌, length, map, get_or, Some, is_some, inl, inr, refl, sym, ap, subst, ◌∙◌, arith, append-nil}
-use Rattle.std.specs.Prelude.{All}
-use Rattle.std.specs.List.{HoldsAt, AllWithin, list_any}
-use Rattle.std.proofs.lemmas.Bool.{cases_lt, and_from}
-use Rattle.std.proofs.lemmas.Bool.Decides.{nat_tests}
-use Rattle.std.proofs.lemmas.List.{length-map, length-append, get_or-map}
-use Rattle.std.specs.declared.cmp.Ordering.TheVariants.{Less, Greater}
+use Rattle.sd_tree.proofs.Cited.{All, AllWithin, AreStanding, AreUnder, Bool, Greater, HoldsAt, IsDepthError, IsExchange, IsLargeError, IsLateError, IsMovable, IsRunBelow, IsSizeError, IsTaken, Less, List, MappingValue, Memory, Move, Names, Node, NodeRow, PlainTree, Refused, Some, TreeError, [], and_from, ap, append-nil, arith, cases_lt, contains_key-keys, dacl_at, dacl_at-moved_top, eq_by_cmp, false, get_or, get_or-map, goes_too_deep, has_large_dacl, inl, inr, is_some, is_within, length, length-append, length-map, list_any, map, moved, moved_path, moved_path-append, moves_too_deep, names_cmp, nat_lt, nat_tests, one_path, path_of_node, refl, relocated, row_at, row_at-moved_there, subst, sym, tree_of, true, within_rest, ℕ, ◌&&◌, ◌+◌, ◌-◌, ◌<◌, ◌∙◌, ◌∷◌, ◌≡◌, ◌≤◌, ◌⊎◌}
 use Rattle.std.specs.FinMap as finite
-use Rattle.std.specs.FinMap.{contains_key-keys}
-use Rattle.std.specs.Ordering.{eq_by_cmp}
-use Rattle.sd_sid.specs.Mapping.{MappingValue}
-use Rattle.sd_path.specs.Names.{Names, names_cmp, is_within, moved_path}
-use Rattle.sd_edit.specs.Closed.{IsMovable}
-use Rattle.sd_edit.specs.Edits.{moved}
-use Rattle.sd_edit.specs.Plain.{PlainTree, row_at, dacl_at}
-use Rattle.sd_tree.specs.Plans.{IsExchange, IsRunBelow, AreUnder, IsTaken, IsLargeError, IsLateError, IsDepthError, relocated}
-use Rattle.sd_edit.specs.Refusals.{has_large_dacl, moves_too_deep, goes_too_deep}
-use Rattle.sd_tree.specs.Sizes.{IsSizeError}
-use Rattle.sd_tree.specs.Stored.{path_of_node, tree_of, AreStanding}
-use Rattle.sd_tree.specs.declared.node.Node.{Node}
-use Rattle.sd_edit.specs.declared.node.NodeRow.{NodeRow}
-use Rattle.sd_edit.specs.declared.edit.Edit.TheVariants.{Move}
-use Rattle.sd_edit.specs.declared.refusal.TreeError.{TreeError}
-use Rattle.sd_edit.specs.declared.refusal.TreeError.TheVariants.{Refused, Memory}
-use Rattle.sd_path.proofs.Paths.{within_rest, moved_path-append}
 use Rattle.sd_tree.proofs.CarriedOut.{key_at, keys_count, exchange_carried}
 use Rattle.sd_tree.proofs.Fitting.{no_large, none_found}
 use Rattle.sd_tree.proofs.Kept.{row_here}
-use Rattle.sd_edit.proofs.Moved.{row_at-moved_there, dacl_at-moved_top}
 use Rattle.sd_tree.proofs.Planned.{out_source, back_low, back_high, forth_low, forth_high, not_within, moving}
 use Rattle.sd_tree.proofs.Rebuilding.{large_error, found_by}
-use Rattle.sd_edit.proofs.Rows.{one_path}
 use Rattle.sd_tree.proofs.NewNode.{size_error}
 
 pub moved_length : (source target path : Names) → is_within source path ≡ true

@@ -1,18 +1,5 @@
 -- The DACL of a new node, below what is stored.
-use Rattle.std.proofs.Common.{◌≡◌, ℕ, ◌<◌, false, List, length, get_or, Option, ap, subst, ◌∙◌}
-use Rattle.std.specs.List.{HoldsAt}
-use Rattle.std.specs.FinMap.{insert}
-use Rattle.sd_sid.specs.Mapping.{MappingValue}
-use Rattle.sd_acl.specs.declared.ace.Ace.{Ace}
-use Rattle.sd_path.specs.Names.{Names, up, is_root}
-use Rattle.sd_edit.specs.Inheritance.{dacl_of_row}
-use Rattle.sd_edit.specs.Plain.{dacl_at}
-use Rattle.sd_tree.specs.Sizes.{IsSizeError}
-use Rattle.sd_tree.specs.Stored.{path_of_node, tree_of, AreNodes}
-use Rattle.sd_edit.specs.declared.node.NodeRow.{NodeRow}
-use Rattle.sd_edit.specs.declared.refusal.TreeError.{TreeError}
-use Rattle.sd_tree.specs.declared.node.Node.{Node}
-use Rattle.sd_edit.proofs.NewRow.{whole_below}
+use Rattle.sd_tree.proofs.Cited.{Ace, AreNodes, HoldsAt, IsSizeError, List, MappingValue, Names, Node, NodeRow, Option, TreeError, ap, dacl_at, dacl_of_row, false, get_or, insert, is_root, length, path_of_node, subst, tree_of, up, whole_below, ℕ, ◌<◌, ◌∙◌, ◌≡◌}
 
 -- what is stored at the place of a path is its whole DACL
 pub stored_whole : (g : MappingValue) (bs : List Node) → AreNodes g bs → (q : Names) (k : ℕ) (b : Node) → k < length bs → HoldsAt (λ c. path_of_node c ≡ q) bs k

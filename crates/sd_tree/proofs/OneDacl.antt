@@ -1,21 +1,6 @@
 -- Nodes that inherit do so alike below one parent, where nothing tells them apart.
-use Rattle.std.proofs.Common.{◌≡◌, Bool, true, false, ◌||◌, cond, List, [], ◌∷◌, ◌++◌, Option, Some, None, refl, sym, ◌∙◌, ap, ap₂}
-use Rattle.std.specs.List.{list_any, flat_map}
-use Rattle.std.proofs.lemmas.Bool.{false≢true}
-use Rattle.std.proofs.lemmas.Grind.{flat_map-append}
-use Rattle.sd_sid.specs.Mapping.{MappingValue}
-use Rattle.sd_sid.specs.Sid.{SidValue, same_sid}
-use Rattle.sd_acl.specs.declared.ace.Ace.{Ace}
-use Rattle.sd_inheritance.specs.Inheritance.{object_inherit, container_inherit, no_propagate, creator_owner, creator_group, created_by, effective_copy, waiting_copy, whole_copy, is_split, pass_on}
-use Rattle.sd_edit.specs.Inheritance.{handed_on, dacl_under, dacl_of_row}
-use Rattle.sd_edit.specs.Refusals.{own_entries}
-use Rattle.sd_tree.specs.Sharing.{names_creator, trustees_matter, AreAlike, InheritOne}
-use Rattle.sd_tree.specs.Node.{behind_own, dacl_with, whole_with, inherits}
-use Rattle.sd_inheritance.specs.declared.kind.NodeKind.{NodeKind}
-use Rattle.sd_inheritance.specs.declared.kind.NodeKind.TheVariants.{Container, Object}
-use Rattle.sd_edit.specs.declared.node.NodeDacl.{NodeDacl}
-use Rattle.sd_edit.specs.declared.node.NodeDacl.TheVariants.{Null, List as Entries}
-use Rattle.sd_edit.specs.declared.node.NodeRow.{NodeRow}
+use Rattle.sd_tree.proofs.Cited.{Ace, AreAlike, Bool, Container, InheritOne, List, MappingValue, NodeDacl, NodeKind, NodeRow, None, Null, Object, Option, SidValue, Some, [], ap, ap₂, behind_own, cond, container_inherit, created_by, creator_group, creator_owner, dacl_of_row, dacl_under, dacl_with, effective_copy, false, false≢true, flat_map, flat_map-append, handed_on, inherits, is_split, list_any, names_creator, no_propagate, object_inherit, own_entries, pass_on, refl, same_sid, sym, true, trustees_matter, waiting_copy, whole_copy, whole_with, ◌++◌, ◌||◌, ◌∙◌, ◌∷◌, ◌≡◌}
+use Rattle.sd_edit.specs.declared.node.NodeDacl.TheVariants.{List as Entries}
 
 -- a node that inherits has its own entries, and behind them what is handed on to it
 pub inheriting_dacl : (g : MappingValue) (row : NodeRow) (above : Option (List Ace)) → inherits row.dacl ≡ true

@@ -1,20 +1,6 @@
 -- Changes of a node that change the DACL of no other: of its owner or group, or where nothing stands below it.
-use Rattle.std.proofs.Common.{◌≡◌, true, false, Option, Some, None, refl, sym, ◌∙◌, ap, inl, inr}
-use Rattle.std.proofs.lemmas.Bool.{cases_Bool, false≢true}
-use Rattle.sd_sid.specs.Mapping.{MappingValue}
-use Rattle.sd_path.specs.Names.{Names, is_within}
-use Rattle.sd_edit.specs.Plain.{PlainTree, row_at, dacl_at, dacl_here}
-use Rattle.sd_edit.specs.Closed.{IsClosed}
-use Rattle.sd_edit.specs.Edits.{changed, ChangesOneNode}
-use Rattle.sd_tree.specs.Plans.{changed_row, is_of_trustee}
-use Rattle.sd_edit.specs.Refusals.{has_child}
-use Rattle.sd_edit.specs.declared.node.NodeRow.{NodeRow}
-use Rattle.sd_tree.specs.declared.node.RowChange.{RowChange}
-use Rattle.sd_tree.specs.declared.node.RowChange.TheVariants.{Owner, Group, Dacl}
+use Rattle.sd_tree.proofs.Cited.{ChangesOneNode, Dacl, Group, IsClosed, MappingValue, Names, NodeRow, None, Option, Owner, PlainTree, RowChange, Some, ap, cases_Bool, changed, changed_row, dacl_at, dacl_at_here, dacl_at_outside, dacl_here, dacl_over, false, false≢true, has_child, inl, inr, is_of_trustee, is_within, others_stay, refl, row_alike, row_at, row_at-changed_other, sym, true, ◌∙◌, ◌≡◌}
 use Rattle.sd_tree.proofs.Adding.{nothing_below_childless}
-use Rattle.sd_edit.proofs.Rows.{row_at-changed_other}
-use Rattle.sd_edit.proofs.Dacls.{dacl_at_here, dacl_over, dacl_at_outside}
-use Rattle.sd_edit.proofs.Trustees.{others_stay, row_alike}
 
 -- ---- what changes of a node that stays where it is
 

@@ -1,16 +1,7 @@
 -- The nodes of a tree by their places.
-use Rattle.std.proofs.Common.{◌≡◌, ℕ, ◌+◌, ◌<◌, List, length, map, get_or, ap, arith}
+use Rattle.sd_tree.proofs.Cited.{IsInOrder, IsNonDecreasingBy, IsSortedBy, Less, List, Names, Node, ap, arith, entry_of, get_or, greater_from_less, is_lt, length, length-map, map, names_cmp, ordering_index, path_of_node, rises, searchable_from_sorted, ℕ, ◌+◌, ◌<◌, ◌≡◌}
 use Rattle.std.proofs.Math.ListN.{get_or-map as get_or-mapped}
-use Rattle.std.proofs.lemmas.List.{length-map}
-use Rattle.std.proofs.lemmas.List.Sorted.{searchable_from_sorted}
-use Rattle.std.specs.List.Sorted.{IsSortedBy, IsNonDecreasingBy}
-use Rattle.std.specs.Ordering.{is_lt, ordering_index}
-use Rattle.std.specs.declared.cmp.Ordering.TheVariants.{Less}
-use Rattle.sd_path.specs.Names.{Names, names_cmp}
-use Rattle.sd_tree.specs.Stored.{path_of_node, entry_of, IsInOrder}
 use Rattle.sd_path.proofs.Paths.{names_cmp_total as names_total}
-use Rattle.sd_edit.proofs.Sorted.{rises, greater_from_less}
-use Rattle.sd_tree.specs.declared.node.Node.{Node}
 
 -- the paths rise from place to place
 pub paths_rise : (bs : List Node) → IsInOrder bs → (i j : ℕ) (b : Node) → i < j → j < length bs → names_cmp (path_of_node (get_or bs i b)) (path_of_node (get_or bs j b)) ≡ Less

@@ -1,35 +1,12 @@
 -- The plan of a move is for the tree that it makes.
-use Rattle.std.proofs.Common.{◌≡◌, ◌⊎◌, ℕ, zero, suc, ◌+◌, ◌-◌, ◌<◌, ◌≤◌, false, List, [], ◌∷◌, ◌++◌, length, map, get_or, take, drop, inl, inr, refl, sym, ap, subst, ◌∙◌, arith}
-use Rattle.std.specs.Prelude.{T, All}
-use Rattle.std.specs.List.{HoldsAt, AllWithin}
-use Rattle.std.proofs.lemmas.Bool.{cases_Bool, cases_lt, false≢true}
-use Rattle.std.proofs.lemmas.List.{length-map, map-append, get_or-map, get_or_default, get_or-take, get_or-drop, length-drop, length-append, same_lists, take-append-drop, drop-drop, get_or_append_left, get_or-append_right}
-use Rattle.std.proofs.lemmas.List.Elements.{All-take, All-drop}
+use Rattle.sd_tree.proofs.Cited.{All, All-drop, All-take, AllWithin, AreStanding, AreUnder, Greater, HoldsAt, IsExchange, IsMovable, IsRunBelow, IsTaken, Less, List, MappingValue, Names, Node, PlainTree, T, [], ap, arith, cases_Bool, cases_lt, dacl_at, dacl_at-moved_other, drop, drop-drop, entries_sorted, entry_of, exchanged, false, false≢true, find, get-entries, get_or, get_or-append_right, get_or-drop, get_or-map, get_or-take, get_or_append_left, get_or_default, inl, inr, is_sorted, is_within, length, length-append, length-drop, length-map, less_from_greater, map, map-append, moved, moved_entry, moved_path, moved_path-append, moved_path-outside, names_cmp, names_cmp_antisymmetric, names_cmp_prefix, names_cmp_total, nothing_below, path_of_node, refl, relocated, row_at-moved, same_entries, same_lists, same_or_other, subst, suc, sym, take, take-append-drop, taken, tree_of, within-append, within_before, within_between, within_rest, without_run, zero, ℕ, ◌++◌, ◌+◌, ◌-◌, ◌<◌, ◌∙◌, ◌∷◌, ◌≡◌, ◌≤◌, ◌⊎◌}
 use Rattle.std.specs.FinMap as finite
-use Rattle.std.specs.FinMap.{find, is_sorted, get-entries, entries_sorted}
-use Rattle.std.specs.FinMap.Entries.{same_entries}
-use Rattle.std.specs.declared.cmp.Ordering.TheVariants.{Less, Greater}
-use Rattle.sd_sid.specs.Mapping.{MappingValue}
-use Rattle.sd_path.specs.Names.{Names, names_cmp, is_within, moved_path}
-use Rattle.sd_edit.specs.Closed.{IsMovable}
-use Rattle.sd_edit.specs.Edits.{moved_entry, moved}
-use Rattle.sd_edit.specs.Plain.{PlainTree, dacl_at}
-use Rattle.sd_blocks.specs.Runs.{without_run, exchanged}
-use Rattle.sd_tree.specs.Plans.{IsExchange, IsRunBelow, AreUnder, IsTaken, relocated}
-use Rattle.sd_tree.specs.Stored.{path_of_node, entry_of, tree_of, AreStanding}
-use Rattle.sd_path.proofs.Paths.{names_cmp_total, names_cmp_antisymmetric, names_cmp_prefix, within_rest, within-append, within_before, within_between, moved_path-append, moved_path-outside}
-use Rattle.sd_edit.proofs.Below.{nothing_below}
 use Rattle.sd_tree.proofs.CarriedOut.{key_at, keys_count}
 use Rattle.sd_tree.proofs.Going.{Entry, Rise, Inside, Outside, Low, High, sorted_from, rise_with_run, find_swap}
 use Rattle.sd_tree.proofs.Kept.{entries_kept, row_here, a_node}
-use Rattle.sd_edit.proofs.Moved.{row_at-moved, dacl_at-moved_other}
 use Rattle.sd_tree.proofs.Places.{paths_rise}
 use Rattle.sd_tree.proofs.Rebuilding.{not_before_itself, not_both}
-use Rattle.sd_edit.proofs.Rows.{same_or_other}
-use Rattle.sd_edit.proofs.Sorted.{less_from_greater}
-use Rattle.sd_edit.proofs.Lists.{taken}
 use Rattle.sd_tree.proofs.Under.{whole_taken}
-use Rattle.sd_tree.specs.declared.node.Node.{Node}
 
 map_still : {X : Type 0} (f : X → X) (xs : List X) → ((k : ℕ) (d : X) → k < length xs → f (get_or xs k d) ≡ get_or xs k d) → map f xs ≡ xs
 map_still f [] h = refl

@@ -1,29 +1,7 @@
 -- Whole DACLs that are built anew, from a node on down the run of those below it.
-use Rattle.std.proofs.Common.{◌≡◌, ◌≢◌, ◌⊎◌, ℕ, ◌<◌, ◌≤◌, Bool, true, false, ◌||◌, List, [], ◌∷◌, length, get_or, Some, is_some, inl, inr, sym, ap, subst, ◌∙◌, arith, nat_lt}
-use Rattle.std.specs.List.{HoldsAt, AllWithin, list_any}
-use Rattle.std.specs.FinMap.{insert, keys, contains_key-keys}
-use Rattle.std.specs.Ordering.{eq_by_cmp}
-use Rattle.std.specs.Cmp.{tied_itself}
-use Rattle.std.specs.declared.cmp.Ordering.TheVariants.{Less, Equal}
-use Rattle.std.proofs.lemmas.Bool.{cases_Bool, cases_lt}
-use Rattle.std.proofs.lemmas.Bool.Decides.{nat_tests}
-use Rattle.sd_sid.specs.Mapping.{MappingValue}
-use Rattle.sd_path.specs.Names.{Names, names_cmp, up, is_root, is_within}
-use Rattle.sd_edit.specs.Plain.{PlainTree, row_at, dacl_at}
-use Rattle.sd_edit.specs.Refusals.{dacl_size, has_large_dacl}
-use Rattle.sd_tree.specs.Sizes.{IsSizeError}
-use Rattle.sd_tree.specs.Stored.{path_of_node, IsInOrder, tree_of, AreStanding}
-use Rattle.sd_tree.specs.Plans.{IsLargeError}
-use Rattle.sd_edit.specs.declared.node.NodeRow.{NodeRow}
-use Rattle.sd_edit.specs.declared.refusal.TreeError.{TreeError}
-use Rattle.sd_edit.specs.declared.refusal.TreeError.TheVariants.{Refused, Memory}
-use Rattle.sd_path.proofs.Paths.{names_cmp_total, within_before, up_before, up_within, root_is_empty}
-use Rattle.sd_edit.proofs.Dacls.{dacl_at_outside}
-use Rattle.sd_edit.proofs.Rows.{same_or_other, one_path, row_at-insert_other}
-use Rattle.sd_edit.proofs.Sorted.{greater_from_less}
+use Rattle.sd_tree.proofs.Cited.{AllWithin, AreStanding, Bool, Equal, HoldsAt, IsInOrder, IsLargeError, IsSizeError, Less, List, MappingValue, Memory, Names, Node, NodeRow, PlainTree, Refused, Some, TreeError, [], ap, arith, cases_Bool, cases_lt, contains_key-keys, dacl_at, dacl_at_outside, dacl_size, eq_by_cmp, false, get_or, greater_from_less, has_large_dacl, inl, inr, insert, is_root, is_some, is_within, keys, length, list_any, names_cmp, names_cmp_total, nat_lt, nat_tests, one_path, path_of_node, root_is_empty, row_at, row_at-insert_other, same_or_other, subst, sym, tied_itself, tree_of, true, up, up_before, up_within, within_before, ℕ, ◌<◌, ◌||◌, ◌∙◌, ◌∷◌, ◌≡◌, ◌≢◌, ◌≤◌, ◌⊎◌}
 use Rattle.sd_tree.proofs.Places.{paths_rise}
 use Rattle.sd_tree.proofs.Kept.{row_here}
-use Rattle.sd_tree.specs.declared.node.Node.{Node}
 
 -- ---- places and the order of paths
 

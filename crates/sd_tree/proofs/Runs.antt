@@ -1,19 +1,7 @@
 -- The run of nodes that stand at or below a path, and its end by a binary search.
-use Rattle.std.proofs.Common.{◌≡◌, ℕ, ◌<◌, ◌≤◌, Bool, true, false, cond, List, length, get_or, inl, inr, refl, sym, ap, ◌∙◌, arith}
-use Rattle.std.proofs.lemmas.List.{get_or_default}
-use Rattle.std.specs.List.{HoldsAt, AllWithin}
-use Rattle.std.specs.List.Sorted.{IsNonDecreasingBy, IsPartitionPoint}
-use Rattle.std.specs.Ordering.{ordering_index}
-use Rattle.std.specs.declared.cmp.Ordering.{Ordering}
-use Rattle.std.specs.declared.cmp.Ordering.TheVariants.{Less, Equal, Greater}
-use Rattle.std.proofs.lemmas.Bool.{cases_Bool, cases_lt, false≢true}
-use Rattle.sd_path.specs.Names.{Names, names_cmp, is_within}
-use Rattle.sd_tree.specs.Stored.{path_of_node, end_cmp, IsInOrder}
-use Rattle.sd_path.proofs.Paths.{names_cmp_total, within_itself, within_between}
+use Rattle.sd_tree.proofs.Cited.{AllWithin, Bool, Equal, Greater, HoldsAt, IsInOrder, IsNonDecreasingBy, IsPartitionPoint, Less, List, Names, Node, Ordering, ap, arith, cases_Bool, cases_lt, cond, end_cmp, false, false≢true, get_or, get_or_default, greater_from_less, inl, inr, is_within, length, names_cmp, names_cmp_total, ordering_index, path_of_node, refl, sym, true, within_between, within_itself, ℕ, ◌<◌, ◌∙◌, ◌≡◌, ◌≤◌}
 use Rattle.sd_tree.proofs.Kept.{a_node}
 use Rattle.sd_tree.proofs.Places.{paths_rise}
-use Rattle.sd_edit.proofs.Sorted.{greater_from_less}
-use Rattle.sd_tree.specs.declared.node.Node.{Node}
 
 -- behind a node that isn't in the run none is
 run_ends : (bs : List Node) → IsInOrder bs → (q : Names) (at end : ℕ) → HoldsAt (λ c. path_of_node c ≡ q) bs at → at < end → (b : Node)

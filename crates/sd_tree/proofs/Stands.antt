@@ -1,40 +1,9 @@
 -- What a tree keeps, from its opening through each edit.
-use Rattle.std.proofs.Common.{◌≡◌, ℕ, ◌<◌, ◌≤◌, Bool, true, false, cond, List, [], ◌∷◌, ◌++◌, length, map, get_or, Option, Some, None, Result, Ok, Err, IfOk, IfErr, refl, sym, ap, subst, ◌∙◌, arith}
+use Rattle.sd_tree.proofs.Cited.{AclTooLarge, AreNodes, AreStanding, Bool, CanCarryOut, Edit, EditRefusal, Err, Exchange, IfErr, IfOk, InheritedEntry, Insert, IsClosed, IsError, IsPlan, IsPlanned, IsSizeError, IsStored, IsWhole, LimitsValue, List, MappingValue, Memory, Node, NodeRow, None, NotCanonical, Ok, Opening, Option, PlainTree, Plan, Refused, Remove, Result, Set, Some, TreeError, [], ap, arith, carried, closed_replay, cond, dacl_at, dacl_at_root, dacl_here, dacl_of_row, dacl_size, deny_behind_allow, edited, entries-insert, entry_of, false, first_fit, get_or, has_large_dacl, is_early, is_inherited, lawful_none, lawful_push, len-empty, len-entries, length, list_any, list_tests, map, names_cmp, names_cmp_total, opened, own_entries, put, refl, refusal, refusal_in, replay, replay-none, replay-push, root_refusal, root_row, row_at, row_at-insert_same, subst, sym, tree_of, true, ℕ, ◌++◌, ◌<◌, ◌∙◌, ◌∷◌, ◌≡◌, ◌≤◌}
 use Rattle.std.specs.FinMap as finite
-use Rattle.std.specs.FinMap.{entries-insert, len-entries, len-empty, put}
-use Rattle.sd_sid.specs.Mapping.{MappingValue}
-use Rattle.sd_path.specs.Names.{names_cmp}
-use Rattle.sd_edit.specs.Inheritance.{dacl_of_row}
-use Rattle.sd_edit.specs.Limits.{LimitsValue}
-use Rattle.sd_edit.specs.Plain.{PlainTree, row_at, dacl_here, dacl_at}
-use Rattle.sd_edit.specs.Edits.{edited}
-use Rattle.std.specs.List.{list_any}
-use Rattle.sd_acl.specs.Canonical.{is_inherited, deny_behind_allow}
-use Rattle.sd_edit.specs.Refusals.{first_fit, list_tests, own_entries, refusal_in, dacl_size, has_large_dacl, is_early}
-use Rattle.sd_tree.specs.Sizes.{IsSizeError}
-use Rattle.sd_edit.specs.Closed.{IsClosed}
-use Rattle.sd_edit.specs.Journal.{opened, root_row, replay, refusal, root_refusal}
-use Rattle.sd_edit.specs.Answers.{IsError}
-use Rattle.sd_tree.specs.Stored.{entry_of, tree_of, IsWhole, AreNodes, AreStanding, IsStored}
-use Rattle.sd_tree.specs.Plans.{IsPlan, IsPlanned, CanCarryOut, carried}
-use Rattle.sd_edit.specs.declared.node.NodeRow.{NodeRow}
-use Rattle.sd_edit.specs.declared.edit.Edit.{Edit}
-use Rattle.sd_edit.specs.declared.opening.Opening.{Opening}
-use Rattle.sd_tree.specs.declared.plan.Plan.{Plan}
-use Rattle.sd_tree.specs.declared.plan.Plan.TheVariants.{Insert, Set, Remove, Exchange}
-use Rattle.sd_edit.specs.declared.refusal.EditRefusal.{EditRefusal}
-use Rattle.sd_edit.specs.declared.refusal.EditRefusal.TheVariants.{InheritedEntry, NotCanonical, AclTooLarge}
-use Rattle.sd_edit.specs.declared.refusal.TreeError.{TreeError}
-use Rattle.sd_edit.specs.declared.refusal.TreeError.TheVariants.{Refused, Memory}
-use Rattle.sd_path.proofs.Paths.{names_cmp_total}
-use Rattle.sd_edit.proofs.Dacls.{dacl_at_root}
-use Rattle.sd_edit.proofs.Rows.{row_at-insert_same}
-use Rattle.sd_edit.proofs.Journals.{replay-none, replay-push, lawful_none, lawful_push}
-use Rattle.sd_edit.proofs.Closed.{closed_replay}
 use Rattle.sd_tree.proofs.CarriedOut.{tree_from_entries, order_from_entries, keys_count, plan_carried}
 use Rattle.sd_tree.proofs.Rebuilding.{large_found}
 use Rattle.sd_tree.proofs.Fitting.{no_large}
-use Rattle.sd_tree.specs.declared.node.Node.{Node}
 
 -- the nodes of a tree may be edited
 pub standing_from_stored : (o : Opening) (journal : List Edit) (bs : List Node) → IsStored o journal bs → AreStanding o.mapping bs

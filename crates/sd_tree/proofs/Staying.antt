@@ -1,27 +1,9 @@
 -- A node that is changed where it stands, with what stands below it or alone.
-use Rattle.std.proofs.Common.{◌≡◌, ◌⊎◌, ℕ, zero, suc, ◌+◌, ◌<◌, ◌≤◌, List, [], ◌∷◌, ◌++◌, length, map, get_or, set, take, drop, Some, inl, inr, refl, sym, ap, ◌∙◌, arith}
-use Rattle.std.specs.List.{HoldsAt}
-use Rattle.std.specs.FinMap.{put, insert, entries, entries-insert}
+use Rattle.sd_tree.proofs.Cited.{AreStanding, AreUnder, ChangesOneNode, HoldsAt, IsExchange, IsRunBelow, IsTaken, IsWhole, List, MappingValue, Names, Node, NodeRow, Some, [], all_one, ap, arith, dacl_at, dacl_size, drop, drop-drop, drop-set, entries, entries-insert, entry_of, exchanged, get_or, get_or-drop, get_or-map, get_or-take, inl, inr, insert, length, length-drop, length-map, longer, map, names_cmp, names_cmp_total, path_of_node, put, put_set, refl, row_at-insert_other, row_at-insert_same, same_lists, set, suc, sym, take, take-append-drop, take-set, taken, tree_of, within_rest, zero, ℕ, ◌++◌, ◌+◌, ◌<◌, ◌∙◌, ◌∷◌, ◌≡◌, ◌≤◌, ◌⊎◌}
 use Rattle.std.proofs.Math.ListN.{get_or-map as get_or-mapped}
-use Rattle.std.proofs.lemmas.List.{length-map, get_or-map, get_or-take, get_or-drop, same_lists, length-drop, drop-drop, take-append-drop, take-set, drop-set}
-use Rattle.sd_sid.specs.Mapping.{MappingValue}
-use Rattle.sd_path.specs.Names.{Names, names_cmp}
-use Rattle.sd_edit.specs.Plain.{dacl_at}
-use Rattle.sd_blocks.specs.Runs.{exchanged}
-use Rattle.sd_edit.specs.Edits.{ChangesOneNode}
-use Rattle.sd_tree.specs.Plans.{IsExchange, IsRunBelow, AreUnder, IsTaken}
-use Rattle.sd_edit.specs.Refusals.{dacl_size}
-use Rattle.sd_tree.specs.Stored.{path_of_node, entry_of, tree_of, IsWhole, AreStanding}
-use Rattle.sd_tree.specs.declared.node.Node.{Node}
-use Rattle.sd_edit.specs.declared.node.NodeRow.{NodeRow}
-use Rattle.sd_path.proofs.Paths.{names_cmp_total, within_rest}
 use Rattle.sd_tree.proofs.CarriedOut.{key_at, keys_count, exchanged_there, set_there}
 use Rattle.sd_tree.proofs.Kept.{entries_kept, a_node}
-use Rattle.sd_edit.proofs.Lists.{all_one, taken}
-use Rattle.sd_edit.proofs.Moved.{longer}
 use Rattle.sd_tree.proofs.Rebuilding.{outside_stays, place_same}
-use Rattle.sd_edit.proofs.Rows.{row_at-insert_same, row_at-insert_other}
-use Rattle.sd_edit.proofs.Sorted.{put_set}
 use Rattle.sd_tree.proofs.Under.{whole_taken}
 
 module _ (g : MappingValue) (bs : List Node) (standing : AreStanding g bs) (q : Names) (at : ℕ) (in' : at < length bs) (stands : HoldsAt (λ c. path_of_node c ≡ q) bs at)

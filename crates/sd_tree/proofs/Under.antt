@@ -1,28 +1,8 @@
 -- A run of nodes at and below a path, once its first node is another.
-use Rattle.std.proofs.Common.{◌≡◌, ◌⊎◌, ℕ, zero, suc, ◌+◌, ◌-◌, ◌<◌, ◌≤◌, true, false, List, [], ◌∷◌, ◌++◌, length, get_or, Option, Some, inl, inr, refl, sym, ap, ◌∙◌, arith, length-append, append-nil, add-zero}
-use Rattle.std.specs.List.{HoldsAt, AllWithin}
-use Rattle.std.proofs.Math.Seq.{get_or-append_seam}
-use Rattle.std.proofs.lemmas.Bool.{cases_Bool, cases_lt, false≢true}
-use Rattle.std.proofs.lemmas.List.{get_or_append_left}
-use Rattle.sd_sid.specs.Mapping.{MappingValue}
-use Rattle.sd_acl.specs.declared.ace.Ace.{Ace}
-use Rattle.sd_path.specs.Names.{Names, up, is_root, is_within}
-use Rattle.sd_edit.specs.Inheritance.{handed_on, dacl_of_row}
-use Rattle.sd_edit.specs.Plain.{PlainTree, row_at, dacl_here, dacl_below, dacl_at}
-use Rattle.sd_tree.specs.Plans.{AreUnder, IsTaken, IsLargeError}
-use Rattle.sd_edit.specs.Refusals.{dacl_size}
-use Rattle.sd_tree.specs.Sharing.{AreMadeFor}
-use Rattle.sd_tree.specs.Sizes.{IsSizeError}
-use Rattle.sd_tree.specs.Stored.{path_of_node, IsInOrder, tree_of, AreStanding}
-use Rattle.sd_tree.specs.Node.{behind_own}
-use Rattle.sd_tree.specs.declared.node.Node.{Node}
-use Rattle.sd_edit.specs.declared.node.NodeRow.{NodeRow}
-use Rattle.sd_edit.specs.declared.refusal.TreeError.{TreeError}
-use Rattle.sd_path.proofs.Paths.{root_is_empty, within-append, within_rest, up-append}
+use Rattle.sd_tree.proofs.Cited.{Ace, AllWithin, AreMadeFor, AreStanding, AreUnder, HoldsAt, IsInOrder, IsLargeError, IsSizeError, IsTaken, List, MappingValue, Names, Node, NodeRow, Option, PlainTree, Some, TreeError, [], add-zero, ap, append-nil, arith, behind_own, below_shift, below_up, cases_Bool, cases_lt, dacl_at, dacl_at-append, dacl_at_up, dacl_below, dacl_here, dacl_of_row, dacl_size, false, false≢true, get_or, get_or-append_seam, get_or_append_left, handed_on, inl, inr, is_root, is_within, length, path_of_node, refl, root_is_empty, row_at, suc, sym, tree_of, true, up, up-append, within-append, within_rest, zero, ℕ, ◌++◌, ◌+◌, ◌-◌, ◌<◌, ◌∙◌, ◌∷◌, ◌≡◌, ◌≤◌, ◌⊎◌}
+use Rattle.std.proofs.Common.{length-append}
 use Rattle.sd_tree.proofs.Beside.{behind_sibling}
-use Rattle.sd_edit.proofs.Dacls.{dacl_at_up, dacl_at-append, below_up}
 use Rattle.sd_tree.proofs.Kept.{row_here}
-use Rattle.sd_edit.proofs.Moved.{below_shift}
 use Rattle.sd_tree.proofs.Rebuilding.{run_other, run_below_root, parent_place, large_error}
 use Rattle.sd_tree.proofs.NewNode.{size_error}
 

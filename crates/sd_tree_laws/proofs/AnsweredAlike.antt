@@ -1,17 +1,5 @@
 -- Journals that make one tree answer alike.
-use Rattle.std.proofs.Common.{◌≡◌, ◌≢◌, ℕ, Bool, true, false, cond, List, [], ◌∷◌, ◌++◌, length, Option, Some, None, refl, ap, ◌∙◌, nat_le}
-use Rattle.std.specs.Option.{option_or}
-use Rattle.sd_sid.specs.Mapping.{MappingValue}
-use Rattle.sd_edit.specs.Limits.{LimitsValue}
-use Rattle.sd_edit.specs.Plain.{PlainTree}
-use Rattle.sd_edit.specs.Answers.{kind_at, descriptor_at, reply_in}
-use Rattle.sd_edit.specs.Edits.{edited}
-use Rattle.sd_edit.specs.Journal.{replay, refusal}
-use Rattle.sd_edit.specs.Refusals.{first_fit, early_refusal, room_tests, has_large_dacl, refusal_in}
-use Rattle.sd_edit.specs.declared.edit.Edit.{Edit}
-use Rattle.sd_edit.specs.declared.refusal.EditRefusal.{EditRefusal}
-use Rattle.sd_edit.specs.declared.refusal.EditRefusal.TheVariants.{AclTooLarge, JournalFull}
-use Rattle.sd_tree_laws.specs.Laws.{SameTreeAnswersAlike}
+use Rattle.sd_tree_laws.proofs.Cited.{AclTooLarge, Bool, Edit, EditRefusal, JournalFull, LimitsValue, List, MappingValue, None, Option, PlainTree, SameTreeAnswersAlike, Some, [], ap, cond, descriptor_at, early_refusal, edited, false, first_fit, has_large_dacl, kind_at, length, nat_le, option_or, refl, refusal, refusal_in, replay, reply_in, room_tests, true, ℕ, ◌++◌, ◌∙◌, ◌∷◌, ◌≡◌, ◌≢◌}
 
 -- a last test, which fits or not, where what it tells isn't told
 last_test : (tests : List (Bool × EditRefusal)) (a b : Bool) (x : EditRefusal) → first_fit (tests ++ (a, x) ∷ []) ≢ Some x → first_fit (tests ++ (b, x) ∷ []) ≢ Some x

@@ -1,29 +1,9 @@
 -- What a valid journal leaves within the limits: the names of a path, the nodes of a tree, the bytes of a list; and each
 -- of its edits adds at most one node.
-use Rattle.std.proofs.Common.{◌≡◌, ℕ, zero, suc, ◌+◌, ◌-◌, ◌<◌, ◌≤◌, Bool, true, false, cond, ◌&&◌, ◌||◌, List, [], ◌∷◌, ◌++◌, length, map, Option, Some, None, option_map, is_some, get_or, inl, inr, refl, sym, ap, ◌∙◌, arith, nat_lt, nat_le}
-use Rattle.std.specs.List.{list_any}
+use Rattle.sd_tree_laws.proofs.Cited.{AclTooLarge, AddContainer, AddObject, Bool, Edit, IsLawful, LimitsValue, List, MappingValue, Move, Names, NodeRow, None, Opening, Option, PlainTree, ProtectKeeping, Remove, SetDacl, SetGroup, SetOwner, Some, [], ap, arith, cases_Bool, changed, changed_where, cond, dacl_at, edited, edited_by, entry_there, eq_by_cmp, false, find, get_or, goes_too_deep, has_large_dacl, holds_of_lawful, inl, inr, is_some, is_within, keeping, late_refusal, late_tests, leb-false, len-empty, len-entries, len-insert, len-remove, length, length-map, list_any, list_tests, ltb-false, map, moved_entry, moved_path, moved_path-outside, names_cmp, names_cmp_total, nat_le, nat_lt, none_fits, not_refused, one_path, opened, option_map, refl, root_refusal, root_row, row_at, row_at-changed_other, row_at-changed_same, row_at-empty, row_at-insert_other, row_at-moved, row_at-remove_other, row_at-remove_same, same_or_other, suc, sym, true, zero, ℕ, ◌&&◌, ◌++◌, ◌+◌, ◌-◌, ◌<◌, ◌||◌, ◌∙◌, ◌∷◌, ◌≡◌, ◌≤◌}
 use Rattle.std.specs.FinMap as finite
-use Rattle.std.specs.FinMap.{find, len-insert, len-remove, len-empty, len-entries}
-use Rattle.std.specs.Ordering.{eq_by_cmp}
-use Rattle.std.proofs.lemmas.Bool.{cases_Bool, ltb-false, leb-false}
-use Rattle.std.proofs.lemmas.List.{length-map}
-use Rattle.sd_sid.specs.Mapping.{MappingValue}
-use Rattle.sd_path.specs.Names.{Names, names_cmp, is_within, moved_path}
-use Rattle.sd_path.proofs.Paths.{names_cmp_total, moved_path-outside}
-use Rattle.sd_edit.specs.Limits.{LimitsValue}
-use Rattle.sd_edit.specs.Plain.{PlainTree, row_at, dacl_at}
-use Rattle.sd_edit.specs.Edits.{keeping, changed_where, changed, edited, moved_entry, moved}
-use Rattle.sd_edit.specs.Journal.{opened, edited_by, root_row, replay, root_refusal, IsLawful}
-use Rattle.sd_edit.specs.Refusals.{list_tests, has_large_dacl, late_refusal, late_tests, goes_too_deep}
-use Rattle.sd_edit.specs.declared.node.NodeRow.{NodeRow}
-use Rattle.sd_edit.specs.declared.opening.Opening.{Opening}
-use Rattle.sd_edit.specs.declared.refusal.EditRefusal.TheVariants.{AclTooLarge}
-use Rattle.sd_edit.specs.declared.edit.Edit.{Edit}
-use Rattle.sd_edit.specs.declared.edit.Edit.TheVariants.{AddContainer, AddObject, SetOwner, SetGroup, SetDacl, Remove, Move, ProtectKeeping}
-use Rattle.sd_edit.proofs.Rows.{same_or_other, one_path, row_at-empty, row_at-insert_other, row_at-remove_same, row_at-remove_other, row_at-changed_same, row_at-changed_other}
-use Rattle.sd_edit.proofs.Moved.{entry_there, row_at-moved}
-use Rattle.sd_edit.proofs.Refused.{none_fits, not_refused}
-use Rattle.sd_edit.proofs.Journals.{holds_of_lawful}
+use Rattle.sd_edit.specs.Edits.{moved}
+use Rattle.sd_edit.specs.Journal.{replay}
 use Rattle.sd_tree_laws.proofs.Fronts.{Entry, few_entries}
 
 -- ---- the names of a path

@@ -1,18 +1,5 @@
 -- The copies that an entry hands on: their flags and their kind.
-use Rattle.std.proofs.Common.{◌≡◌, ℕ, Bool, true, false, not, ◌&&◌, cond, List, [], ◌∷◌, Some, None, bit_and, bit_or, refl, ◌∙◌, ap, append-nil}
-use Rattle.std.specs.List.{list_any, flat_map}
-use Rattle.std.proofs.lemmas.Bool.{or_from, or_right}
-use Rattle.std.proofs.lemmas.List.Folds.{list_any-append}
-use Rattle.sd_sid.specs.Mask.{holds}
-use Rattle.sd_sid.specs.Mapping.{MappingValue}
-use Rattle.sd_sid.specs.Sid.{SidValue}
-use Rattle.sd_acl.specs.Canonical.{is_explicit}
-use Rattle.sd_acl.specs.declared.ace.Ace.{Ace}
-use Rattle.sd_inheritance.specs.Inheritance.{object_inherit, container_inherit, no_propagate, effective_copy, waiting_copy, whole_copy, is_split, pass_on}
-use Rattle.sd_inheritance.proofs.HandedOn.{flag_of, unmarked_stays, effective_off, effective_hands_nothing, once}
-use Rattle.sd_tree_laws.specs.Laws.{UnmarkedEntryStays, NoPropagateGoesOneLevel, speaks_of_children, NothingWaitsInAnObject, InheritedHasId}
-use Rattle.sd_inheritance.specs.declared.kind.NodeKind.{NodeKind}
-use Rattle.sd_inheritance.specs.declared.kind.NodeKind.TheVariants.{Container, Object}
+use Rattle.sd_tree_laws.proofs.Cited.{Ace, Bool, Container, InheritedHasId, List, MappingValue, NoPropagateGoesOneLevel, NodeKind, None, NothingWaitsInAnObject, Object, SidValue, Some, UnmarkedEntryStays, [], ap, append-nil, bit_and, bit_or, cond, container_inherit, effective_copy, effective_hands_nothing, effective_off, false, flag_of, flat_map, holds, is_explicit, is_split, list_any, list_any-append, no_propagate, not, object_inherit, once, or_from, or_right, pass_on, refl, speaks_of_children, true, unmarked_stays, waiting_copy, whole_copy, ℕ, ◌&&◌, ◌∙◌, ◌∷◌, ◌≡◌}
 
 -- ---- flags that are kept, and one that is set
 

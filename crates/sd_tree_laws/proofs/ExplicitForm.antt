@@ -1,17 +1,5 @@
 -- That the explicit form of an entry counts and is handed on as the entry is.
-use Rattle.std.proofs.Common.{◌≡◌, ℕ, Bool, true, false, not, ◌&&◌, ◌||◌, cond, List, [], ◌∷◌, ◌++◌, Some, bit_and, bit_or, refl, ◌∙◌, ap, ap₂}
-use Rattle.std.specs.List.{flat_map}
-use Rattle.std.proofs.lemmas.Nat.{and_assoc}
-use Rattle.sd_sid.specs.Mask.{holds}
-use Rattle.sd_sid.specs.Mapping.{MappingValue, mapped}
-use Rattle.sd_sid.specs.Sid.{SidValue, same_sid, owner_rights}
-use Rattle.sd_acl.specs.Canonical.{explicit_entry, explicit_entries}
-use Rattle.sd_check.specs.Check.{decides, is_allowed_by, first, limits_owner}
-use Rattle.sd_acl.specs.declared.ace.Ace.{Ace}
-use Rattle.sd_acl.specs.declared.ace.AceKind.{AceKind}
-use Rattle.sd_inheritance.specs.Inheritance.{effective_copy, waiting_copy, whole_copy, is_split, pass_on}
-use Rattle.sd_inheritance.specs.declared.kind.NodeKind.{NodeKind}
-use Rattle.sd_inheritance.specs.declared.kind.NodeKind.TheVariants.{Container, Object}
+use Rattle.sd_tree_laws.proofs.Cited.{Ace, AceKind, Bool, Container, List, MappingValue, NodeKind, Object, SidValue, Some, [], and_assoc, ap, ap₂, bit_and, bit_or, cond, decides, effective_copy, explicit_entries, explicit_entry, false, first, flat_map, holds, is_allowed_by, is_split, limits_owner, mapped, not, owner_rights, pass_on, refl, same_sid, true, waiting_copy, whole_copy, ℕ, ◌&&◌, ◌++◌, ◌||◌, ◌∙◌, ◌∷◌, ◌≡◌}
 use Rattle.sd_tree_laws.proofs.Ordered.{flag_kept}
 
 same_flags : (f kept : ℕ) → bit_and 0xEF kept ≡ kept → bit_and (bit_and f 0xEF) kept ≡ bit_and f kept

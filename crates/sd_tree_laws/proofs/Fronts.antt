@@ -1,17 +1,6 @@
 -- Entries in order, of which a front is taken: what it finds is what the whole finds, up to the first that is left.
-use Rattle.std.proofs.Common.{◌≡◌, ℕ, ◌+◌, ◌≤◌, Bool, true, false, cond, ◌&&◌, List, [], ◌∷◌, ◌++◌, length, Option, Some, None, refl, sym, ap, subst, ◌∙◌, arith}
-use Rattle.std.specs.Prelude.{T}
+use Rattle.sd_tree_laws.proofs.Cited.{Bool, Equal, Greater, Less, List, Names, NodeRow, None, Option, Ordering, Some, T, [], ap, arith, below_all, cond, eq_by_cmp, false, false≢true, find, is_eq, is_lt, is_sorted, len-empty, len-insert, length, names_cmp, names_cmp_total, one_path, path_itself, refl, subst, sym, true, ℕ, ◌&&◌, ◌++◌, ◌+◌, ◌∙◌, ◌∷◌, ◌≡◌, ◌≤◌}
 use Rattle.std.specs.FinMap as finite
-use Rattle.std.specs.FinMap.{find, is_sorted, len-insert, len-empty}
-use Rattle.std.specs.FinMap.Entries.{below_all}
-use Rattle.std.specs.Ordering.{is_lt, is_eq, eq_by_cmp}
-use Rattle.std.specs.declared.cmp.Ordering.{Ordering}
-use Rattle.std.specs.declared.cmp.Ordering.TheVariants.{Less, Equal, Greater}
-use Rattle.std.proofs.lemmas.Bool.{false≢true}
-use Rattle.sd_path.specs.Names.{Names, names_cmp}
-use Rattle.sd_path.proofs.Paths.{names_cmp_total}
-use Rattle.sd_edit.specs.declared.node.NodeRow.{NodeRow}
-use Rattle.sd_edit.proofs.Rows.{one_path, path_itself}
 
 abbrev pub Entry : Type 0
 Entry = Names × NodeRow

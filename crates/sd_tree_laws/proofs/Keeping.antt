@@ -1,19 +1,5 @@
 -- That protecting a node with what it had inherited lets nobody in, at the node and below it.
-use Rattle.std.proofs.Common.{◌≡◌, ◌≢◌, ℕ, true, false, List, [], ◌∷◌, ◌++◌, Option, Some, None, option_map, refl, sym, ◌∙◌, ap, ap₂, inl, inr, append-nil}
-use Rattle.std.specs.FinMap.{same_map}
-use Rattle.std.proofs.lemmas.Bool.{cases_Bool}
-use Rattle.sd_sid.specs.Mapping.{MappingValue}
-use Rattle.sd_acl.specs.Canonical.{canonical_order, explicit_entries}
-use Rattle.sd_acl.specs.declared.ace.Ace.{Ace}
-use Rattle.sd_check.specs.Token.{TokenValue}
-use Rattle.sd_path.specs.Names.{Names, is_within}
-use Rattle.sd_edit.specs.Plain.{PlainTree, row_at, dacl_at, dacl_here, dacl_below}
-use Rattle.sd_edit.specs.Edits.{keeping, changed_where, changed}
-use Rattle.sd_tree_laws.specs.Laws.{KeepingLetsNobodyIn, granted_by_row, is_granted_at}
-use Rattle.sd_edit.specs.declared.node.NodeRow.{NodeRow}
-use Rattle.sd_path.proofs.Paths.{names_cmp_total, names_cmp_antisymmetric, within_rest}
-use Rattle.sd_edit.proofs.Rows.{same_or_other, row_at-changed_same, row_at-changed_other}
-use Rattle.sd_edit.proofs.Dacls.{dacl_at_here, dacl_over, dacl_at-append, below_alike, dacl_at_outside}
+use Rattle.sd_tree_laws.proofs.Cited.{Ace, KeepingLetsNobodyIn, List, MappingValue, Names, NodeRow, None, Option, PlainTree, Some, TokenValue, [], ap, append-nil, ap₂, below_alike, canonical_order, cases_Bool, changed, changed_where, dacl_at, dacl_at-append, dacl_at_here, dacl_at_outside, dacl_below, dacl_here, dacl_over, explicit_entries, false, granted_by_row, inl, inr, is_granted_at, is_within, keeping, names_cmp_antisymmetric, names_cmp_total, option_map, refl, row_at, row_at-changed_other, row_at-changed_same, same_map, same_or_other, sym, true, within_rest, ℕ, ◌++◌, ◌∙◌, ◌∷◌, ◌≡◌, ◌≢◌}
 use Rattle.sd_tree_laws.proofs.Reach.{outside_is_other}
 use Rattle.sd_tree_laws.proofs.Reordered.{AreReordered, node_hands_on, here, down, reordered_grants, node_grants}
 

@@ -1,22 +1,6 @@
 -- That a request which a check grants after a node was protected was granted before.
-use Rattle.std.proofs.Common.{◌≡◌, ℕ, Bool, true, false, cond, List, Option, Some, None, refl, ap}
-use Rattle.sd_sid.specs.Mask.{holds}
-use Rattle.sd_sid.specs.Mapping.{MappingValue}
-use Rattle.sd_check.specs.Check.{judged, is_granted, most}
-use Rattle.sd_acl.specs.declared.ace.Ace.{Ace}
-use Rattle.sd_check.specs.declared.verdict.Verdict.{Verdict}
-use Rattle.sd_check.specs.declared.verdict.Verdict.TheVariants.{Granted, Denied, Reserved, EmptyRequest}
-use Rattle.sd_check.specs.Token.{TokenValue}
-use Rattle.sd_check.proofs.MoreGranted.{nothing_missing}
-use Rattle.sd_path.specs.Names.{Names}
-use Rattle.sd_edit.specs.Plain.{PlainTree, row_at, dacl_at}
-use Rattle.sd_edit.specs.Edits.{keeping, edited}
-use Rattle.sd_edit.specs.Answers.{reply_for}
-use Rattle.sd_tree_laws.specs.Laws.{KeepingGrantsNoNewRequest, granted_by_row}
-use Rattle.sd_edit.specs.declared.node.NodeRow.{NodeRow}
+use Rattle.sd_tree_laws.proofs.Cited.{Ace, Bool, Denied, EmptyRequest, Granted, KeepingGrantsNoNewRequest, List, MappingValue, Names, NodeRow, None, Option, PlainTree, ProtectKeeping, Reserved, Some, TokenValue, Verdict, ap, cond, dacl_at, edited, false, granted_by_row, holds, is_granted, judged, keeping, kept_when_keeping, kind_at-changed, known_kind, most, nothing_missing, refl, reply_for, row_at, true, ℕ, ◌≡◌}
 use Rattle.sd_edit.specs.declared.reply.CheckReply.TheVariants as reply
-use Rattle.sd_edit.specs.declared.edit.Edit.TheVariants.{ProtectKeeping}
-use Rattle.sd_edit.proofs.Closed.{kind_at-changed, kept_when_keeping, known_kind}
 use Rattle.sd_tree_laws.proofs.Keeping.{keeping_lets_nobody_in}
 
 -- the cases of a verdict on a request without MAXIMUM_ALLOWED

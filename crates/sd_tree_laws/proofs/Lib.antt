@@ -1,3 +1,4 @@
+pub mod Cited
 pub mod AnsweredAlike
 pub mod Bounded
 pub mod Copies

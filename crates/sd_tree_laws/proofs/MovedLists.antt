@@ -1,24 +1,7 @@
 -- That nodes which inherit nothing, and those below them, keep their DACLs in a move, and that all do in a rename.
-use Rattle.std.proofs.Common.{◌≡◌, true, List, [], ◌∷◌, ◌++◌, Option, Some, sym, ap, ◌∙◌}
-use Rattle.std.proofs.Common.{append_assoc, append-nil}
-use Rattle.sd_sid.specs.Mapping.{MappingValue}
-use Rattle.sd_acl.specs.declared.ace.Ace.{Ace}
-use Rattle.sd_path.specs.Names.{Names, up, is_within, moved_path}
-use Rattle.sd_path.proofs.Paths.{moved_path-append, within_rest, within_up}
-use Rattle.sd_edit.specs.Closed.{IsClosed, IsMovable}
-use Rattle.sd_edit.specs.Edits.{moved}
-use Rattle.sd_edit.specs.Inheritance.{dacl_under}
-use Rattle.sd_edit.specs.Journal.{replay}
-use Rattle.sd_edit.specs.Plain.{PlainTree, row_at, dacl_at, dacl_here}
-use Rattle.sd_edit.specs.declared.node.NodeDacl.{NodeDacl}
-use Rattle.sd_edit.specs.declared.node.NodeRow.{NodeRow}
-use Rattle.sd_edit.proofs.Closed.{closed_replay}
-use Rattle.sd_edit.proofs.Dacls.{dacl_at_here, dacl_over, dacl_at-append, dacl_at_up}
-use Rattle.sd_edit.proofs.Moved.{below_shift, dacl_at-moved_other, row_at-moved_there, way_outside}
-use Rattle.sd_edit.proofs.NewRow.{up_outside}
+use Rattle.sd_tree_laws.proofs.Cited.{Ace, GivenKeepLists, IsClosed, IsMovable, List, MappingValue, Names, NodeDacl, NodeRow, NullKeepLists, Option, PlainTree, ProtectedKeepLists, RenamedKeepLists, Some, [], ap, append-nil, append_assoc, below_shift, closed_replay, dacl_at, dacl_at-append, dacl_at-moved_other, dacl_at_here, dacl_at_up, dacl_here, dacl_over, dacl_under, is_within, moved, moved_path, moved_path-append, replay, row_at, row_at-moved_there, sym, true, up, up_outside, way_outside, within_rest, within_up, ◌++◌, ◌∙◌, ◌∷◌, ◌≡◌}
 use Rattle.sd_tree_laws.proofs.Moves.{accepted_can}
 use Rattle.sd_tree_laws.proofs.Reach.{nothing_from_above}
-use Rattle.sd_tree_laws.specs.Laws.{GivenKeepLists, NullKeepLists, ProtectedKeepLists, RenamedKeepLists}
 
 -- nothing comes from above to a node that was given this DACL
 abbrev pub StandsAlone : NodeDacl → Type 0

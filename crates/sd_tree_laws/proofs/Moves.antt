@@ -1,22 +1,5 @@
 -- What a move leaves, and that a move back undoes it.
-use Rattle.std.proofs.Common.{◌≡◌, ◌⊎◌, List, [], ◌∷◌, ◌++◌, length, true, false, Option, Some, None, inl, inr, refl, sym, ap, ◌∙◌}
-use Rattle.std.proofs.lemmas.Bool.{cases_Bool, false≢true}
-use Rattle.sd_path.specs.Names.{Names, is_within}
-use Rattle.sd_edit.specs.Closed.{IsClosed, IsMovable}
-use Rattle.sd_edit.specs.Edits.{moved}
-use Rattle.sd_edit.specs.Journal.{replay, refusal, IsLawful}
-use Rattle.sd_edit.specs.Plain.{PlainTree, row_at}
-use Rattle.sd_edit.specs.declared.edit.Edit.{Edit}
-use Rattle.sd_edit.specs.declared.edit.Edit.TheVariants.{Move}
-use Rattle.sd_edit.specs.declared.node.NodeRow.{NodeRow}
-use Rattle.sd_edit.specs.declared.opening.Opening.{Opening}
-use Rattle.sd_path.proofs.Paths.{within_itself, within-append, within_rest}
-use Rattle.sd_edit.proofs.Below.{nothing_below, some_row}
-use Rattle.sd_edit.proofs.Closed.{closed_replay, movable}
-use Rattle.sd_edit.proofs.Dacls.{dacl_at_alike}
-use Rattle.sd_edit.proofs.Moved.{closed_moved, dacl_at-moved_other, row_at-moved_gone, row_at-moved_other, row_at-moved_there}
-use Rattle.sd_edit.proofs.Refused.{not_refused}
-use Rattle.sd_tree_laws.specs.Laws.{MoveBackUndoesIt, MoveCarriesTheSubtree}
+use Rattle.sd_tree_laws.proofs.Cited.{Edit, IsClosed, IsLawful, IsMovable, List, Move, MoveBackUndoesIt, MoveCarriesTheSubtree, Names, NodeRow, None, Opening, Option, PlainTree, Some, [], ap, cases_Bool, closed_moved, closed_replay, dacl_at-moved_other, dacl_at_alike, false, false≢true, inl, inr, is_within, length, movable, moved, not_refused, nothing_below, refl, refusal, replay, row_at, row_at-moved_gone, row_at-moved_other, row_at-moved_there, some_row, sym, true, within-append, within_itself, within_rest, ◌++◌, ◌∙◌, ◌∷◌, ◌≡◌, ◌⊎◌}
 
 -- of two beginnings of one path one begins the other
 two_heads : (a b ones others : Names) → a ++ ones ≡ b ++ others → ((c : Names) × (b ≡ a ++ c)) ⊎ ((c : Names) × (a ≡ b ++ c))

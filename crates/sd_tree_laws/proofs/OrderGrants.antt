@@ -1,16 +1,6 @@
 -- That putting a list in canonical order grants nothing more.
-use Rattle.std.proofs.Common.{◌≡◌, Bool, true, false, not, ◌&&◌, ◌||◌, cond, nat_lt, List, [], ◌∷◌, ◌++◌, filter, find, Option, Some, None, refl, sym, ◌∙◌, ap, inl, inr}
-use Rattle.std.specs.List.{list_any}
-use Rattle.std.specs.Option.{option_or}
-use Rattle.std.proofs.lemmas.Bool.{cases_Bool, and_parts, and_from, false≢true}
-use Rattle.std.proofs.Math.Bool.{or_assoc}
-use Rattle.std.proofs.lemmas.List.Folds.{list_any-append, find-append}
-use Rattle.sd_sid.specs.Sid.{same_sid, owner_rights}
-use Rattle.sd_acl.specs.Ace.{is_inherit_only}
-use Rattle.sd_acl.specs.Canonical.{allows, denies, canonical_order}
-use Rattle.sd_check.specs.Check.{decides, is_allowed_by, first}
-use Rattle.sd_acl.specs.declared.ace.Ace.{Ace}
-use Rattle.sd_tree_laws.specs.Laws.{OrderGrantsNothing, OrderKeepsOwnersLimit}
+use Rattle.sd_tree_laws.proofs.Cited.{Ace, Bool, List, None, Option, OrderGrantsNothing, OrderKeepsOwnersLimit, Some, [], allows, and_from, and_parts, ap, canonical_order, cases_Bool, cond, decides, denies, false, false≢true, filter, find-append, first, inl, inr, is_allowed_by, is_inherit_only, list_any, list_any-append, nat_lt, not, option_or, or_assoc, owner_rights, refl, same_sid, sym, true, ◌&&◌, ◌++◌, ◌||◌, ◌∙◌, ◌∷◌, ◌≡◌}
+use Rattle.std.proofs.Common.{find}
 
 -- ---- the first entry of a list that passes a test
 

@@ -1,14 +1,5 @@
 -- The order of a list: what putting a list in order keeps, and when a list is in order.
-use Rattle.std.proofs.Common.{◌≡◌, ℕ, Bool, true, false, not, ◌&&◌, cond, List, [], ◌∷◌, ◌++◌, filter, bit_and, refl, ◌∙◌, ap, ap₂, inl, inr, append-nil}
-use Rattle.std.specs.List.{list_any}
-use Rattle.std.proofs.Math.Bool.{and-false}
-use Rattle.std.proofs.lemmas.Bool.{cases_Bool, and_from, or_parts, or_from}
-use Rattle.std.proofs.lemmas.List.Folds.{list_any-append}
-use Rattle.std.proofs.lemmas.List.Elements.{filter-append}
-use Rattle.sd_sid.specs.Mask.{holds}
-use Rattle.sd_sid.proofs.Masks.{holds-and}
-use Rattle.sd_acl.specs.Canonical.{is_inherited, is_explicit, allows, denies, explicit_behind_inherited, deny_behind_allow, is_canonical, canonical_order, explicit_entry, explicit_entries}
-use Rattle.sd_acl.specs.declared.ace.Ace.{Ace}
+use Rattle.sd_tree_laws.proofs.Cited.{Ace, Bool, List, [], allows, and-false, and_from, ap, append-nil, ap₂, bit_and, canonical_order, cases_Bool, cond, denies, deny_behind_allow, explicit_behind_inherited, explicit_entries, explicit_entry, false, filter, filter-append, holds, holds-and, inl, inr, is_canonical, is_explicit, is_inherited, list_any, list_any-append, not, or_from, or_parts, refl, true, ℕ, ◌&&◌, ◌++◌, ◌∙◌, ◌∷◌, ◌≡◌}
 
 -- ---- filters and tests
 

@@ -1,33 +1,9 @@
 -- The entries that a node has of its own, in the tree of a lawful journal: explicit, and in order.
-use Rattle.std.proofs.Common.{◌≡◌, ℕ, zero, suc, ◌<◌, Bool, true, false, cond, List, [], ◌∷◌, ◌++◌, length, get_or, map as each, Option, Some, None, option_map, filter, refl, sym, ◌∙◌, ap, subst, inl, inr, arith}
-use Rattle.std.specs.List.{list_any}
+use Rattle.sd_tree_laws.proofs.Cited.{Ace, AclTooLarge, AddContainer, AddObject, Bool, Edit, EveryListIsCanonical, IsLawful, List, MappingValue, Move, Names, NodeDacl, NodeRow, None, Null, Opening, Option, OwnHasNoId, PlainTree, ProtectKeeping, Remove, SetDacl, SetGroup, SetOwner, Some, WithoutIdIsOwn, [], ap, arith, changed, cond, dacl_at, dacl_at_here, dacl_here, dacl_over, dacl_under, deny_behind_allow, early_refusal, early_tests, edited, entry_there, eq_by_cmp, explicit_entries, false, filter, find, get_or, handed_on, has_large_dacl, holds_of_lawful, inl, inr, is_canonical, is_explicit, is_inherited, keeping, length, length-map, list_any, list_tests, moved, moved_entry, names_cmp, none_fits, not_refused, opened, option_map, own_entries, refl, replay, root_refusal, root_row, row_at, row_at-changed_other, row_at-changed_same, row_at-empty, row_at-insert_other, row_at-insert_same, row_at-moved, row_at-remove_other, row_at-remove_same, same_or_other, subst, suc, sym, true, zero, ℕ, ◌++◌, ◌<◌, ◌∙◌, ◌∷◌, ◌≡◌}
+use Rattle.std.proofs.Common.{map as each}
 use Rattle.std.specs.FinMap as map
-use Rattle.std.specs.FinMap.{find}
-use Rattle.std.specs.Ordering.{eq_by_cmp}
-use Rattle.std.proofs.lemmas.List.{length-map}
 use Rattle.std.proofs.Math.ListN.{get_or-map as get_or-mapped}
-use Rattle.sd_sid.specs.Mapping.{MappingValue}
-use Rattle.sd_acl.specs.Canonical.{is_inherited, is_explicit, deny_behind_allow, is_canonical, explicit_entries}
-use Rattle.sd_acl.specs.declared.ace.Ace.{Ace}
-use Rattle.sd_path.specs.Names.{Names, names_cmp}
-use Rattle.sd_edit.specs.Inheritance.{handed_on, dacl_under}
-use Rattle.sd_edit.specs.Plain.{PlainTree, row_at, dacl_here, dacl_at}
-use Rattle.sd_edit.specs.Edits.{keeping, changed, edited, moved_entry, moved}
-use Rattle.sd_edit.specs.Journal.{opened, root_row, replay, root_refusal, IsLawful}
-use Rattle.sd_edit.specs.Refusals.{early_refusal, early_tests, own_entries, list_tests, has_large_dacl}
-use Rattle.sd_tree_laws.specs.Laws.{OwnHasNoId, WithoutIdIsOwn, EveryListIsCanonical}
-use Rattle.sd_edit.specs.declared.node.NodeRow.{NodeRow}
-use Rattle.sd_edit.specs.declared.node.NodeDacl.{NodeDacl}
-use Rattle.sd_edit.specs.declared.node.NodeDacl.TheVariants.{Null, List as Entries}
-use Rattle.sd_edit.specs.declared.opening.Opening.{Opening}
-use Rattle.sd_edit.specs.declared.refusal.EditRefusal.TheVariants.{AclTooLarge}
-use Rattle.sd_edit.specs.declared.edit.Edit.{Edit}
-use Rattle.sd_edit.specs.declared.edit.Edit.TheVariants.{AddContainer, AddObject, SetOwner, SetGroup, SetDacl, Remove, Move, ProtectKeeping}
-use Rattle.sd_edit.proofs.Rows.{same_or_other, row_at-empty, row_at-insert_same, row_at-insert_other, row_at-remove_same, row_at-remove_other, row_at-changed_same, row_at-changed_other}
-use Rattle.sd_edit.proofs.Moved.{entry_there, row_at-moved}
-use Rattle.sd_edit.proofs.Refused.{none_fits, not_refused}
-use Rattle.sd_edit.proofs.Journals.{holds_of_lawful}
-use Rattle.sd_edit.proofs.Dacls.{dacl_over, dacl_at_here}
+use Rattle.sd_edit.specs.declared.node.NodeDacl.TheVariants.{List as Entries}
 use Rattle.sd_tree_laws.proofs.Ordered.{canonical_parts, explicit_front, ordered_canonical, kept_explicit}
 use Rattle.sd_tree_laws.proofs.Copies.{inherited_has_id}
 

@@ -1,37 +1,11 @@
 -- That a move after ProtectKeeping of its source changes no DACL, so that the two edits together let nobody in.
-use Rattle.std.proofs.Common.{◌≡◌, ℕ, false, true, List, [], ◌∷◌, ◌++◌, Option, Some, None, IsSome, option_map}
-use Rattle.std.proofs.Common.{inl, inr, refl, sym, subst, ap, ap₂, ◌∙◌, append_assoc}
-use Rattle.std.proofs.lemmas.Bool.{cases_Bool}
-use Rattle.sd_sid.specs.Mapping.{MappingValue}
-use Rattle.sd_acl.specs.declared.ace.Ace.{Ace}
-use Rattle.sd_check.specs.Token.{TokenValue}
-use Rattle.sd_path.specs.Names.{Names, is_within, moved_path}
-use Rattle.sd_path.proofs.Paths.{moved_path-append, moved_path-outside, within_itself, within_rest}
-use Rattle.sd_edit.specs.Answers.{reply_for, reply_in}
-use Rattle.sd_edit.specs.Closed.{IsClosed, IsMovable}
-use Rattle.sd_edit.specs.Edits.{changed, keeping, moved}
-use Rattle.sd_edit.specs.Inheritance.{dacl_under}
-use Rattle.sd_edit.specs.Journal.{replay, IsLawful}
-use Rattle.sd_edit.specs.Plain.{PlainTree, row_at, dacl_at, dacl_here}
-use Rattle.sd_edit.specs.declared.edit.Edit.{Edit}
-use Rattle.sd_edit.specs.declared.edit.Edit.TheVariants.{ProtectKeeping, Move}
-use Rattle.sd_edit.specs.declared.node.NodeDacl.{NodeDacl}
-use Rattle.sd_edit.specs.declared.node.NodeDacl.TheVariants.{Null, List as Entries}
-use Rattle.sd_edit.specs.declared.node.NodeRow.{NodeRow}
-use Rattle.sd_edit.specs.declared.opening.Opening.{Opening}
-use Rattle.sd_edit.proofs.Below.{nothing_below, some_row}
-use Rattle.sd_edit.proofs.Closed.{closed_replay}
-use Rattle.sd_edit.proofs.Dacls.{dacl_at_here, dacl_over}
-use Rattle.sd_edit.proofs.Journals.{lawful_before, lawful_last, replay-push}
-use Rattle.sd_edit.proofs.Moved.{dacl_at-moved_other, row_at-moved_other, row_at-moved_there}
-use Rattle.sd_edit.proofs.Rows.{row_at-changed_other, row_at-changed_same}
+use Rattle.sd_tree_laws.proofs.Cited.{Ace, Edit, IsClosed, IsLawful, IsMovable, IsSome, List, MappingValue, Move, Names, NodeDacl, NodeRow, None, Null, Opening, Option, PlainTree, ProtectKeeping, ProtectingFirstGrantsNoNewRequest, ProtectingFirstKeepsLists, ProtectingFirstLetsNobodyIn, Some, TokenValue, [], ap, append_assoc, ap₂, cases_Bool, changed, closed_replay, dacl_at, dacl_at-moved_other, dacl_at_here, dacl_here, dacl_over, dacl_under, false, granted_by_row, inl, inr, is_granted_at, is_within, keeping, lawful_before, lawful_last, moved, moved_path, moved_path-append, moved_path-outside, nothing_below, option_map, protected_then_moved, refl, replay, replay-push, reply_for, reply_in, row_at, row_at-changed_other, row_at-changed_same, row_at-moved_other, row_at-moved_there, some_row, subst, sym, true, within_itself, within_rest, ℕ, ◌++◌, ◌∙◌, ◌∷◌, ◌≡◌}
+use Rattle.sd_edit.specs.declared.node.NodeDacl.TheVariants.{List as Entries}
 use Rattle.sd_tree_laws.proofs.Keeping.{keeping_lets_nobody_in}
 use Rattle.sd_tree_laws.proofs.KeptGrants.{keeping_grants_no_new_request}
 use Rattle.sd_tree_laws.proofs.MovedLists.{StandsAlone, moves_unchanged}
 use Rattle.sd_tree_laws.proofs.Moves.{accepted_can}
 use Rattle.sd_tree_laws.proofs.Reach.{outside_is_other}
-use Rattle.sd_tree_laws.specs.Laws.{ProtectingFirstGrantsNoNewRequest, ProtectingFirstKeepsLists}
-use Rattle.sd_tree_laws.specs.Laws.{ProtectingFirstLetsNobodyIn, granted_by_row, is_granted_at, protected_then_moved}
 
 -- ---- a node that is protected with what it had, or whose DACL is null, inherits nothing
 

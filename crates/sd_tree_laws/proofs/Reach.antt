@@ -1,23 +1,6 @@
 -- How far an edit reaches, and that nothing comes to a protected node from above.
-use Rattle.std.proofs.Common.{◌≡◌, ◌≢◌, true, false, ◌||◌, List, ◌∷◌, ◌++◌, Option, option_map, refl, sym, ◌∙◌, ap, ap₂}
-use Rattle.std.proofs.lemmas.Bool.{false≢true, or_parts}
-use Rattle.sd_sid.specs.Mapping.{MappingValue}
-use Rattle.sd_acl.specs.declared.ace.Ace.{Ace}
-use Rattle.sd_path.specs.Names.{Names, is_within}
-use Rattle.sd_edit.specs.Inheritance.{dacl_under}
-use Rattle.sd_edit.specs.Descriptors.{is_protected, descriptor_of_row}
-use Rattle.sd_edit.specs.Plain.{PlainTree, row_at, dacl_at, dacl_here, dacl_below}
-use Rattle.sd_edit.specs.Edits.{edited, touches}
-use Rattle.sd_tree_laws.specs.Laws.{EditStaysBelow, ProtectedStandsAlone}
-use Rattle.sd_edit.specs.declared.edit.Edit.{Edit}
-use Rattle.sd_edit.specs.declared.edit.Edit.TheVariants.{AddContainer, AddObject, SetOwner, SetGroup, SetDacl, Remove, ProtectKeeping, Move}
-use Rattle.sd_edit.specs.declared.node.NodeRow.{NodeRow}
-use Rattle.sd_edit.specs.declared.node.NodeDacl.{NodeDacl}
-use Rattle.sd_edit.specs.declared.node.NodeDacl.TheVariants.{Null, List as Entries}
-use Rattle.sd_path.proofs.Paths.{within_itself, within-append, within_rest}
-use Rattle.sd_edit.proofs.Moved.{way_outside, row_at-moved_other}
-use Rattle.sd_edit.proofs.Rows.{row_at-insert_other, row_at-remove_other, row_at-changed_other}
-use Rattle.sd_edit.proofs.Dacls.{dacl_at_here, dacl_over, dacl_at-append, below_alike, dacl_at_alike}
+use Rattle.sd_tree_laws.proofs.Cited.{Ace, AddContainer, AddObject, Edit, EditStaysBelow, List, MappingValue, Move, Names, NodeDacl, NodeRow, Null, Option, PlainTree, ProtectKeeping, ProtectedStandsAlone, Remove, SetDacl, SetGroup, SetOwner, ap, ap₂, below_alike, dacl_at, dacl_at-append, dacl_at_alike, dacl_at_here, dacl_below, dacl_here, dacl_over, dacl_under, descriptor_of_row, edited, false, false≢true, is_protected, is_within, option_map, or_parts, refl, row_at, row_at-changed_other, row_at-insert_other, row_at-moved_other, row_at-remove_other, sym, touches, true, way_outside, within-append, within_itself, within_rest, ◌++◌, ◌||◌, ◌∙◌, ◌∷◌, ◌≡◌, ◌≢◌}
+use Rattle.sd_edit.specs.declared.node.NodeDacl.TheVariants.{List as Entries}
 
 pub outside_is_other : (at path : Names) → is_within at path ≡ false → path ≢ at
 outside_is_other at path outside same = false≢true (sym outside ∙ ap (is_within at) same ∙ within_itself at)

@@ -1,39 +1,8 @@
 -- The tree of a valid journal is made again by its root and one addition for each other node, in the order of their
 -- paths: each is accepted at its place.
-use Rattle.std.proofs.Common.{◌≡◌, ℕ, zero, suc, ◌+◌, ◌<◌, ◌≤◌, Bool, true, false, cond, not, ◌&&◌, ◌||◌, List, [], ◌∷◌, ◌++◌, length, map, get_or, Option, Some, None, option_map, is_some, inl, inr, refl, sym, ap, subst, ◌∙◌, append_assoc, append-nil, arith, nat_lt, nat_le}
-use Rattle.std.specs.Prelude.{T}
-use Rattle.std.specs.List.{list_any, AllByRecursion}
+use Rattle.sd_tree_laws.proofs.Cited.{AclTooLarge, AllByRecursion, Bool, Container, Edit, EditRefusal, IsClosed, IsLawful, JournalFull, LimitsValue, List, MappingValue, Names, NodeKind, NodeRow, None, Object, Opening, Option, PlainTree, Some, T, [], addition_of, addition_tests, ap, append-nil, append_assoc, arith, by_last, closed_replay, cond, dacl_at, dacl_at_alike, dacl_size, early_tests, edited, entries_sorted, entry_there, eq_by_cmp, false, find, first_fit, from_entries_push, get-entries, get-from_entries, get_or, get_or-append_seam, has_large_dacl, inl, inr, is_object, is_object_kind, is_root, is_some, is_sorted, is_within, lawful_none, lawful_push, lawful_short, le-ltb, len-entries, length, length-append, length-map, list_any, list_tests, lt-leb, map, map-append, names_cmp, names_cmp_antisymmetric, names_cmp_total, nat_le, nat_lt, not, one_path, opened, opening_within, option_map, refl, refusal, refusal_by_parts, refusal_in, replay, replay-none, replay-push, room_tests, root_of, root_refusal, row_at, same_map, same_or_other, subst, suc, sym, true, up, up_before, within_before, within_itself, zero, ℕ, ◌&&◌, ◌++◌, ◌+◌, ◌<◌, ◌||◌, ◌∙◌, ◌∷◌, ◌≡◌, ◌≤◌}
 use Rattle.std.specs.FinMap as finite
-use Rattle.std.specs.FinMap.{find, is_sorted, entries_sorted, get-entries, get-from_entries, from_entries_push, same_map, len-entries}
-use Rattle.std.specs.Ordering.{eq_by_cmp}
-use Rattle.std.proofs.Math.Seq.{get_or-append_seam}
-use Rattle.std.proofs.lemmas.Bool.{le-ltb, lt-leb}
-use Rattle.std.proofs.lemmas.List.{length-map, length-append, map-append}
-use Rattle.sd_sid.specs.Mapping.{MappingValue}
-use Rattle.sd_path.specs.Names.{Names, names_cmp, up, is_root, is_within}
-use Rattle.sd_path.proofs.Paths.{names_cmp_total, names_cmp_antisymmetric, within_before, within_itself, up_before}
-use Rattle.sd_edit.specs.Closed.{IsClosed}
-use Rattle.sd_edit.specs.Limits.{LimitsValue}
-use Rattle.sd_edit.specs.Plain.{PlainTree, row_at, dacl_at}
-use Rattle.sd_edit.specs.Edits.{edited}
-use Rattle.sd_edit.specs.Journal.{opening_within, opened, replay, refusal, root_refusal, IsLawful}
-use Rattle.sd_edit.specs.Refusals.{first_fit, early_tests, list_tests, addition_tests, is_object, is_object_kind, room_tests, refusal_in, has_large_dacl, dacl_size}
-use Rattle.sd_edit.specs.declared.node.NodeRow.{NodeRow}
-use Rattle.sd_inheritance.specs.declared.kind.NodeKind.{NodeKind}
-use Rattle.sd_inheritance.specs.declared.kind.NodeKind.TheVariants.{Container, Object}
-use Rattle.sd_edit.specs.declared.opening.Opening.{Opening}
-use Rattle.sd_edit.specs.declared.edit.Edit.{Edit}
-use Rattle.sd_edit.specs.declared.refusal.EditRefusal.{EditRefusal}
-use Rattle.sd_edit.specs.declared.refusal.EditRefusal.TheVariants.{AclTooLarge, JournalFull}
-use Rattle.sd_edit.proofs.Closed.{closed_replay}
-use Rattle.sd_edit.proofs.Dacls.{dacl_at_alike}
-use Rattle.sd_edit.proofs.Refused.{refusal_by_parts}
-use Rattle.sd_edit.proofs.Journals.{replay-none, replay-push, lawful_none, lawful_push, lawful_short}
-use Rattle.sd_edit.proofs.Lists.{by_last}
-use Rattle.sd_edit.proofs.Moved.{entry_there}
-use Rattle.sd_edit.proofs.Rows.{same_or_other, one_path}
 use Rattle.sd_tree_laws.proofs.OwnEntries.{AllSound, sound_replay}
-use Rattle.sd_edit.specs.Additions.{addition_of, root_of}
 use Rattle.sd_tree_laws.proofs.Fronts.{Entry, below_trans, below_next, find_below, find_front, found_below, next_free, before_next, few_entries}
 use Rattle.sd_tree_laws.proofs.Bounded.{AllShallow, IsFew, or_parts, shallow_replay, few_replay, small_replay, journal_adds}
 

@@ -1,26 +1,6 @@
 -- DACLs that are one but for the order of some last entries: what they hand on, and what they grant.
-use Rattle.std.proofs.Common.{◌≡◌, ℕ, Bool, true, false, not, ◌&&◌, ◌||◌, nat_lt, List, [], ◌∷◌, ◌++◌, filter, Option, Some, None, refl, sym, ◌∙◌, ap, ap₂, inl, inr, append_assoc, append-nil}
-use Rattle.std.specs.List.{list_any, flat_map}
-use Rattle.std.proofs.lemmas.Bool.{cases_Bool, and_parts, and_from, or_left, or_right, not-false}
-use Rattle.std.proofs.lemmas.List.Folds.{list_any-append}
-use Rattle.std.proofs.lemmas.List.Elements.{filter-append}
-use Rattle.std.proofs.lemmas.Grind.{flat_map-append}
-use Rattle.sd_sid.specs.Mapping.{MappingValue}
-use Rattle.sd_sid.specs.Sid.{SidValue, same_sid, owner_rights}
-use Rattle.sd_acl.specs.Ace.{is_inherit_only}
-use Rattle.sd_acl.specs.Canonical.{allows, denies, canonical_order, explicit_entries}
-use Rattle.sd_check.specs.Check.{decides, acl_grants, is_allowed_by, first, limits_owner, is_implied, applies, applies_again, is_owner, is_granted, is_given, is_listed}
-use Rattle.sd_acl.specs.declared.ace.Ace.{Ace}
-use Rattle.sd_acl.specs.declared.ace.AceKind.{AceKind}
-use Rattle.sd_check.specs.Token.{TokenValue, is_restricted}
-use Rattle.sd_path.specs.Names.{Names}
-use Rattle.sd_inheritance.specs.Inheritance.{pass_on}
-use Rattle.sd_edit.specs.Inheritance.{handed_on, dacl_under}
-use Rattle.sd_edit.specs.Plain.{PlainTree, row_at, dacl_here, dacl_below}
-use Rattle.sd_edit.specs.declared.node.NodeRow.{NodeRow}
-use Rattle.sd_inheritance.specs.declared.kind.NodeKind.{NodeKind}
-use Rattle.sd_edit.specs.declared.node.NodeDacl.{NodeDacl}
-use Rattle.sd_edit.specs.declared.node.NodeDacl.TheVariants.{Null, List as Entries}
+use Rattle.sd_tree_laws.proofs.Cited.{Ace, AceKind, Bool, List, MappingValue, Names, NodeDacl, NodeKind, NodeRow, None, Null, Option, PlainTree, SidValue, Some, TokenValue, [], acl_grants, allows, and_from, and_parts, ap, append-nil, append_assoc, applies, applies_again, ap₂, canonical_order, cases_Bool, dacl_below, dacl_here, dacl_under, decides, denies, explicit_entries, false, filter, filter-append, first, flat_map, flat_map-append, handed_on, inl, inr, is_allowed_by, is_given, is_granted, is_implied, is_inherit_only, is_listed, is_owner, is_restricted, limits_owner, list_any, list_any-append, nat_lt, not, not-false, or_left, or_right, owner_rights, pass_on, refl, row_at, same_sid, sym, true, ℕ, ◌&&◌, ◌++◌, ◌||◌, ◌∙◌, ◌∷◌, ◌≡◌}
+use Rattle.sd_edit.specs.declared.node.NodeDacl.TheVariants.{List as Entries}
 use Rattle.sd_tree_laws.proofs.Copies.{no_copy_passes}
 use Rattle.sd_tree_laws.proofs.Ordered.{filter_whole, filter_none}
 use Rattle.sd_tree_laws.proofs.OrderGrants.{allowed_before, allowed_behind, any_canonical}

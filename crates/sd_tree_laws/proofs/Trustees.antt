@@ -1,9 +1,5 @@
 -- That another owner or group of a node changes the DACL of no other node.
-use Rattle.std.proofs.Common.{◌∙◌, ap}
-use Rattle.sd_edit.specs.Plain.{dacl_at}
-use Rattle.sd_edit.specs.Edits.{changed, keeping}
-use Rattle.sd_edit.proofs.Trustees.{others_stay, row_alike, same_row_stays}
-use Rattle.sd_tree_laws.specs.Laws.{OwnerChangesOneNode, GroupChangesOneNode, KeepingANullChangesNone}
+use Rattle.sd_tree_laws.proofs.Cited.{GroupChangesOneNode, KeepingANullChangesNone, OwnerChangesOneNode, ap, changed, dacl_at, keeping, others_stay, row_alike, same_row_stays, ◌∙◌}
 
 pub owner_changes_one_node : OwnerChangesOneNode
 owner_changes_one_node g t path other owner ne =

@@ -1,18 +1,5 @@
 -- What a desk keeps: the two versions of its tree, and the floors.
-use Rattle.std.proofs.Common.{◌≡◌, ℕ, ◌<◌, ◌≤◌, List, [], ◌∷◌, ◌++◌, length, take, map, replicate, refl, sym, ◌∙◌, ap, inl, inr, arith, max, slice_set, slice_index_or}
-use Rattle.std.proofs.lemmas.List.{take_all, take-append-le, length-take-le, length-append, length-map, map-set, get_or-map, length-replicate}
-use Rattle.std.proofs.lemmas.List.Elements.{All-head, All-tail}
-use Rattle.std.proofs.lemmas.Bool.Decides.{leb_tells}
-use Rattle.std.proofs.Math.Seq.{take-length}
-use Rattle.std.proofs.lemmas.Simd.{splat_is_map}
-use Rattle.sd_edit.specs.declared.edit.Edit.{Edit}
-use Rattle.sd_edit.specs.declared.opening.Opening.{Opening}
-use Rattle.sd_edit.specs.Machine.{longer}
-use Rattle.sd_versions.specs.Versions.{VersionsValue, accepted}
-use Rattle.sd_versions.specs.Desk.{beginnings, machine_of, AreWithin}
-use Rattle.sd_edit.specs.Machine.{Machine, IsReader, floor_of, with_floor, with_look, started, Steps}
-use Rattle.sd_edit.specs.declared.request.Request.TheVariants.{Publish}
-use Rattle.sd_edit.specs.declared.request.Reply.TheVariants.{Published}
+use Rattle.sd_versions.proofs.Cited.{All-head, All-tail, AreWithin, Edit, IsReader, List, Machine, Opening, Publish, Published, Steps, VersionsValue, [], accepted, ap, arith, beginnings, floor_of, get_or-map, inl, inr, leb_tells, length, length-append, length-map, length-replicate, length-take-le, longer, machine_of, map, map-set, max, refl, replicate, slice_index_or, slice_set, splat_is_map, started, sym, take, take-append-le, take-length, take_all, with_floor, with_look, ℕ, ◌++◌, ◌<◌, ◌∙◌, ◌∷◌, ◌≡◌, ◌≤◌}
 
 -- ---- the floors
 

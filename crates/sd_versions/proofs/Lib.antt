@@ -1,3 +1,4 @@
+pub mod Cited
 pub mod Keeping
 pub mod Lists
 pub mod Moves

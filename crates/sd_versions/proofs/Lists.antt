@@ -1,8 +1,5 @@
 -- Lists of requests, one after the other.
-use Rattle.std.proofs.Common.{List, [], ◌∷◌, ◌++◌, refl, subst}
-use Rattle.sd_edit.specs.Machine.{Machine, Steps, Runs}
-use Rattle.sd_edit.specs.declared.request.Request.{Request}
-use Rattle.sd_edit.specs.declared.request.Reply.{Reply}
+use Rattle.sd_versions.proofs.Cited.{List, Machine, Reply, Request, Runs, Steps, [], refl, subst, ◌++◌, ◌∷◌}
 
 -- one more request
 pub runs_push : (old : Machine) (requests : List Request) (replies : List Reply) (m : Machine) (request : Request) (reply : Reply) (new : Machine)

@@ -1,21 +1,8 @@
 -- What each request changes of a machine, and what a run does.
-use Rattle.std.proofs.Common.{◌≡◌, ℕ, ◌≤◌, None, List, [], ◌∷◌, ◌++◌, length, take, drop, replicate, refl, sym, ◌∙◌, ap, subst, inl, inr, arith}
-use Rattle.std.proofs.lemmas.List.{append-nil, append_assoc, take-append-drop, take-take, get_or-set_same, get_or-set_other, get_or-replicate, get_or_past, length-replicate}
-use Rattle.std.proofs.lemmas.Bool.Decides.{leb_tells}
-use Rattle.std.proofs.lemmas.Bool.{cases_order}
-use Rattle.std.proofs.Math.Seq.{take-append_seam}
-use Rattle.sd_edit.proofs.Journals.{lawful_none, lawful_push}
-use Rattle.sd_edit.specs.Journal.{IsLawful, refusal}
-use Rattle.sd_edit.specs.declared.edit.Edit.{Edit}
-use Rattle.sd_edit.specs.declared.opening.Opening.{Opening}
-use Rattle.sd_edit.specs.Machine.{Machine, started, accepted, due, IsReader, floor_of, with_edit, with_publish, with_floor, Steps, Runs}
-use Rattle.sd_edit.specs.Machine.{longer}
-use Rattle.sd_versions.specs.Laws.{Extends, IsSound, RunsAreSound, OpeningStays, PublishedGrows, FloorsNeverFall, PublishIsWhole, AnswersAreOfThePublished, FailureChangesNothing}
-use Rattle.sd_edit.specs.declared.reply.Answer.{Answer}
-use Rattle.sd_edit.specs.declared.request.Request.{Request}
+use Rattle.sd_versions.proofs.Cited.{Answer, Answered, AnswersAreOfThePublished, Edit, Edited, Extends, FailureChangesNothing, FloorsNeverFall, IsLawful, IsReader, IsSound, Learned, List, Machine, Memory, NoNotice, NoReader, None, Opening, OpeningStays, PublishIsWhole, Published, PublishedGrows, Refused, Reply, Request, Runs, RunsAreSound, Shown, Steps, Told, [], ap, append-nil, append_assoc, arith, cases_order, drop, due, floor_of, get_or-replicate, get_or-set_other, get_or-set_same, get_or_past, inl, inr, lawful_none, lawful_push, leb_tells, length, length-replicate, longer, refl, refusal, replicate, started, subst, sym, take, take-append-drop, take-append_seam, take-take, with_edit, with_floor, with_publish, ℕ, ◌++◌, ◌∙◌, ◌∷◌, ◌≡◌, ◌≤◌}
+use Rattle.sd_edit.specs.Machine.{accepted}
+use Rattle.sd_edit.specs.Machine.{accepted}
 use Rattle.sd_edit.specs.declared.request.Request.TheVariants as asked
-use Rattle.sd_edit.specs.declared.request.Reply.{Reply}
-use Rattle.sd_edit.specs.declared.request.Reply.TheVariants.{Edited, Refused, Published, Told, Learned, Answered, Shown, NoReader, NoNotice, Memory}
 
 -- ---- beginnings
 

@@ -1,7 +1,5 @@
 -- Readings that found something, and what that tells of their steps.
-use Rattle.std.proofs.Common.{◌≡◌, Bool, true, false, cond, Result, Ok, Err, refl, inl, inr, ◌⊎◌}
-use Rattle.sd_wire.specs.declared.fault.WireFault.{WireFault}
-use Rattle.sd_wire.specs.Reading.{◌>>=◌}
+use Rattle.sd_wire.proofs.Cited.{Bool, Err, Ok, Result, WireFault, cond, false, inl, inr, refl, true, ◌>>=◌, ◌≡◌, ◌⊎◌}
 
 -- a reading that found something
 abbrev pub good : {A : Type 0} → A → Result A WireFault

@@ -1,25 +1,7 @@
 -- What stands in the bytes is read.
-use Rattle.std.proofs.Common.{◌≡◌, ℕ, ◌+◌, ◌-◌, ◌*◌, ◌%◌, ◌<◌, ◌≤◌, Bool, true, false, not, ◌&&◌, ◌||◌, ◌==◌, nat_lt, List, [], ◌∷◌, ◌++◌, length, get_or, take, drop, Option, Some, None, Ok, Err, refl, sym, ap, ◌∙◌, arith, add_assoc, add-zero, inl, inr, bit_and}
-use Rattle.std.specs.Prelude.{IfSome}
-use Rattle.std.specs.Int.{w16, w32, to_le_bytes}
-use Rattle.std.specs.List.{AllByRecursion}
-use Rattle.std.proofs.lemmas.Bool.{le-ltb, ne_eqb, eq-eqb, cases_Bool, and_left, and_right, MatchBool-at_true, MatchBool-at_false}
-use Rattle.std.proofs.lemmas.Nat.{from_le_bytes-to_le_bytes_2, from_le_bytes-to_le_bytes_4}
-use Rattle.sd_sid.specs.Sid.{SidValue, IsSid}
-use Rattle.sd_sid.specs.SidBytes.{u32_at, sid_reading, bytes_of_sid}
-use Rattle.sd_sid.proofs.SidLaws.{length_of_sid, sids_come_back}
-use Rattle.sd_acl.specs.Ace.{all_named}
-use Rattle.sd_acl.specs.Descriptor.{DescriptorValue, IsDacl, IsAce, AreEntries}
-use Rattle.sd_acl.specs.declared.ace.Ace.{Ace}
-use Rattle.sd_acl.specs.declared.ace.AceKind.{AceKind}
-use Rattle.sd_acl.specs.declared.ace.AceKind.TheVariants.{Allow, Deny}
-use Rattle.sd_acl.specs.Dacl.{Dacl}
-use Rattle.sd_acl.specs.declared.descriptor.DaclOf.TheVariants.{Absent, Null, List as Entries}
-use Rattle.sd_wire.specs.declared.fault.WireFault.{WireFault}
-use Rattle.sd_wire.specs.Reading.{u16_at, is_set, bad_sid, sid_read, kind_read, entry_read, entries_read, list_read, is_outside, trustee_read, dacl_read, control_read, descriptor_read}
-use Rattle.sd_wire.specs.Writing.{kind_byte, entry_parts}
-use Rattle.sd_wire.specs.Standing.{Stands, TrusteeStands, EntryStands, EntriesStand, ListStands, DaclStands, IsPresent, IsWithout, Holds}
-use Rattle.sd_wire.specs.Laws.{WhatIsHeldIsRead, OneIsHeld, NoneIsHeldBesideAFault}
+use Rattle.sd_wire.proofs.Cited.{Absent, Ace, AceKind, AllByRecursion, Allow, AreEntries, Bool, Dacl, DaclStands, Deny, DescriptorValue, EntriesStand, EntryStands, Err, Holds, IfSome, IsAce, IsDacl, IsPresent, IsSid, IsWithout, List, ListStands, MatchBool-at_false, MatchBool-at_true, None, NoneIsHeldBesideAFault, Null, Ok, OneIsHeld, Option, SidValue, Some, Stands, TrusteeStands, WhatIsHeldIsRead, WireFault, [], add-zero, add_assoc, all_named, and_left, and_right, ap, arith, bad_sid, bit_and, bytes_of_sid, cases_Bool, drop, entry_parts, eq-eqb, false, from_le_bytes-to_le_bytes_2, from_le_bytes-to_le_bytes_4, get_or, inl, inr, is_outside, is_set, kind_byte, kind_read, le-ltb, length, length_of_sid, nat_lt, ne_eqb, not, refl, sid_read, sid_reading, sids_come_back, sym, take, to_le_bytes, true, u16_at, u32_at, w16, w32, ℕ, ◌%◌, ◌&&◌, ◌*◌, ◌++◌, ◌+◌, ◌-◌, ◌<◌, ◌==◌, ◌||◌, ◌∙◌, ◌∷◌, ◌≡◌, ◌≤◌}
+use Rattle.sd_acl.specs.declared.descriptor.DaclOf.TheVariants.{List as Entries}
+use Rattle.sd_wire.specs.Reading.{entry_read, entries_read, list_read, trustee_read, dacl_read, control_read, descriptor_read}
 use Rattle.sd_wire.proofs.Found.{good, good_is}
 use Rattle.sd_wire.proofs.Places.{stands_at, stands_within, stands_second, stands_range}
 

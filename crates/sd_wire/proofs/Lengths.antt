@@ -1,14 +1,6 @@
 -- How many bytes each written part takes.
-use Rattle.std.proofs.Common.{◌≡◌, ℕ, min, ◌+◌, ◌*◌, ◌/◌, ◌^◌, ◌<◌, ◌≤◌, List, [], ◌∷◌, ◌++◌, length, get_or, take, sum_by, Some, refl, sym, ◌∙◌, arith}
-use Rattle.std.specs.List.{flat_map}
-use Rattle.std.proofs.lemmas.List.{length-append}
-use Rattle.std.proofs.lemmas.List.Sums.{sum_by-cons, sum_by_more_le}
-use Rattle.sd_sid.specs.Sid.{SidValue}
-use Rattle.sd_sid.proofs.SidLaws.{length_of_sid}
-use Rattle.sd_acl.specs.Ace.{ace_size, acl_size_of}
-use Rattle.sd_acl.specs.Descriptor.{DescriptorValue}
-use Rattle.sd_acl.specs.declared.ace.Ace.{Ace}
-use Rattle.sd_wire.specs.Writing.{entry_bytes, list_bytes, header_bytes, header_of, trustee_part, dacl_part, wire_of}
+use Rattle.sd_wire.proofs.Cited.{Ace, DescriptorValue, List, SidValue, Some, [], ace_size, acl_size_of, arith, dacl_part, flat_map, get_or, length, length-append, length_of_sid, min, refl, sum_by, sum_by-cons, sum_by_more_le, sym, take, trustee_part, ℕ, ◌*◌, ◌++◌, ◌+◌, ◌/◌, ◌<◌, ◌^◌, ◌∙◌, ◌∷◌, ◌≡◌, ◌≤◌}
+use Rattle.sd_wire.specs.Writing.{entry_bytes, list_bytes, header_bytes, header_of, wire_of}
 
 pub length_of_trustee : (s : SidValue) → 8 + 4 * length s.subs ≡ length (trustee_part (Some s))
 length_of_trustee s = sym (length_of_sid s)

@@ -1,3 +1,4 @@
+pub mod Cited
 pub mod Lengths
 pub mod Loop
 pub mod Rest

@@ -1,9 +1,6 @@
 -- Reading entries one after the other, as a loop does.
-use Rattle.std.proofs.Common.{◌≡◌, ℕ, suc, ◌-◌, ◌+◌, ◌≤◌, ◌<◌, List, [], ◌∷◌, ◌++◌, Result, Ok, Err, refl, sym, ap, ◌∙◌, append_assoc, arith}
-use Rattle.std.proofs.lemmas.List.{append-nil}
-use Rattle.sd_acl.specs.declared.ace.Ace.{Ace}
-use Rattle.sd_wire.specs.declared.fault.WireFault.{WireFault}
-use Rattle.sd_wire.specs.Reading.{◌>>=◌, entry_read, entries_read}
+use Rattle.sd_wire.proofs.Cited.{Ace, Err, List, Ok, Result, WireFault, [], ap, append-nil, append_assoc, arith, entry_read, refl, suc, sym, ℕ, ◌++◌, ◌+◌, ◌-◌, ◌<◌, ◌>>=◌, ◌∙◌, ◌∷◌, ◌≡◌, ◌≤◌}
+use Rattle.sd_wire.specs.Reading.{entries_read}
 
 -- the entries that were read before, and those that are still read
 abbrev pub behind : List Ace → Result (List Ace) WireFault → Result (List Ace) WireFault

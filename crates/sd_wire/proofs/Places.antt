@@ -1,13 +1,5 @@
 -- Parts of the bytes: behind a front, cell by cell, in two pieces.
-use Rattle.std.proofs.Common.{◌≡◌, ℕ, ◌+◌, ◌-◌, ◌<◌, ◌≤◌, List, [], ◌∷◌, ◌++◌, length, get_or, take, drop, refl, sym, ap, ◌∙◌, arith, add_assoc, add-zero}
-use Rattle.std.specs.Int.{w16, w32, from_le_bytes, to_le_bytes}
-use Rattle.std.proofs.Math.Seq.{take-add}
-use Rattle.std.proofs.lemmas.List.{length-append, length-take, length-drop, length-take-le, get_or-take, get_or-drop, get_or-append-add, take_at, drop_at, drop-drop, drop-take}
-use Rattle.std.proofs.lemmas.Nat.{le_bytes_2, le_bytes_4}
-use Rattle.sd_sid.specs.SidBytes.{u32_at}
-use Rattle.sd_sid.proofs.SidWords.{cells, cells_fit}
-use Rattle.sd_wire.specs.Reading.{u16_at}
-use Rattle.sd_wire.specs.Standing.{Stands}
+use Rattle.sd_wire.proofs.Cited.{List, Stands, [], add-zero, add_assoc, ap, arith, cells, cells_fit, drop, drop-drop, drop-take, drop_at, from_le_bytes, get_or, get_or-append-add, get_or-drop, get_or-take, le_bytes_2, le_bytes_4, length, length-append, length-drop, length-take, length-take-le, refl, sym, take, take-add, take_at, to_le_bytes, u16_at, u32_at, w16, w32, ℕ, ◌++◌, ◌+◌, ◌-◌, ◌<◌, ◌∙◌, ◌∷◌, ◌≡◌, ◌≤◌}
 
 -- ---- behind a front
 

@@ -1,30 +1,7 @@
 -- What is read stands in the bytes.
-use Rattle.std.proofs.Common.{◌≡◌, ℕ, zero, suc, ◌+◌, ◌-◌, ◌*◌, ◌%◌, ◌<◌, ◌≤◌, Bool, true, false, not, ◌&&◌, ◌==◌, nat_lt, cond, List, [], ◌∷◌, ◌++◌, length, get_or, take, drop, Option, Some, None, Result, Ok, Err, refl, sym, ap, subst, ◌∙◌, arith, add-zero, inl, inr, bit_and}
-use Rattle.std.specs.Int.{w16, w32, to_le_bytes}
-use Rattle.std.proofs.lemmas.Bool.{ltb-false, eqb-true, not-false, or_parts, or_cases, and_cases}
-use Rattle.std.proofs.lemmas.List.{length-take, take-take, take_all}
-use Rattle.sd_sid.specs.Sid.{SidValue}
-use Rattle.sd_sid.specs.SidBytes.{u32_at, sid_reading, bytes_of_sid}
-use Rattle.sd_sid.specs.declared.sid.SidError.{SidError}
-use Rattle.sd_sid.proofs.Outcomes.{passed}
-use Rattle.sd_sid.proofs.SidLaws.{length_of_sid, sids_stand}
-use Rattle.sd_sid.proofs.SidWords.{cells, cells_fit}
-use Rattle.std.specs.Prelude.{IfOk}
-use Rattle.sd_acl.specs.Ace.{all_named}
-use Rattle.sd_acl.specs.Descriptor.{DescriptorValue, descriptor_of}
-use Rattle.sd_acl.specs.declared.descriptor.Descriptor.{Descriptor}
-use Rattle.sd_wire.specs.declared.fault.WireError.{WireError}
-use Rattle.sd_acl.specs.declared.ace.Ace.{Ace}
-use Rattle.sd_acl.specs.declared.ace.AceKind.{AceKind}
-use Rattle.sd_acl.specs.declared.ace.AceKind.TheVariants.{Allow, Deny}
-use Rattle.sd_acl.specs.Dacl.{Dacl}
-use Rattle.sd_acl.specs.declared.descriptor.DaclOf.TheVariants.{Absent, Null, List as Entries}
-use Rattle.sd_wire.specs.declared.fault.WireFault.{WireFault}
-use Rattle.sd_wire.specs.declared.fault.WireFault.TheVariants.{EntrySize, EntryKind}
-use Rattle.sd_wire.specs.Reading.{◌>>=◌, Gives, u16_at, is_set, bad_sid, sid_read, kind_read, entry_read, entries_read, list_read, is_outside, trustee_read, dacl_read, control_read, descriptor_read}
-use Rattle.sd_wire.specs.Writing.{kind_byte, entry_parts}
-use Rattle.sd_wire.specs.Standing.{Stands, TrusteeStands, EntryStands, EntriesStand, ListStands, DaclStands, Holds}
-use Rattle.sd_wire.specs.Laws.{ReadingsAreHeld}
+use Rattle.sd_wire.proofs.Cited.{Absent, Ace, AceKind, Allow, Bool, Dacl, DaclStands, Deny, Descriptor, DescriptorValue, EntriesStand, EntryKind, EntrySize, EntryStands, Err, Gives, Holds, IfOk, List, ListStands, None, Null, Ok, Option, ReadingsAreHeld, Result, SidError, SidValue, Some, Stands, TrusteeStands, WireError, WireFault, [], add-zero, all_named, and_cases, ap, arith, bad_sid, bit_and, bytes_of_sid, cells, cells_fit, cond, descriptor_of, drop, entry_parts, eqb-true, false, get_or, inl, inr, is_outside, is_set, kind_byte, kind_read, length, length-take, length_of_sid, ltb-false, nat_lt, not, not-false, or_cases, or_parts, passed, refl, sid_read, sid_reading, sids_stand, subst, suc, sym, take, take-take, take_all, to_le_bytes, true, u16_at, u32_at, w16, w32, zero, ℕ, ◌%◌, ◌&&◌, ◌*◌, ◌++◌, ◌+◌, ◌-◌, ◌<◌, ◌==◌, ◌>>=◌, ◌∙◌, ◌∷◌, ◌≡◌, ◌≤◌}
+use Rattle.sd_acl.specs.declared.descriptor.DaclOf.TheVariants.{List as Entries}
+use Rattle.sd_wire.specs.Reading.{entry_read, entries_read, list_read, trustee_read, dacl_read, control_read, descriptor_read}
 use Rattle.sd_wire.proofs.Found.{good, good_is, chosen, bound}
 use Rattle.sd_wire.proofs.Places.{stands_join, u16_stands, u32_stands}
 

@@ -1,10 +1,6 @@
 -- The rest of a list, as a slice: what is read at its front is what is read at its place in the bytes.
-use Rattle.std.proofs.Common.{◌≡◌, ℕ, ◌+◌, ◌-◌, ◌<◌, ◌≤◌, false, nat_lt, List, ◌∷◌, ◌++◌, [], get_or, take, drop, length, Ok, refl, sym, ap, ◌∙◌, arith, inl, inr, zero-add}
-use Rattle.std.proofs.lemmas.List.{get_or-take, get_or-drop, drop-drop, drop-take, take-take, length-take-le, length-drop}
-use Rattle.std.proofs.lemmas.Bool.{cases_lt, lt-ltb, le-ltb}
-use Rattle.sd_acl.specs.declared.ace.Ace.{Ace}
-use Rattle.sd_sid.specs.SidBytes.{u32_at}
-use Rattle.sd_wire.specs.Reading.{u16_at, entry_read, entries_read}
+use Rattle.sd_wire.proofs.Cited.{Ace, List, Ok, [], ap, arith, cases_lt, drop, drop-drop, drop-take, entries_read, false, get_or, get_or-drop, get_or-take, inl, inr, le-ltb, length, length-drop, length-take-le, lt-ltb, nat_lt, refl, sym, take, take-take, u16_at, u32_at, zero-add, ℕ, ◌++◌, ◌+◌, ◌-◌, ◌<◌, ◌∙◌, ◌∷◌, ◌≡◌, ◌≤◌}
+use Rattle.sd_wire.specs.Reading.{entry_read}
 use Rattle.sd_wire.proofs.Loop.{behind, goes_on}
 
 -- a part of a part

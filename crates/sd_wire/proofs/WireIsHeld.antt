@@ -1,24 +1,7 @@
 -- What is written holds the descriptor, and so is read again.
-use Rattle.std.proofs.Common.{◌≡◌, ℕ, subst, ◌&&◌, ◌+◌, ◌^◌, ◌<◌, ◌≤◌, Bool, true, false, not, cond, List, [], ◌∷◌, ◌++◌, length, get_or, Option, Some, None, refl, sym, ap, ◌∙◌, arith, add-zero, append_assoc, inl, bit_and, bit_or, lit<, sum_by}
-use Rattle.std.specs.Prelude.{MatchBool, IsTrue, IfSome, is_some}
-use Rattle.std.specs.Int.{w16, to_le_bytes}
-use Rattle.std.specs.List.{AllByRecursion, flat_map}
-use Rattle.std.proofs.lemmas.Bool.{not-true, not-false}
-use Rattle.std.proofs.lemmas.List.{append-nil, length-append, get_or-append-add}
-use Rattle.std.proofs.lemmas.List.Sums.{sum_by-cons}
-use Rattle.std.proofs.lemmas.Nat.{from_le_bytes-to_le_bytes_2, from_le_bytes-to_le_bytes_4}
-use Rattle.sd_sid.specs.Sid.{SidValue, IsSid}
-use Rattle.sd_sid.specs.SidBytes.{u32_at, bytes_of_sid}
-use Rattle.sd_sid.proofs.SidLaws.{length_of_sid}
-use Rattle.sd_acl.specs.Ace.{all_named, ace_size, acl_size_of}
-use Rattle.sd_acl.specs.Dacl.{Dacl, is_absent}
-use Rattle.sd_acl.specs.Descriptor.{DescriptorValue, IsDescriptor, IsDacl, IsAce, AreEntries, HasNamedFlags, HaveNamedFlags}
-use Rattle.sd_acl.specs.declared.ace.Ace.{Ace}
-use Rattle.sd_acl.specs.declared.descriptor.DaclOf.TheVariants.{Absent, Null, List as Entries}
-use Rattle.sd_wire.specs.Reading.{u16_at, is_set}
-use Rattle.sd_wire.specs.Writing.{entry_parts, entry_bytes, list_bytes, trustee_part, dacl_part, is_list, offset_of, control_of, header_bytes, header_of, wire_of}
-use Rattle.sd_wire.specs.Standing.{TrusteeStands, EntryStands, EntriesStand, ListStands, DaclStands, IsPresent, IsWithout, Holds}
-use Rattle.sd_wire.specs.Laws.{DescriptorsComeBack}
+use Rattle.sd_wire.proofs.Cited.{Absent, Ace, AllByRecursion, AreEntries, Bool, Dacl, DaclStands, DescriptorValue, DescriptorsComeBack, EntriesStand, EntryStands, HasNamedFlags, HaveNamedFlags, Holds, IfSome, IsAce, IsDacl, IsDescriptor, IsPresent, IsSid, IsTrue, IsWithout, List, ListStands, MatchBool, None, Null, Option, SidValue, Some, TrusteeStands, [], ace_size, acl_size_of, add-zero, all_named, ap, append-nil, append_assoc, arith, bit_and, bit_or, bytes_of_sid, cond, control_of, dacl_part, entry_parts, false, flat_map, from_le_bytes-to_le_bytes_2, from_le_bytes-to_le_bytes_4, get_or, get_or-append-add, inl, is_absent, is_list, is_set, is_some, length, length-append, length_of_sid, lit<, not, not-false, not-true, offset_of, refl, subst, sum_by, sum_by-cons, sym, to_le_bytes, true, trustee_part, u16_at, u32_at, w16, ℕ, ◌&&◌, ◌++◌, ◌+◌, ◌<◌, ◌^◌, ◌∙◌, ◌∷◌, ◌≡◌, ◌≤◌}
+use Rattle.sd_acl.specs.declared.descriptor.DaclOf.TheVariants.{List as Entries}
+use Rattle.sd_wire.specs.Writing.{entry_bytes, list_bytes, header_bytes, header_of, wire_of}
 use Rattle.sd_wire.proofs.Lengths.{length_of_entry, length_of_list, length_of_header, few_entries}
 use Rattle.sd_wire.proofs.Places.{u16_behind, stands_behind_front}
 use Rattle.sd_wire.proofs.HeldIsRead.{held_is_read}

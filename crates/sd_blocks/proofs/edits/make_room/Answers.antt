@@ -1,5 +1,4 @@
-use Rattle.std.proofs.Common.{arith, add-one, ◌<◌, length, get_or}
-use Rattle.sd_blocks.specs.Stored.{AreHalves}
+use Rattle.sd_blocks.proofs.Cited.{AreHalves, add-one, arith, get_or, length, ◌<◌}
 use Rattle.sd_blocks.proofs.Changes.{end_within, halved_joined, halved_starts}
 use Rattle.sd_blocks.proofs.edits.make_room.Goals as goal
 

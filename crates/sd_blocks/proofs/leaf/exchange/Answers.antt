@@ -1,5 +1,4 @@
-use Rattle.std.proofs.Common.{◌+◌, arith, ap, ◌∙◌}
-use Rattle.std.specs.List.{remove}
+use Rattle.sd_blocks.proofs.Cited.{ap, arith, remove, ◌+◌, ◌∙◌}
 use Rattle.sd_blocks.proofs.Changes.{later, earlier}
 use Rattle.sd_blocks.proofs.leaf.exchange.Goals as goal
 

@@ -1,6 +1,4 @@
-use Rattle.std.proofs.Common.{arith, ◌∙◌, map, ap}
-use Rattle.std.proofs.lemmas.List.{take_all}
-use Rattle.sd_blocks.specs.Stored.{joined, lowered}
+use Rattle.sd_blocks.proofs.Cited.{ap, arith, joined, lowered, map, take_all, ◌∙◌}
 use Rattle.sd_blocks.proofs.Parts.{begins_from, part_invariant, joined_lowered}
 use Rattle.sd_blocks.proofs.level.share_blocks.Goals as goal
 

@@ -1,5 +1,4 @@
-use Rattle.std.proofs.Common.{◌≡◌, take, map}
-use Rattle.sd_blocks.specs.Stored.{lowered}
+use Rattle.sd_blocks.proofs.Cited.{lowered, map, take, ◌≡◌}
 use Rattle.sd_blocks.proofs.level.share_blocks.Given as goal
 
 abbrev pub invariant-loop-block : goal.invariant-loop-block

@@ -1,5 +1,4 @@
-use Rattle.std.proofs.Common.{◌<◌, ◌≤◌, ◌-◌, length, take}
-use Rattle.sd_blocks.specs.Stored.{joined}
+use Rattle.sd_blocks.proofs.Cited.{joined, length, take, ◌-◌, ◌<◌, ◌≤◌}
 use Rattle.sd_blocks.proofs.locate.locate.Given as goal
 
 abbrev pub invariant-loop-high : goal.invariant-loop-high

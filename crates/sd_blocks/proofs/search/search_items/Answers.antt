@@ -1,5 +1,4 @@
-use Rattle.std.proofs.Common.{rules}
-use Rattle.std.proofs.lemmas.Fn.{always_returns_same}
+use Rattle.sd_blocks.proofs.Cited.{always_returns_same, rules}
 use Rattle.sd_blocks.proofs.search.search_items.Goals as goal
 
 pub returns-clause-position : goal.returns-clause-position

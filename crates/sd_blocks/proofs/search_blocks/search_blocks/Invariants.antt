@@ -1,9 +1,4 @@
-use Rattle.std.proofs.Common.{◌≡◌, ◌<◌, ◌≤◌, ◌-◌, length, take}
-use Rattle.std.specs.List.{AllWithin}
-use Rattle.std.specs.List.Sorted.{IsNonDecreasingBy}
-use Rattle.std.specs.Ordering.{ordering_index}
-use Rattle.std.specs.declared.cmp.Ordering.TheVariants.{Less, Greater}
-use Rattle.sd_blocks.specs.Stored.{joined}
+use Rattle.sd_blocks.proofs.Cited.{AllWithin, Greater, IsNonDecreasingBy, Less, joined, length, ordering_index, take, ◌-◌, ◌<◌, ◌≡◌, ◌≤◌}
 use Rattle.sd_blocks.proofs.search_blocks.search_blocks.Given as goal
 
 abbrev pub invariant-loop-high : goal.invariant-loop-high

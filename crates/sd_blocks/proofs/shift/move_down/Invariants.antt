@@ -1,5 +1,4 @@
-use Rattle.std.proofs.Common.{◌≡◌, take, drop, map}
-use Rattle.sd_blocks.specs.Stored.{down}
+use Rattle.sd_blocks.proofs.Cited.{down, drop, map, take, ◌≡◌}
 use Rattle.sd_blocks.proofs.shift.move_down.Given as goal
 
 abbrev pub invariant-loop-block : goal.invariant-loop-block

@@ -1,5 +1,4 @@
-use Rattle.std.proofs.Common.{arith}
-use Rattle.sd_blocks.specs.Stored.{up}
+use Rattle.sd_blocks.proofs.Cited.{arith, up}
 use Rattle.sd_blocks.proofs.Shifts.{moved_more, left_more, left_same}
 use Rattle.sd_blocks.proofs.shift.move_up.Goals as goal
 

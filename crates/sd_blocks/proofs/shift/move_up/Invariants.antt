@@ -1,5 +1,4 @@
-use Rattle.std.proofs.Common.{◌≡◌, take, drop, map}
-use Rattle.sd_blocks.specs.Stored.{up}
+use Rattle.sd_blocks.proofs.Cited.{drop, map, take, up, ◌≡◌}
 use Rattle.sd_blocks.proofs.shift.move_up.Given as goal
 
 abbrev pub invariant-loop-block : goal.invariant-loop-block

@@ -1,5 +1,5 @@
 use Rattle.std.proofs.Common.{◌-◌, drop, length, sym, arith}
-use Rattle.sd_check.proofs.Words.{take_all, length-drop, drop_of_length-le}
+use Rattle.sd_check.proofs.Cited.{take_all, length-drop, drop_of_length-le}
 use Rattle.sd_check.proofs.index.beyond_chains.Goals as goal
 
 pub returns-then-groups-gt-MAX_CHAINED : goal.returns-then-groups-gt-MAX_CHAINED

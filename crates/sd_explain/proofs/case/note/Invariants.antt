@@ -1,5 +1,4 @@
-use Rattle.std.proofs.Common.{get_or}
-use Rattle.sd_explain.specs.declared.reason.Finding.TheVariants.{NoEntry}
+use Rattle.sd_explain.proofs.Cited.{NoEntry, get_or}
 use Rattle.sd_explain.proofs.Written.{IsWritten}
 use Rattle.sd_explain.proofs.case.note.Given as goal
 

@@ -1,7 +1,4 @@
-use Rattle.std.proofs.Common.{◌≡◌, ◌<◌, ◌++◌, [], length, sym, ◌∙◌, ap, append-nil, arith}
-use Rattle.std.proofs.lemmas.Bool.Decides.{nat_tests}
-use Rattle.std.proofs.lemmas.List.{nil_from_length, take_rest}
-use Rattle.sd_lines.specs.Lines.{lines_in}
+use Rattle.sd_lines.proofs.Cited.{[], ap, append-nil, arith, length, lines_in, nat_tests, nil_from_length, sym, take_rest, ◌++◌, ◌<◌, ◌∙◌, ◌≡◌}
 use Rattle.sd_lines.proofs.Cutting.{lines_cut, lines_last, no_lines}
 use Rattle.sd_lines.proofs.ending.first_line.Goals as goal
 

@@ -1,6 +1,4 @@
-use Rattle.std.proofs.Common.{◌++◌, take, arith, length-append}
-use Rattle.std.proofs.lemmas.Result.{err_from_is_err_and}
-use Rattle.std.proofs.KnownBytes.{Consumes-trans}
+use Rattle.sd_lines.proofs.Cited.{Consumes-trans, arith, err_from_is_err_and, length-append, take, ◌++◌}
 use Rattle.sd_lines.proofs.input.read_whole.Goals as goal
 
 pub returns-in-Ok-clause-err : goal.returns-in-Ok-clause-err

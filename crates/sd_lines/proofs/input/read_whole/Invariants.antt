@@ -1,8 +1,5 @@
 -- The text is what is gone from the reader, no read has failed, and each turn adds at least one byte.
-use Rattle.std.proofs.Common.{◌≡◌, ◌≤◌, ◌-◌, vec_len}
-use Rattle.std.specs.Io.KnownBytes.{Consumes}
-use Rattle.sd_lines.specs.Watched.{inner_of, has_failed}
-use Rattle.sd_lines.specs.declared.input.TheConstants.{MAX_INPUT_BYTES}
+use Rattle.sd_lines.proofs.Cited.{Consumes, MAX_INPUT_BYTES, has_failed, inner_of, vec_len, ◌-◌, ◌≡◌, ◌≤◌}
 use Rattle.sd_lines.proofs.input.read_whole.Given as goal
 
 abbrev pub invariant-reads : goal.invariant-reads

@@ -1,6 +1,4 @@
-use Rattle.std.proofs.Common.{◌≡◌, ℕ, ◌-◌, List, ◌++◌, length, take, drop, sym, ap, ◌∙◌, append_assoc, take-append-drop, rules}
-use Rattle.std.proofs.lemmas.List.{take_rest}
-use Rattle.std.proofs.KnownBytes.{Appends-trans}
+use Rattle.sd_lines.proofs.Cited.{Appends-trans, List, ap, append_assoc, drop, length, rules, sym, take, take-append-drop, take_rest, ℕ, ◌++◌, ◌-◌, ◌∙◌, ◌≡◌}
 use Rattle.sd_lines.proofs.output.write_whole.Goals as goal
 
 moves_front : (all done rest : List ℕ) (n : ℕ) → all ≡ done ++ rest → all ≡ (done ++ take n rest) ++ take (length rest - n) (drop n rest)

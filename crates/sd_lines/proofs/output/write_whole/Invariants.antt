@@ -1,7 +1,5 @@
 -- What is gone from `rest` was appended, no write has failed, and each turn takes at least one byte.
-use Rattle.std.proofs.Common.{◌≡◌, ℕ, List, ◌++◌, length}
-use Rattle.std.specs.Io.KnownBytes.{Appends}
-use Rattle.sd_lines.specs.Watched.{inner_of, has_failed}
+use Rattle.sd_lines.proofs.Cited.{Appends, List, has_failed, inner_of, length, ℕ, ◌++◌, ◌≡◌}
 use Rattle.sd_lines.proofs.output.write_whole.Given as goal
 
 abbrev pub invariant-loop-rest : goal.invariant-loop-rest

@@ -1,8 +1,4 @@
-use Rattle.std.proofs.Common.{◌≡◌, [], refl, sym, ◌∙◌, rules, arith}
-use Rattle.std.proofs.lemmas.Bool.Decides.{nat_tests}
-use Rattle.std.proofs.lemmas.List.{nil_from_length}
-use Rattle.std.proofs.lemmas.Result.{err_from_is_err_and}
-use Rattle.sd_lines.specs.Watched.{inner_of}
+use Rattle.sd_lines.proofs.Cited.{[], arith, err_from_is_err_and, inner_of, nat_tests, nil_from_length, refl, rules, sym, ◌∙◌, ◌≡◌}
 use Rattle.sd_lines.proofs.Steps.{all_written, leaves_ended, leaves_long, leaves_part}
 use Rattle.sd_lines.proofs.part.answer_parts.Goals as goal
 

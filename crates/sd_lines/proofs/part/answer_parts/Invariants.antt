@@ -1,6 +1,4 @@
-use Rattle.std.proofs.Common.{◌≡◌, false, [], length}
-use Rattle.sd_lines.specs.Watched.{inner_of, has_failed}
-use Rattle.sd_lines.specs.Steps.{Continues, ends_run}
+use Rattle.sd_lines.proofs.Cited.{Continues, [], ends_run, false, has_failed, inner_of, length, ◌≡◌}
 use Rattle.sd_lines.proofs.part.answer_parts.Given as goal
 
 abbrev pub invariant-loop-rest : goal.invariant-loop-rest

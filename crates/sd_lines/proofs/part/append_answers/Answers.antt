@@ -1,7 +1,4 @@
-use Rattle.std.proofs.Common.{◌≡◌, ◌<◌, ◌-◌, ◌++◌, false, length, drop, append_assoc, sym, ◌∙◌, ap, length-append, length-drop, length-take, arith}
-use Rattle.std.proofs.lemmas.Bool.Decides.{nat_tests}
-use Rattle.std.proofs.lemmas.List.{take_rest}
-use Rattle.sd_lines.specs.Steps.{ends_run}
+use Rattle.sd_lines.proofs.Cited.{ap, append_assoc, arith, drop, ends_run, false, length, length-append, length-drop, length-take, nat_tests, sym, take_rest, ◌++◌, ◌-◌, ◌<◌, ◌∙◌, ◌≡◌}
 use Rattle.sd_lines.proofs.Steps.{line_answered, part_kept}
 use Rattle.sd_lines.proofs.part.append_answers.Goals as goal
 

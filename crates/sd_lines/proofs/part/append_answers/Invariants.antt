@@ -1,5 +1,4 @@
-use Rattle.std.proofs.Common.{◌≤◌, ℕ, List, Option, length}
-use Rattle.sd_lines.specs.Steps.{Continues}
+use Rattle.sd_lines.proofs.Cited.{Continues, List, Option, length, ℕ, ◌≤◌}
 use Rattle.sd_lines.proofs.part.append_answers.Given as goal
 
 abbrev pub invariant-lines : goal.invariant-lines

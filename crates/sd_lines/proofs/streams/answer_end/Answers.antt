@@ -1,9 +1,4 @@
-use Rattle.std.proofs.Common.{◌≡◌, ◌<◌, [], length, refl, sym, ◌∙◌, append-nil, arith}
-use Rattle.std.proofs.KnownBytes.{Appends-nil}
-use Rattle.std.proofs.lemmas.Bool.Decides.{nat_tests}
-use Rattle.std.proofs.lemmas.List.{nil_from_length}
-use Rattle.std.proofs.lemmas.Result.{err_from_is_err_and}
-use Rattle.sd_lines.specs.Lines.{text_of}
+use Rattle.sd_lines.proofs.Cited.{Appends-nil, [], append-nil, arith, err_from_is_err_and, length, nat_tests, nil_from_length, refl, sym, text_of, ◌<◌, ◌∙◌, ◌≡◌}
 use Rattle.sd_lines.proofs.Steps.{all_appended, leaves_ended, no_last, one_last, part_appended}
 use Rattle.sd_lines.proofs.streams.answer_end.Goals as goal
 

@@ -1,11 +1,4 @@
-use Rattle.std.proofs.Common.{◌≡◌, false, [], ◌++◌, take, refl, sym, ◌∙◌, ap, append_assoc, append-nil, arith, rules}
-use Rattle.std.specs.Io.KnownBytes.{IsAtEnd}
-use Rattle.std.proofs.KnownBytes.{Consumes-kept, Consumes-trans}
-use Rattle.std.proofs.lemmas.Bool.Decides.{nat_tests}
-use Rattle.std.proofs.lemmas.List.Elements.{All-append}
-use Rattle.std.proofs.lemmas.Result.{IfErr-weaker, err_from_is_err_and, on_ok_weaker}
-use Rattle.sd_lines.specs.Decoder.{text_after}
-use Rattle.sd_lines.specs.Watched.{inner_of}
+use Rattle.sd_lines.proofs.Cited.{All-append, Consumes-kept, Consumes-trans, IfErr-weaker, IsAtEnd, [], ap, append-nil, append_assoc, arith, err_from_is_err_and, false, inner_of, nat_tests, on_ok_weaker, refl, rules, sym, take, text_after, ◌++◌, ◌∙◌, ◌≡◌}
 use Rattle.sd_lines.proofs.Cutting.{ends, none_above}
 use Rattle.sd_lines.proofs.Steps.{leaves_ended}
 use Rattle.sd_lines.proofs.streams.answer_lines.Goals as goal

@@ -1,9 +1,4 @@
-use Rattle.std.proofs.Common.{◌≡◌, false, ℕ, List, [], ◌++◌}
-use Rattle.std.specs.Io.KnownBytes.{Consumes}
-use Rattle.sd_lines.specs.Decoder.{text_after}
-use Rattle.sd_lines.specs.Watched.{inner_of, has_failed}
-use Rattle.sd_lines.specs.Lines.{HasNoEnd, text_of}
-use Rattle.sd_lines.specs.Steps.{Answered, ends_run}
+use Rattle.sd_lines.proofs.Cited.{Answered, Consumes, HasNoEnd, List, [], ends_run, false, has_failed, inner_of, text_after, text_of, ℕ, ◌++◌, ◌≡◌}
 use Rattle.sd_lines.proofs.streams.answer_lines.Given as goal
 
 abbrev pub invariant-loop : goal.invariant-loop

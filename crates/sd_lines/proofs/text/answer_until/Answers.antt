@@ -1,7 +1,4 @@
-use Rattle.std.proofs.Common.{◌++◌, ◌∷◌, [], inl, inr, arith, refl, sym, ◌∙◌, ap, append_assoc, append-nil}
-use Rattle.std.proofs.lemmas.Bool.Decides.{nat_tests}
-use Rattle.std.proofs.lemmas.List.{nil_from_length}
-use Rattle.sd_lines.specs.Answers.{of_form}
+use Rattle.sd_lines.proofs.Cited.{[], ap, append-nil, append_assoc, arith, inl, inr, nat_tests, nil_from_length, of_form, refl, sym, ◌++◌, ◌∙◌, ◌∷◌}
 use Rattle.sd_lines.proofs.InOrder.{joined}
 use Rattle.sd_lines.proofs.text.answer_until.Goals as goal
 use Rattle.sd_lines.proofs.text.answer_until.Goals.{then-loop-are_over-test+else-not-are_over, else-loop-are_over-test}

@@ -1,6 +1,4 @@
-use Rattle.std.proofs.Common.{◌≡◌, List, ℕ, ◌++◌, length}
-use Rattle.sd_lines.specs.Answers.{AreAnswered, of_form}
-use Rattle.sd_lines.specs.Lines.{lines_in}
+use Rattle.sd_lines.proofs.Cited.{AreAnswered, List, length, lines_in, of_form, ℕ, ◌++◌, ◌≡◌}
 use Rattle.sd_lines.proofs.text.answer_until.Given as goal
 
 abbrev pub invariant-loop-are_over : goal.invariant-loop-are_over

@@ -1,5 +1,4 @@
-use Rattle.std.proofs.Common.{◌-◌, ◌≤◌, length}
-use Rattle.sd_path.specs.Names.{up, ended, names_of}
+use Rattle.sd_path.proofs.Cited.{ended, length, names_of, up, ◌-◌, ◌≤◌}
 use Rattle.sd_path.proofs.lent.parent_len.Given as goal
 
 abbrev pub invariant-loop-end : goal.invariant-loop-end

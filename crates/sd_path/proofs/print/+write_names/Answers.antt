@@ -1,6 +1,4 @@
-use Rattle.std.proofs.Common.{rules, [], ◌∷◌}
-use Rattle.std.proofs.lemmas.Grind.{put_three}
-use Rattle.sd_path.specs.PathText.{slashed}
+use Rattle.sd_path.proofs.Cited.{[], put_three, rules, slashed, ◌∷◌}
 use Rattle.sd_path.proofs.PathTexts.{slashed-up}
 use Rattle.sd_path.proofs.print.+write_names.Goals as goal
 

@@ -1,6 +1,4 @@
-use Rattle.std.proofs.Common.{arith, ◌≡◌, ◌∙◌, ap, sym, ◌+◌, ◌-◌, length, drop}
-use Rattle.std.proofs.lemmas.Result.{err_from_is_err_and}
-use Rattle.sd_path.specs.PathText.{between_slashes, fault_of}
+use Rattle.sd_path.proofs.Cited.{ap, arith, between_slashes, drop, err_from_is_err_and, fault_of, length, sym, ◌+◌, ◌-◌, ◌∙◌, ◌≡◌}
 use Rattle.sd_path.proofs.PathTexts.{between-first, between-last, fault-here, fault-last, fault-more, fault-too_many, slash_below}
 use Rattle.sd_path.proofs.read.count_names.Goals as goal
 

@@ -1,5 +1,4 @@
-use Rattle.std.proofs.Common.{◌≡◌, ◌+◌, ◌-◌, length}
-use Rattle.sd_path.specs.PathText.{between_slashes, fault_of}
+use Rattle.sd_path.proofs.Cited.{between_slashes, fault_of, length, ◌+◌, ◌-◌, ◌≡◌}
 use Rattle.sd_path.proofs.read.count_names.Given as goal
 
 abbrev pub invariant-loop-before : goal.invariant-loop-before

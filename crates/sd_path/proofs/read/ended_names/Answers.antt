@@ -1,5 +1,4 @@
-use Rattle.std.proofs.Common.{◌++◌, ◌∷◌, [], ◌∙◌, sym, ap, map, arith}
-use Rattle.std.proofs.lemmas.List.{take_all}
+use Rattle.sd_path.proofs.Cited.{[], ap, arith, map, sym, take_all, ◌++◌, ◌∙◌, ◌∷◌}
 use Rattle.sd_path.proofs.PathTexts.{ended-between, zero_for_slash}
 use Rattle.sd_path.proofs.read.ended_names.Goals as goal
 

@@ -1,9 +1,6 @@
 -- The numbers that are written are those that stand at their places.
-use Rattle.std.proofs.Common.{ℕ, ◌+◌, ◌-◌, ◌*◌, take, drop, replicate, sym, ◌∙◌, arith, length-take, length-drop, get_or-take}
-use Rattle.std.proofs.lemmas.List.{get_or-drop, get_or-replicate, length-replicate}
-use Rattle.std.proofs.lemmas.List.FromFn.{fill_by_all}
-use Rattle.std.proofs.lemmas.Grind.{same_number_lists}
-use Rattle.sd_sid.specs.SidBytes.{u32_at}
+use Rattle.sd_sid.proofs.Cited.{arith, drop, fill_by_all, get_or-drop, get_or-replicate, length-replicate, replicate, same_number_lists, sym, take, u32_at, ℕ, ◌*◌, ◌+◌, ◌-◌, ◌∙◌}
+use Rattle.std.proofs.Common.{length-take, length-drop, get_or-take}
 use Rattle.sd_sid.proofs.bytes.each_sub_of.Goals as goal
 
 pub returns-clause-subs : goal.returns-clause-subs

@@ -1,6 +1,5 @@
 -- The numbers so far stand at their places, with zeros behind them.
-use Rattle.std.proofs.Common.{◌≡◌, All, ◌^◌, ℕ, ◌+◌, ◌*◌, ◌<◌, ◌≤◌, get_or, length}
-use Rattle.sd_sid.specs.SidBytes.{u32_at}
+use Rattle.sd_sid.proofs.Cited.{All, get_or, length, u32_at, ℕ, ◌*◌, ◌+◌, ◌<◌, ◌^◌, ◌≡◌, ◌≤◌}
 use Rattle.sd_sid.proofs.bytes.each_sub_of.Given as goal
 
 abbrev pub invariant-loop-k : goal.invariant-loop-k

@@ -1,7 +1,5 @@
 -- The bytes so far are those that were there, and the sub-authorities so far; there is room for the others.
-use Rattle.std.proofs.Common.{◌≡◌, ◌+◌, ◌-◌, ◌*◌, ◌≤◌, ◌++◌, take, length, vec_len, vec_capacity}
-use Rattle.std.specs.Int.{w32, to_le_bytes}
-use Rattle.std.specs.List.{flat_map}
+use Rattle.sd_sid.proofs.Cited.{flat_map, length, take, to_le_bytes, vec_capacity, vec_len, w32, ◌*◌, ◌++◌, ◌+◌, ◌-◌, ◌≡◌, ◌≤◌}
 use Rattle.sd_sid.proofs.bytes.push_subs.Given as goal
 
 abbrev pub invariant-loop-sub : goal.invariant-loop-sub

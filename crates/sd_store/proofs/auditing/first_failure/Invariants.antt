@@ -1,5 +1,4 @@
-use Rattle.std.proofs.Common.{◌≡◌, ℕ, ◌<◌, None, slice_index_or}
-use Rattle.sd_store.specs.Sights.{Sight}
+use Rattle.sd_store.proofs.Cited.{None, Sight, slice_index_or, ℕ, ◌<◌, ◌≡◌}
 use Rattle.sd_store.proofs.auditing.first_failure.Given as goal
 
 abbrev pub invariant-loop-checker : goal.invariant-loop-checker

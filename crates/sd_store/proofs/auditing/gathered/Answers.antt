@@ -1,8 +1,4 @@
-use Rattle.std.proofs.Common.{◌≡◌, ◌+◌, ◌*◌, ◌/◌, ◌%◌, ◌<◌, ◌≤◌, length, slice_index_or, sym, ap, ◌∙◌, subst, arith, List}
-use Rattle.std.proofs.Math.Nat.{mod-lt}
-use Rattle.sd_edit.specs.declared.reply.Answer.{Answer}
-use Rattle.sd_store.specs.Sights.{Sight}
-use Rattle.sd_store.specs.Workers.{IsDealt}
+use Rattle.sd_store.proofs.Cited.{Answer, IsDealt, List, Sight, ap, arith, length, mod-lt, slice_index_or, subst, sym, ◌%◌, ◌*◌, ◌+◌, ◌/◌, ◌<◌, ◌∙◌, ◌≡◌, ◌≤◌}
 use Rattle.sd_store.proofs.Dealing.{any_default, dealt_push, drawn_within}
 use Rattle.sd_store.proofs.auditing.gathered.Goals as goal
 

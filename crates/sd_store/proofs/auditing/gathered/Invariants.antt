@@ -1,5 +1,4 @@
-use Rattle.std.proofs.Common.{◌≡◌, ◌≤◌, vec_len, vec_capacity}
-use Rattle.sd_store.specs.Workers.{IsDealt}
+use Rattle.sd_store.proofs.Cited.{IsDealt, vec_capacity, vec_len, ◌≡◌, ◌≤◌}
 use Rattle.sd_store.proofs.auditing.gathered.Given as goal
 
 abbrev pub invariant-loop-place : goal.invariant-loop-place

@@ -1,6 +1,4 @@
-use Rattle.std.proofs.Common.{◌≡◌, ◌<◌, length, slice_index_or, sym, ◌∙◌, subst, arith, length-set}
-use Rattle.sd_store.specs.Sights.{Sight}
-use Rattle.sd_store.specs.Workers.{IsInformed}
+use Rattle.sd_store.proofs.Cited.{IsInformed, Sight, arith, length, length-set, slice_index_or, subst, sym, ◌<◌, ◌∙◌, ◌≡◌}
 use Rattle.sd_store.proofs.Dealing.{any_default, informed_set, rest_stays}
 use Rattle.sd_store.proofs.auditing.inform.Goals as goal
 

@@ -1,6 +1,4 @@
-use Rattle.std.proofs.Common.{◌≡◌, ℕ, ◌<◌, ◌≤◌, length, slice_index_or}
-use Rattle.sd_store.specs.Sights.{Sight}
-use Rattle.sd_store.specs.Workers.{IsInformed}
+use Rattle.sd_store.proofs.Cited.{IsInformed, Sight, length, slice_index_or, ℕ, ◌<◌, ◌≡◌, ◌≤◌}
 use Rattle.sd_store.proofs.auditing.inform.Given as goal
 
 abbrev pub invariant-loop-checker : goal.invariant-loop-checker

@@ -1,5 +1,4 @@
-use Rattle.std.proofs.Common.{◌≡◌, ◌≤◌, [], All, vec_len, vec_capacity}
-use Rattle.sd_store.specs.Rules.{newcomer}
+use Rattle.sd_store.proofs.Cited.{All, [], newcomer, vec_capacity, vec_len, ◌≡◌, ◌≤◌}
 use Rattle.sd_store.proofs.opening.seated.Given as goal
 
 abbrev pub invariant-loop : goal.invariant-loop

@@ -1,8 +1,4 @@
-use Rattle.std.proofs.Common.{rules, ◌≡◌, drop, ap, sym, subst}
-use mathlib.Core.List.{IsPrefix}
-use Rattle.sd_store.specs.Marks.{ShowTree}
-use Rattle.sd_store.specs.Rules.{store_id}
-use Rattle.sd_store.specs.declared.published.Published.{Published}
+use Rattle.sd_store.proofs.Cited.{IsPrefix, Published, ShowTree, ap, drop, rules, store_id, subst, sym, ◌≡◌}
 use Rattle.sd_store.proofs.Publishes.{publishes, journal_after, marks_after}
 use Rattle.sd_store.proofs.publishing.publish_all.Goals as goal
 

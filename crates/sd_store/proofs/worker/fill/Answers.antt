@@ -1,5 +1,4 @@
-use Rattle.std.proofs.Common.{◌≡◌, ◌<◌, length, slice_index_or, sym, ◌∙◌, arith}
-use Rattle.sd_store.specs.declared.query.Query.{Query}
+use Rattle.sd_store.proofs.Cited.{Query, arith, length, slice_index_or, sym, ◌<◌, ◌∙◌, ◌≡◌}
 use Rattle.sd_store.proofs.Answering.{goes_under_way}
 use Rattle.sd_store.proofs.Dealing.{any_default}
 use Rattle.sd_store.proofs.worker.fill.Goals as goal

@@ -1,5 +1,4 @@
-use Rattle.std.proofs.Common.{◌-◌, length}
-use Rattle.sd_store.specs.Workers.{IsUnderWay}
+use Rattle.sd_store.proofs.Cited.{IsUnderWay, length, ◌-◌}
 use Rattle.sd_store.proofs.worker.fill.Given as goal
 
 abbrev pub invariant-loop-at : goal.invariant-loop-at

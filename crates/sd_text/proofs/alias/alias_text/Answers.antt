@@ -1,5 +1,4 @@
-use Rattle.std.proofs.Common.{[], arith, sym}
-use Rattle.sd_text.specs.declared.alias.WellKnown.TheVariants.{One}
+use Rattle.sd_text.proofs.Cited.{One, [], arith, sym}
 use Rattle.sd_text.proofs.Placed.{alias_at_its_place, no_alias_at}
 use Rattle.sd_text.proofs.alias.alias_text.Goals as goal
 

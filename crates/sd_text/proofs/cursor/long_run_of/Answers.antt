@@ -1,7 +1,4 @@
-use Rattle.std.proofs.Common.{◌≡◌, ◌<◌, length, take, get_or, arith, sym}
-use Rattle.std.specs.Str.Parse.{digits_value}
-use Rattle.std.specs.Char.{digit_value}
-use Rattle.std.proofs.lemmas.Int.Digits.{digits_more, digits_value_more}
+use Rattle.sd_text.proofs.Cited.{arith, digit_value, digits_more, digits_value, digits_value_more, get_or, length, sym, take, ◌<◌, ◌≡◌}
 use Rattle.sd_text.proofs.Runs.{digits_stop, digits_whole, capped_push, capped_stay}
 use Rattle.sd_text.proofs.cursor.long_run_of.Goals as goal
 use Rattle.sd_text.proofs.cursor.long_run_of.Goals.{then-value-limit, else-value-limit}

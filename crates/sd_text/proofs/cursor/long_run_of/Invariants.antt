@@ -1,6 +1,4 @@
-use Rattle.std.proofs.Common.{take}
-use Rattle.std.specs.Str.Parse.{AllDigits, digits_value}
-use Rattle.sd_text.specs.Finding.{IsCapped}
+use Rattle.sd_text.proofs.Cited.{AllDigits, IsCapped, digits_value, take}
 use Rattle.sd_text.proofs.cursor.long_run_of.Given as goal
 
 -- what has been read are digits, and their value stands, or one from the limit on

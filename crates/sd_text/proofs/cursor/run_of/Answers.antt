@@ -1,5 +1,4 @@
-use Rattle.std.proofs.Common.{arith, ◌∙◌, ap}
-use Rattle.sd_text.specs.Finding.{digits_len}
+use Rattle.sd_text.proofs.Cited.{ap, arith, digits_len, ◌∙◌}
 use Rattle.sd_text.proofs.Runs.{front_run}
 use Rattle.sd_text.proofs.cursor.run_of.Goals as goal
 

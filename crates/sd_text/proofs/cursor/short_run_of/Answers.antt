@@ -1,6 +1,4 @@
-use Rattle.std.proofs.Common.{◌≡◌, ◌<◌, length, get_or, arith, sym, refl}
-use Rattle.std.specs.Char.{digit_value}
-use Rattle.std.proofs.lemmas.Int.Digits.{digits_more, digits_value_more}
+use Rattle.sd_text.proofs.Cited.{arith, digit_value, digits_more, digits_value_more, get_or, length, refl, sym, ◌<◌, ◌≡◌}
 use Rattle.sd_text.proofs.Runs.{digits_stop, digits_whole, short_fits}
 use Rattle.sd_text.proofs.cursor.short_run_of.Goals as goal
 

@@ -1,5 +1,4 @@
-use Rattle.std.proofs.Common.{◌≡◌, take}
-use Rattle.std.specs.Str.Parse.{AllDigits, digits_value}
+use Rattle.sd_text.proofs.Cited.{AllDigits, digits_value, take, ◌≡◌}
 use Rattle.sd_text.proofs.cursor.short_run_of.Given as goal
 
 -- what has been read are digits, and this is their value

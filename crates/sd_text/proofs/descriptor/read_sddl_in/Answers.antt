@@ -1,6 +1,4 @@
-use Rattle.std.proofs.Common.{sym}
-use Rattle.sd_acl.specs.Descriptor.{descriptor_of}
-use Rattle.sd_text.specs.Sddl.{sddl_in, sections, has_entry}
+use Rattle.sd_text.proofs.Cited.{descriptor_of, has_entry, sddl_in, sections, sym}
 use Rattle.sd_text.proofs.Engine.{no_fault, fault_at, value_answered, memory_answered}
 use Rattle.sd_text.proofs.descriptor.read_sddl_in.Goals as goal
 

@@ -1,7 +1,4 @@
-use Rattle.sd_text.specs.Rights.{rights}
-use Rattle.sd_text.specs.Sacl.{all_sections}
-use Rattle.sd_text.specs.Sddl.{sections}
-use Rattle.sd_text.specs.Sid.{sid}
+use Rattle.sd_text.proofs.Cited.{all_sections, rights, sections, sid}
 use Rattle.sd_text.proofs.Engine.{value_or_fault}
 use Rattle.sd_text.proofs.laws.texts_have_a_value_or_a_fault.Goals as goal
 

@@ -1,7 +1,4 @@
-use Rattle.sd_text.specs.Rights.{mask_text}
-use Rattle.sd_text.specs.Sacl.{sddl_without_sacl}
-use Rattle.sd_text.specs.Sddl.{sddl_in}
-use Rattle.sd_text.specs.Sid.{sid_text_in}
+use Rattle.sd_text.proofs.Cited.{mask_text, sddl_in, sddl_without_sacl, sid_text_in}
 use Rattle.sd_text.proofs.Engine.{one_value}
 use Rattle.sd_text.proofs.laws.texts_have_one_value.Goals as goal
 

@@ -1,8 +1,5 @@
 -- From the names that are left on, the text so far becomes that of the mask.
-use Rattle.std.proofs.Common.{◌≡◌, drop, string_bytes}
-use Rattle.sd_text.specs.MaskNames.{mask_names, named_from}
-use Rattle.sd_text.specs.Rights.{names_from_greatest}
-use Rattle.sd_text.specs.Names.{rows}
+use Rattle.sd_text.proofs.Cited.{drop, mask_names, named_from, names_from_greatest, rows, string_bytes, ◌≡◌}
 use Rattle.sd_text.proofs.mask_names.print_mask_names.Given as goal
 
 abbrev pub invariant-loop-letters : goal.invariant-loop-letters

@@ -1,5 +1,4 @@
-use Rattle.std.proofs.Common.{string_bytes, arith}
-use Rattle.std.proofs.lemmas.Grind.{common_steps}
+use Rattle.sd_text.proofs.Cited.{arith, common_steps, string_bytes}
 use Rattle.sd_text.proofs.Numbers.{another_pair}
 use Rattle.sd_text.proofs.number.+push_decimal.Goals as goal
 

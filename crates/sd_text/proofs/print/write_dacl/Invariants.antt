@@ -1,6 +1,4 @@
-use Rattle.std.proofs.Common.{◌≡◌, ◌++◌, take, string_bytes}
-use Rattle.std.specs.List.{flat_map}
-use Rattle.sd_text.specs.Canon.{entry_canon_in}
+use Rattle.sd_text.proofs.Cited.{entry_canon_in, flat_map, string_bytes, take, ◌++◌, ◌≡◌}
 use Rattle.sd_text.proofs.print.write_dacl.Given as goal
 
 -- the entries so far have been printed

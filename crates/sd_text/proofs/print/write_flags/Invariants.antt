@@ -1,8 +1,4 @@
-use Rattle.std.proofs.Common.{◌≡◌, ◌++◌, take, string_bytes}
-use Rattle.std.specs.List.{flat_map}
-use Rattle.sd_text.specs.Canon.{flag_canon}
-use Rattle.sd_text.specs.Entry.{flag_names}
-use Rattle.sd_text.specs.Names.{rows}
+use Rattle.sd_text.proofs.Cited.{flag_canon, flag_names, flat_map, rows, string_bytes, take, ◌++◌, ◌≡◌}
 use Rattle.sd_text.proofs.print.write_flags.Given as goal
 
 -- the flags so far have been printed

@@ -1,6 +1,4 @@
-use Rattle.std.proofs.Common.{◌≡◌, ◌++◌, take, string_bytes}
-use Rattle.std.specs.List.{flat_map}
-use Rattle.sd_text.specs.Canon.{sub_canon}
+use Rattle.sd_text.proofs.Cited.{flat_map, string_bytes, sub_canon, take, ◌++◌, ◌≡◌}
 use Rattle.sd_text.proofs.print.write_full_sid.Given as goal
 
 -- the sub-authorities so far have been printed

@@ -1,5 +1,4 @@
-use Rattle.std.proofs.Common.{sym, ap, Ok}
-use Rattle.sd_text.specs.Rights.{mask_text, rights}
+use Rattle.sd_text.proofs.Cited.{Ok, ap, mask_text, rights, sym}
 use Rattle.sd_text.proofs.Engine.{one_value, no_fault, whole_value, fault_at}
 use Rattle.sd_text.proofs.rights.read_mask.Goals as goal
 

@@ -1,7 +1,4 @@
-use Rattle.std.proofs.Common.{sym}
-use Rattle.sd_acl.specs.Descriptor.{descriptor_of}
-use Rattle.sd_text.specs.Sacl.{sddl_without_sacl, all_sections}
-use Rattle.sd_text.specs.Sddl.{has_entry}
+use Rattle.sd_text.proofs.Cited.{all_sections, descriptor_of, has_entry, sddl_without_sacl, sym}
 use Rattle.sd_text.proofs.Engine.{no_fault, fault_at, value_answered, memory_answered}
 use Rattle.sd_text.proofs.sacl.read_sddl_without_sacl.Goals as goal
 

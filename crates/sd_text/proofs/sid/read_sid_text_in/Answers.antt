@@ -1,5 +1,4 @@
-use Rattle.std.proofs.Common.{sym, ap, Ok}
-use Rattle.sd_text.specs.Sid.{sid_text_in, sid}
+use Rattle.sd_text.proofs.Cited.{Ok, ap, sid, sid_text_in, sym}
 use Rattle.sd_text.proofs.Engine.{one_value, no_fault, whole_value, fault_at}
 use Rattle.sd_text.proofs.sid.read_sid_text_in.Goals as goal
 

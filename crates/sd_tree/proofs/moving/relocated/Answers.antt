@@ -1,10 +1,4 @@
-use Rattle.std.proofs.Common.{◌≡◌, ◌≤◌, true, [], ◌∷◌, ◌++◌, map, take, get_or, length, sym, ap, ◌∙◌, arith}
-use Rattle.std.proofs.lemmas.List.{map-append, take_more}
-use Rattle.std.proofs.lemmas.List.Elements.{All-push}
-use Rattle.sd_path.specs.Names.{is_within, moved_path}
-use Rattle.sd_tree.specs.Plans.{relocated}
-use Rattle.sd_tree.specs.Stored.{path_of_node}
-use Rattle.sd_tree.specs.declared.node.Node.{Node}
+use Rattle.sd_tree.proofs.Cited.{All-push, Node, [], ap, arith, get_or, is_within, length, map, map-append, moved_path, path_of_node, relocated, sym, take, take_more, true, ◌++◌, ◌∙◌, ◌∷◌, ◌≡◌, ◌≤◌}
 use Rattle.sd_tree.proofs.Moves.{moved_length}
 use Rattle.sd_tree.proofs.moving.relocated.Goals as goal
 

@@ -1,8 +1,5 @@
 -- The nodes so far have their new paths, of at most 64 names.
-use Rattle.std.proofs.Common.{◌≡◌, ◌≤◌, map, take, length}
-use Rattle.std.specs.Prelude.{All}
-use Rattle.sd_tree.specs.Plans.{relocated}
-use Rattle.sd_tree.specs.declared.node.Node.{Node}
+use Rattle.sd_tree.proofs.Cited.{All, Node, length, map, relocated, take, ◌≡◌, ◌≤◌}
 use Rattle.sd_tree.proofs.moving.relocated.Given as goal
 
 abbrev pub invariant-loop-node : goal.invariant-loop-node

@@ -1,10 +1,4 @@
-use Rattle.std.proofs.Common.{◌≡◌, ℕ, ◌<◌, ◌≤◌, List, length, Result, Ok, Err, IfOk, IfErr}
-use Rattle.std.specs.List.{HoldsAt, AllWithin}
-use Rattle.std.specs.List.Sorted.{IsSearchInRange, IsBinarySearchResult}
-use Rattle.std.specs.declared.cmp.Ordering.TheVariants.{Less, Greater}
-use Rattle.sd_path.specs.Names.{Names, names_cmp}
-use Rattle.sd_tree.specs.Stored.{path_of_node, IsInOrder}
-use Rattle.sd_tree.specs.declared.node.Node.{Node}
+use Rattle.sd_tree.proofs.Cited.{AllWithin, Err, Greater, HoldsAt, IfErr, IfOk, IsBinarySearchResult, IsInOrder, IsSearchInRange, Less, List, Names, Node, Ok, Result, length, names_cmp, path_of_node, ℕ, ◌<◌, ◌≡◌, ◌≤◌}
 use Rattle.sd_path.proofs.Paths.{names_cmp_antisymmetric as names_same}
 use Rattle.sd_tree.proofs.Places.{paths_searchable}
 use Rattle.sd_tree.proofs.nodes.locate.Goals as goal

@@ -1,15 +1,7 @@
 -- What the entries come to, with the owner, is what the descriptor comes to.
-use Rattle.std.proofs.Common.{◌≡◌, ℕ, List, Result, Ok, Err, refl, sym, ap, ◌∙◌}
-use Rattle.sd_check.proofs.Words.{MappingValue, Ace, verdict, TokenValue}
-use Rattle.sd_acl.specs.Descriptor.{DescriptorValue}
+use Rattle.sd_wire.proofs.Cited.{ArePartsOf, DescriptorValue, EntryPlaces, Err, List, MappingValue, Ok, Parts, Result, TokenValue, WireFault, ap, checked, dacl_at, dacl_entries, entries_checked, entries_read, refl, sym, verdict, with_dacl, ℕ, ◌>>=◌, ◌∙◌, ◌≡◌}
+use Rattle.sd_check.proofs.Cited.{Ace}
 use Rattle.sd_acl.specs.declared.descriptor.DaclOf.TheVariants as dacls
-use Rattle.sd_check.specs.Check.{dacl_entries}
-use Rattle.sd_wire.specs.Parts.{ArePartsOf, dacl_at, with_dacl}
-use Rattle.sd_wire.specs.Reading.{◌>>=◌, entries_read}
-use Rattle.sd_wire.specs.declared.fault.WireFault.{WireFault}
-use Rattle.sd_wire.specs.declared.parts.EntryPlaces.{EntryPlaces}
-use Rattle.sd_wire.specs.declared.parts.Parts.{Parts}
-use Rattle.sd_wire.specs.Checked.{checked, entries_checked}
 use Rattle.sd_wire.proofs.check.check_bytes.Goals as goal
 
 regroup : (read : Result (List Ace) WireFault) (whole : DescriptorValue) (g : MappingValue) (t : TokenValue) (r : ℕ)

@@ -1,10 +1,6 @@
 -- Each turn reads the next entry and goes on with it, or ends with its fault.
-use Rattle.std.proofs.Common.{◌≡◌, ℕ, ◌-◌, [], List, Option, Some, Result, Ok, Err, arith, refl, sym, ap, ◌∙◌}
-use Rattle.std.proofs.lemmas.Iterator.Adapters.{option_map_id}
-use Rattle.std.proofs.lemmas.Result.{err_from_is_err_and}
-use Rattle.sd_check.proofs.Words.{SidValue, Ace, verdict}
-use Rattle.sd_wire.specs.Reading.{entries_read}
-use Rattle.sd_wire.specs.declared.fault.WireFault.{WireFault}
+use Rattle.sd_wire.proofs.Cited.{Err, List, Ok, Option, Result, Some, WireFault, [], ap, arith, entries_read, err_from_is_err_and, option_map_id, refl, sym, verdict, ℕ, ◌-◌, ◌∙◌, ◌≡◌}
+use Rattle.sd_check.proofs.Cited.{SidValue, Ace}
 use Rattle.sd_wire.proofs.Loop.{behind, ends, is_done}
 use Rattle.sd_wire.proofs.Rest.{entry_there, read_one}
 use Rattle.sd_wire.proofs.check.check_entries.Goals as goal

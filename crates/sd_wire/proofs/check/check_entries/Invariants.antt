@@ -1,6 +1,5 @@
 -- The entries so far and those that are left are all of them, and the tally is what those so far come to.
-use Rattle.std.proofs.Common.{not, nat_eq}
-use Rattle.sd_check.proofs.Words.{asking, IsCheckProgress}
+use Rattle.sd_wire.proofs.Cited.{IsCheckProgress, asking, nat_eq, not}
 use Rattle.sd_wire.proofs.Rest.{HasRead}
 use Rattle.sd_wire.proofs.check.check_entries.Given as goal
 

@@ -1,6 +1,5 @@
 -- Memory is wanted where the DACL wants it, and what stands before the DACL was read.
-use Rattle.std.proofs.Common.{sym, rules}
-use Rattle.std.proofs.lemmas.Result.{err_from_is_err_and}
+use Rattle.sd_wire.proofs.Cited.{err_from_is_err_and, rules, sym}
 use Rattle.sd_wire.proofs.descriptor.read_parts.Goals as goal
 
 pub returns-in_err-dacl-clause-memory : goal.returns-in_err-dacl-clause-memory

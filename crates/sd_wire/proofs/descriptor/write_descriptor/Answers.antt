@@ -1,6 +1,5 @@
 -- There is room for the header, as for all that stands behind it.
-use Rattle.std.proofs.Common.{arith}
-use Rattle.sd_acl.specs.Descriptor.{descriptor_of}
+use Rattle.sd_wire.proofs.Cited.{arith, descriptor_of}
 use Rattle.sd_wire.proofs.Lengths.{length_of_wire}
 use Rattle.sd_wire.proofs.descriptor.write_descriptor.Goals as goal
 

@@ -1,7 +1,5 @@
 -- Where there is room for all entries, there is room for the next one.
-use Rattle.std.proofs.Common.{ℕ, ap, arith, length}
-use Rattle.std.proofs.lemmas.List.{length-append}
-use Rattle.sd_acl.specs.Ace.{ace_size}
+use Rattle.sd_wire.proofs.Cited.{ace_size, ap, arith, length, length-append, ℕ}
 use Rattle.sd_wire.proofs.Lengths.{room_for_next}
 use Rattle.sd_wire.proofs.list.push_entries.Goals as goal
 

@@ -1,7 +1,5 @@
 -- The bytes so far are those that were there, and the entries so far.
-use Rattle.std.proofs.Common.{◌≡◌, ◌≤◌, ◌++◌, take, vec_capacity}
-use Rattle.std.specs.List.{flat_map}
-use Rattle.sd_wire.specs.Writing.{entry_bytes}
+use Rattle.sd_wire.proofs.Cited.{entry_bytes, flat_map, take, vec_capacity, ◌++◌, ◌≡◌, ◌≤◌}
 use Rattle.sd_wire.proofs.list.push_entries.Given as goal
 
 abbrev pub invariant-loop-entry : goal.invariant-loop-entry

@@ -1,9 +1,5 @@
 -- Each turn reads the next entry, or ends with its fault.
-use Rattle.std.proofs.Common.{◌≡◌, ◌+◌, ◌-◌, ◌/◌, ◌<◌, ◌≤◌, ◌++◌, ◌∷◌, [], min, sym, ap, ◌∙◌, arith, sum_by}
-use Rattle.std.proofs.lemmas.Result.{err_from_is_err_and}
-use Rattle.std.proofs.lemmas.List.Sums.{sum_by_push}
-use Rattle.sd_acl.specs.Ace.{ace_size}
-use Rattle.sd_wire.specs.Reading.{entries_read}
+use Rattle.sd_wire.proofs.Cited.{[], ace_size, ap, arith, entries_read, err_from_is_err_and, min, sum_by, sum_by_push, sym, ◌++◌, ◌+◌, ◌-◌, ◌/◌, ◌<◌, ◌∙◌, ◌∷◌, ◌≡◌, ◌≤◌}
 use Rattle.sd_wire.proofs.Lengths.{entries_take, room_for_another}
 use Rattle.sd_wire.proofs.Loop.{goes_on, ends, is_done}
 use Rattle.sd_wire.proofs.list.read_entries.Goals as goal

@@ -1,8 +1,6 @@
 -- The entries so far and those that are left are all of them; they lie between the place and the end, in the room that
 -- was made for them.
-use Rattle.std.proofs.Common.{◌≡◌, ◌+◌, ◌-◌, ◌/◌, ◌≤◌, min, sum_by, vec_len, vec_capacity}
-use Rattle.sd_acl.specs.Ace.{ace_size}
-use Rattle.sd_wire.specs.Reading.{entries_read}
+use Rattle.sd_wire.proofs.Cited.{ace_size, entries_read, min, sum_by, vec_capacity, vec_len, ◌+◌, ◌-◌, ◌/◌, ◌≡◌, ◌≤◌}
 use Rattle.sd_wire.proofs.Loop.{behind}
 use Rattle.sd_wire.proofs.list.read_entries.Given as goal
 

@@ -1,10 +1,5 @@
 -- Each turn passes over an allow or a deny.
-use Rattle.std.proofs.Common.{◌≡◌, ℕ, suc, ◌-◌, ◌+◌, ◌≤◌, ◌<◌, List, length, Option, refl, sym, ◌∙◌, arith}
-use Rattle.std.specs.Prelude.{slice_index}
-use Rattle.std.proofs.lemmas.Bool.{le-ltb}
-use Rattle.std.specs.Int.{w16}
-use Rattle.sd_wire.specs.Reading.{u16_at}
-use Rattle.sd_wire.specs.Odd.{odd_from}
+use Rattle.sd_wire.proofs.Cited.{List, Option, arith, le-ltb, length, odd_from, refl, slice_index, suc, sym, u16_at, w16, ℕ, ◌+◌, ◌-◌, ◌<◌, ◌∙◌, ◌≡◌, ◌≤◌}
 use Rattle.sd_wire.proofs.odd.odd_from.Goals as goal
 
 passed : (bytes : List ℕ) (at count i : ℕ) (total : Option (ℕ × ℕ)) → i < count → at + 4 ≤ length bytes → slice_index bytes at ≤ 1

@@ -1,11 +1,6 @@
 -- Behind the header, the owner and the group comes the DACL, where there is one.
-use Rattle.std.proofs.Common.{◌≡◌, ℕ, true, false, List, Option, Ok, refl, sym, ◌∙◌, ap, rules}
-use Rattle.sd_sid.specs.Sid.{SidValue}
-use Rattle.sd_sid.specs.SidBytes.{u32_at}
-use Rattle.sd_acl.specs.Descriptor.{DescriptorValue}
-use Rattle.sd_acl.specs.declared.descriptor.DaclOf.TheVariants.{Absent}
-use Rattle.sd_wire.specs.Parts.{DaclPlace, dacl_at, with_dacl}
-use Rattle.sd_wire.specs.Reading.{◌>>=◌, control_read, dacl_read, descriptor_read, is_set, trustee_read}
+use Rattle.sd_wire.proofs.Cited.{Absent, DaclPlace, DescriptorValue, List, Ok, Option, SidValue, ap, control_read, dacl_at, dacl_read, false, is_set, refl, rules, sym, true, trustee_read, u32_at, with_dacl, ℕ, ◌>>=◌, ◌∙◌, ◌≡◌}
+use Rattle.sd_wire.specs.Reading.{descriptor_read}
 use Rattle.sd_wire.proofs.parts.read_parts.Goals as goal
 
 -- what stands before the DACL, and the flags that say how it is inherited

@@ -1,6 +1,5 @@
 -- So many elements are removed.
-use Rattle.std.proofs.Common.{◌≡◌}
-use Rattle.sd_blocks.specs.Runs.{without_run}
+use Rattle.sd_blocks.proofs.Cited.{without_run, ◌≡◌}
 use Rattle.sd_blocks.proofs.level.Level.drop_run.Given as goal
 
 abbrev pub invariant-loop : goal.invariant-loop

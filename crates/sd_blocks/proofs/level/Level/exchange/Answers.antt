@@ -1,6 +1,4 @@
-use Rattle.std.proofs.Common.{◌≡◌, ◌<◌, length, arith, sym, ◌∙◌}
-use Rattle.std.proofs.Math.ListN.{set}
-use Rattle.sd_blocks.specs.Stored.{joined, StartFrom, IsBlockOf}
+use Rattle.sd_blocks.proofs.Cited.{IsBlockOf, StartFrom, arith, joined, length, set, sym, ◌<◌, ◌∙◌, ◌≡◌}
 use Rattle.sd_blocks.proofs.Written.{kept_starts}
 use Rattle.sd_blocks.proofs.Changes.{exchanged_ok, same_err}
 use Rattle.sd_blocks.proofs.level.Level.exchange.Goals as goal

@@ -1,5 +1,4 @@
-use Rattle.std.proofs.Common.{◌≡◌, get_or, ◌<◌, length, arith}
-use Rattle.sd_blocks.specs.Stored.{joined}
+use Rattle.sd_blocks.proofs.Cited.{arith, get_or, joined, length, ◌<◌, ◌≡◌}
 use Rattle.sd_blocks.proofs.Written.{get_joined}
 use Rattle.sd_blocks.proofs.level.Level.get.Goals as goal
 

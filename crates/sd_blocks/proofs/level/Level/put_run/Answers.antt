@@ -1,6 +1,4 @@
-use Rattle.std.proofs.Common.{◌≡◌, [], ◌∷◌, ◌++◌, length, arith, ap, ◌∙◌}
-use Rattle.std.specs.Option.{option_to_list}
-use Rattle.std.proofs.lemmas.List.Edits.{length-insert}
+use Rattle.sd_blocks.proofs.Cited.{[], ap, arith, length, length-insert, option_to_list, ◌++◌, ◌∙◌, ◌∷◌, ◌≡◌}
 use Rattle.sd_blocks.proofs.RunSteps.{put_step}
 use Rattle.sd_blocks.proofs.level.Level.put_run.Goals as goal
 

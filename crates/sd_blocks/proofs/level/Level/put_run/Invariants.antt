@@ -1,6 +1,5 @@
 -- What is left of the run, inserted, makes of the list what the whole run makes of it.
-use Rattle.std.proofs.Common.{◌≡◌, ◌≤◌, length}
-use Rattle.sd_blocks.specs.Runs.{with_run}
+use Rattle.sd_blocks.proofs.Cited.{length, with_run, ◌≡◌, ◌≤◌}
 use Rattle.sd_blocks.proofs.level.Level.put_run.Given as goal
 
 abbrev pub invariant-loop-item : goal.invariant-loop-item

@@ -1,5 +1,4 @@
-use Rattle.std.proofs.Common.{◌≡◌, ◌<◌, length, get_or}
-use Rattle.sd_blocks.specs.Stored.{joined}
+use Rattle.sd_blocks.proofs.Cited.{get_or, joined, length, ◌<◌, ◌≡◌}
 use Rattle.sd_blocks.proofs.Walks.{run_joined}
 use Rattle.sd_blocks.proofs.level.Level.run_from.Goals as goal
 

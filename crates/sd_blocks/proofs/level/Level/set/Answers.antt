@@ -1,5 +1,4 @@
-use Rattle.std.proofs.Common.{◌<◌, length}
-use Rattle.sd_blocks.specs.Stored.{joined}
+use Rattle.sd_blocks.proofs.Cited.{joined, length, ◌<◌}
 use Rattle.sd_blocks.proofs.Written.{written_ok, kept_starts}
 use Rattle.sd_blocks.proofs.level.Level.set.Goals as goal
 

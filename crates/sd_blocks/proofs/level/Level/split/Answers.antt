@@ -1,6 +1,4 @@
-use Rattle.std.proofs.Common.{arith, ◌≡◌, ◌<◌, ◌∙◌, ◌/◌, length, ap}
-use Rattle.std.proofs.lemmas.List.{take_rest}
-use Rattle.sd_blocks.specs.Stored.{joined, StartFrom}
+use Rattle.sd_blocks.proofs.Cited.{StartFrom, ap, arith, joined, length, take_rest, ◌/◌, ◌<◌, ◌∙◌, ◌≡◌}
 use Rattle.sd_blocks.proofs.Starts.{start_here}
 use Rattle.sd_blocks.proofs.Searched.{start_within}
 use Rattle.sd_blocks.proofs.Parts.{low_starts, high_starts, parts_length, parts_made}

@@ -1,6 +1,5 @@
 -- What is left of the run, written, makes of the list what the whole run makes of it.
-use Rattle.std.proofs.Common.{◌≡◌, ◌+◌, ◌≤◌, length}
-use Rattle.sd_blocks.specs.Runs.{written}
+use Rattle.sd_blocks.proofs.Cited.{length, written, ◌+◌, ◌≡◌, ◌≤◌}
 use Rattle.sd_blocks.proofs.level.Level.write.Given as goal
 
 abbrev pub invariant-left : goal.invariant-left

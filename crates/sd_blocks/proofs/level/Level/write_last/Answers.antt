@@ -1,6 +1,4 @@
-use Rattle.std.proofs.Common.{◌≡◌, ◌+◌, ◌-◌, ◌≤◌, length, arith, sym, ◌∙◌}
-use Rattle.sd_blocks.specs.Stored.{joined, StartFrom}
-use Rattle.std.proofs.Math.ListN.{set}
+use Rattle.sd_blocks.proofs.Cited.{StartFrom, arith, joined, length, set, sym, ◌+◌, ◌-◌, ◌∙◌, ◌≡◌, ◌≤◌}
 use Rattle.sd_blocks.proofs.Written.{kept_starts}
 use Rattle.sd_blocks.proofs.WriteRuns.{last_written_ok}
 use Rattle.sd_blocks.proofs.level.Level.write_last.Goals as goal

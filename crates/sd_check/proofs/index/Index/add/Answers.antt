@@ -1,6 +1,6 @@
 -- The group heads the chain of its place, and each place's chain leads where it led.
 use Rattle.std.proofs.Common.{refl}
-use Rattle.sd_check.proofs.Words.{place_of}
+use Rattle.sd_check.proofs.Cited.{place_of}
 use Rattle.sd_check.proofs.Chains.{index_more, led}
 use Rattle.sd_check.proofs.index.Index.add.Goals as goal
 

@@ -1,5 +1,5 @@
 use Rattle.std.proofs.Common.{ap, sym, ◌∙◌, List}
-use Rattle.sd_check.proofs.Words.{SidValue, IsMarked, list_any, place_of, same_sid, same_sid-true, take_all}
+use Rattle.sd_check.proofs.Cited.{SidValue, IsMarked, list_any, place_of, same_sid, same_sid-true, take_all}
 use Rattle.sd_check.proofs.Chains.{one_of_more}
 use Rattle.sd_check.proofs.index.Index.mark_each.Goals as goal
 

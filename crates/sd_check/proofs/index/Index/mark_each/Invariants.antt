@@ -1,6 +1,6 @@
 -- The index so far keeps what it had, and has the SIDs so far.
 use Rattle.std.proofs.Common.{◌≡◌, true, take}
-use Rattle.sd_check.proofs.Words.{SidValue, IsMarked, Keeps, list_any, same_sid}
+use Rattle.sd_check.proofs.Cited.{SidValue, IsMarked, Keeps, list_any, same_sid}
 use Rattle.sd_check.proofs.index.Index.mark_each.Given as goal
 
 abbrev pub invariant-sids : goal.invariant-sids

@@ -1,5 +1,5 @@
 use Rattle.std.proofs.Common.{◌&&◌, ap, ◌∙◌, List}
-use Rattle.sd_check.proofs.Words.{SidValue, GroupState, IsMarked, a_group_stands_for, and_parts, counts, place_of, same_sid, same_sid-true, take_all}
+use Rattle.sd_check.proofs.Cited.{SidValue, GroupState, IsMarked, a_group_stands_for, and_parts, counts, place_of, same_sid, same_sid-true, take_all}
 use Rattle.sd_check.proofs.Chains.{one_of_more}
 use Rattle.sd_check.proofs.index.Index.mark_groups.Goals as goal
 

@@ -1,5 +1,5 @@
 use Rattle.std.proofs.Common.{◌≡◌, true, arith, refl, get_or, sym, ◌∙◌, ap}
-use Rattle.sd_check.proofs.Words.{false≢true, owner_rights, SidValue, GroupState, Deny, counts, get_or_default}
+use Rattle.sd_check.proofs.Cited.{false≢true, owner_rights, SidValue, GroupState, Deny, counts, get_or_default}
 use Rattle.sd_check.proofs.Chains.{index_of_nobody, index_on, marks_each}
 use Rattle.sd_check.proofs.index.Index.new.Goals as goal
 use Rattle.sd_check.proofs.index.Index.new.Goals.{then-number-lt-MAX_CHAINED+then-counts, else-number-lt-MAX_CHAINED, else-number-lt-MAX_CHAINED-via-then-number-lt-MAX_CHAINED+else-counts, else-number-lt-MAX_CHAINED-via-else-number-lt-MAX_CHAINED}

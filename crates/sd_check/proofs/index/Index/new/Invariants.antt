@@ -1,5 +1,5 @@
 -- The index so far is that of the user and the groups so far, with the places of all others marked.
-use Rattle.sd_check.proofs.Words.{IsIndex, IsMarked, MarksEach}
+use Rattle.sd_check.proofs.Cited.{IsIndex, IsMarked, MarksEach}
 use Rattle.sd_check.proofs.index.Index.new.Given as goal
 
 abbrev pub invariant-loop-number : goal.invariant-loop-number

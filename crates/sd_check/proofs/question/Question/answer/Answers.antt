@@ -1,6 +1,6 @@
 -- As the rules have it, by what is granted and what MAXIMUM_ALLOWED takes in.
 use Rattle.std.proofs.Common.{◌||◌, ◌&&◌, ◌==◌, ◌∙◌, sym, ap}
-use Rattle.sd_check.proofs.Words.{cond-true, cond-false, holds, mask_of, is_given, is_granted, missing_of, joined_with, most_of, plain_verdict, maximum_verdict, asking}
+use Rattle.sd_check.proofs.Cited.{cond-true, cond-false, holds, mask_of, is_given, is_granted, missing_of, joined_with, most_of, plain_verdict, maximum_verdict, asking}
 use Rattle.sd_check.proofs.Answered.{maximum_is, missing_is}
 use Rattle.sd_check.proofs.LowMasks.{judged_open}
 use Rattle.sd_check.proofs.question.Question.answer.Goals as goal

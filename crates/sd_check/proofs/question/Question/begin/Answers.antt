@@ -1,6 +1,6 @@
 -- Before any entry nothing is settled.
 use Rattle.std.proofs.Common.{refl, ◌∙◌, ap}
-use Rattle.sd_check.proofs.Words.{applies, applies_again, asking, owners_in, rights_in, wanted_bits}
+use Rattle.sd_check.proofs.Cited.{applies, applies_again, asking, owners_in, rights_in, wanted_bits}
 use Rattle.sd_check.proofs.Passes.{pass_begins}
 use Rattle.sd_check.proofs.question.Question.begin.Goals as goal
 

@@ -1,6 +1,6 @@
 -- The entry decides what was undecided of its mask, in each pass.
 use Rattle.std.proofs.Common.{◌≡◌, true, false, not, ◌&&◌, nat_eq, cond, sym, ◌∙◌, ap}
-use Rattle.sd_check.proofs.Words.{applies, applies_again, asking, is_limit, mapped, owner_rights, same_sid}
+use Rattle.sd_check.proofs.Cited.{applies, applies_again, asking, is_limit, mapped, owner_rights, same_sid}
 use Rattle.sd_check.proofs.Passes.{part_in_force, pass_decides}
 use Rattle.sd_check.proofs.question.Question.decided.Goals.{then-this-ne0, else-this-ne0}
 use Rattle.sd_check.proofs.question.Question.decided.Goals as goal

@@ -1,6 +1,6 @@
 -- Where the entry takes no part, it changes nothing.
 use Rattle.std.proofs.Common.{◌≡◌, true, false, not, ◌&&◌, sym, ◌∙◌, ap, arith}
-use Rattle.sd_check.proofs.Words.{applies, applies_again, asking, is_restricting, is_restricting_subject, owner_rights, same_sid, stands_for, stands_for_subject}
+use Rattle.sd_check.proofs.Cited.{applies, applies_again, asking, is_restricting, is_restricting_subject, owner_rights, same_sid, stands_for, stands_for_subject}
 use Rattle.sd_check.proofs.Passes.{part_idle, takes_no_part, tally_silent}
 use Rattle.sd_check.proofs.question.Question.deciding.Goals as goal
 

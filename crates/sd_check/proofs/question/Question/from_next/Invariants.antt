@@ -1,6 +1,6 @@
 -- What the rest does to a tally, all entries do.
 use Rattle.std.proofs.Common.{◌≤◌, Bool, length, map}
-use Rattle.sd_check.proofs.Words.{asking, TakesOn, CheckProgress}
+use Rattle.sd_check.proofs.Cited.{asking, TakesOn, CheckProgress}
 use Rattle.sd_check.proofs.question.Question.from_next.Given as goal
 
 abbrev pub invariant-silent : goal.invariant-silent

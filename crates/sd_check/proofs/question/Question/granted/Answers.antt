@@ -1,5 +1,5 @@
 use Rattle.std.proofs.Common.{false, ◌&&◌, ◌∙◌, ap}
-use Rattle.sd_check.proofs.Words.{holds, mask_of, is_implied, Privileges}
+use Rattle.sd_check.proofs.Cited.{holds, mask_of, is_implied, Privileges}
 use Rattle.sd_check.proofs.Answered.{granted_is}
 use Rattle.sd_check.proofs.question.Question.granted.Goals as goal
 

@@ -1,6 +1,6 @@
 -- Such an entry takes part with nothing, in either pass, and limits nobody.
 use Rattle.std.proofs.Common.{◌≡◌}
-use Rattle.sd_check.proofs.Words.{asking, part_of, Pass, First, Second, applies_in, not-true}
+use Rattle.sd_check.proofs.Cited.{asking, part_of, Pass, First, Second, applies_in, not-true}
 use Rattle.sd_check.proofs.Passes.{tally_silent, none_in, limits_nobody}
 use Rattle.sd_check.proofs.question.Question.is_silent.Goals as goal
 

@@ -1,6 +1,6 @@
 -- What no further entry comes to is what is granted, of one pass or of both.
 use Rattle.std.proofs.Common.{refl, ◌≡◌, ℕ, Bool, true, false, ◌&&◌, ◌||◌, not, nat_eq, ◌∙◌, sym, ap, Some}
-use Rattle.sd_check.proofs.Words.{and-true, ne_eqb, applies, applies_again, first, is_allowed_by, limits_owner, asking, owners_in, rights_in, wanted_bits, is_restricted}
+use Rattle.sd_check.proofs.Cited.{and-true, ne_eqb, applies, applies_again, first, is_allowed_by, limits_owner, asking, owners_in, rights_in, wanted_bits, is_restricted}
 use Rattle.sd_check.proofs.Answered.{granted_by_passes}
 use Rattle.sd_check.proofs.Passes.{pass_grants, passes_grant}
 use Rattle.sd_check.proofs.question.Question.listed.Goals as goal

@@ -1,6 +1,6 @@
 -- What the rest makes of this tally, all entries make of the first.
 use Rattle.std.proofs.Common.{length, map, not, nat_eq}
-use Rattle.sd_check.proofs.Words.{asking, TakesOn, CheckProgress}
+use Rattle.sd_check.proofs.Cited.{asking, TakesOn, CheckProgress}
 use Rattle.sd_check.proofs.question.Question.over.Given as goal
 
 abbrev pub invariant-each : goal.invariant-each

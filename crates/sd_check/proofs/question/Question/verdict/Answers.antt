@@ -1,6 +1,6 @@
 -- A request for the object's own rights and the standard ones alone has nothing reserved and nothing to map.
 use Rattle.std.proofs.Common.{◌∙◌, ◌&&◌, Some, sym, ap}
-use Rattle.sd_check.proofs.Words.{holds, mask_of, is_granted, most, plain_verdict, asking}
+use Rattle.sd_check.proofs.Cited.{holds, mask_of, is_granted, most, plain_verdict, asking}
 use Rattle.sd_check.proofs.Answered.{missing_is, within_is}
 use Rattle.sd_check.proofs.LowMasks.{judged_low, wanted_low}
 use Rattle.sd_check.proofs.question.Question.verdict.Goals as goal

@@ -1,6 +1,6 @@
 -- Each right is granted, and what is granted without an entry.
 use Rattle.std.proofs.Common.{◌≡◌, false, ◌&&◌, ◌||◌, not, nat_lt, None, ◌∙◌, ap}
-use Rattle.sd_check.proofs.Words.{holds, mask_of, is_given, is_implied, limits_owner, asking, is_restricted, Privileges, is_owner}
+use Rattle.sd_check.proofs.Cited.{holds, mask_of, is_given, is_implied, limits_owner, asking, is_restricted, Privileges, is_owner}
 use Rattle.sd_check.proofs.Answered.{granted_is, granted_without_a_list, most_without_a_list}
 use Rattle.sd_check.proofs.question.Question.verdict_without_a_list.Goals as goal
 

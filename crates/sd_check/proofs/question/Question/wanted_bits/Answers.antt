@@ -1,5 +1,5 @@
 use Rattle.std.proofs.Common.{◌||◌, ◌∙◌, sym, ap}
-use Rattle.sd_check.proofs.Words.{cond-true, holds, mask_of}
+use Rattle.sd_check.proofs.Cited.{cond-true, holds, mask_of}
 use Rattle.sd_check.proofs.question.Question.wanted_bits.Goals as goal
 
 pub returns-then-holds : goal.returns-then-holds

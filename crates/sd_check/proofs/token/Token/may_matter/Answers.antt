@@ -1,6 +1,6 @@
 -- Where its place has no link, nobody has the SID.
 use Rattle.std.proofs.Common.{sym, ◌∙◌}
-use Rattle.sd_check.proofs.Words.{Deny}
+use Rattle.sd_check.proofs.Cited.{Deny}
 use Rattle.sd_check.proofs.Chains.{nobody_there}
 use Rattle.sd_check.proofs.token.Token.may_matter.Goals as goal
 

@@ -1,6 +1,6 @@
 -- The index is that of the lists' items.
 use Rattle.std.proofs.Common.{subst, length}
-use Rattle.sd_check.proofs.Words.{IsIndex, MarksEach}
+use Rattle.sd_check.proofs.Cited.{IsIndex, MarksEach}
 use Rattle.sd_check.proofs.token.Token.restricted.Goals as goal
 
 pub invariant_of-result : goal.invariant_of-result

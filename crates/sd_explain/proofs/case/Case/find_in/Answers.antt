@@ -1,9 +1,4 @@
-use Rattle.std.proofs.Common.{List, length, get_or, Option, ◌∙◌, sym, ap}
-use Rattle.std.proofs.lemmas.List.{get_or-replicate}
-use Rattle.std.proofs.lemmas.Iterator.Adapters.{option_map_id}
-use Rattle.sd_check.proofs.Words.{SidValue, applies_in, part_of}
-use Rattle.sd_explain.specs.declared.reason.Finding.{Finding}
-use Rattle.sd_explain.specs.declared.reason.Finding.TheVariants.{NoEntry}
+use Rattle.sd_explain.proofs.Cited.{Finding, List, NoEntry, Option, SidValue, ap, applies_in, get_or, get_or-replicate, length, option_map_id, part_of, sym, ◌∙◌}
 use Rattle.sd_explain.proofs.AllFound.{found_none, found_passed, found_more, found_all, found_settled}
 use Rattle.sd_explain.proofs.case.Case.find_in.Goals as goal
 

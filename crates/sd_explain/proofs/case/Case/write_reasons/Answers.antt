@@ -1,9 +1,4 @@
-use Rattle.std.proofs.Common.{List, Option, None, length, get_or, sym, ap, ◌∙◌, arith}
-use Rattle.std.proofs.lemmas.List.{get_or-replicate}
-use Rattle.std.proofs.lemmas.List.FromFn.{fill_by_all}
-use Rattle.sd_explain.specs.Findings.{of_case}
-use Rattle.sd_explain.specs.Reasons.{reason_at}
-use Rattle.sd_explain.specs.declared.reason.Reason.{Reason}
+use Rattle.sd_explain.proofs.Cited.{List, None, Option, Reason, ap, arith, fill_by_all, get_or, get_or-replicate, length, of_case, reason_at, sym, ◌∙◌}
 use Rattle.sd_explain.proofs.Written.{written_here, written_not, written_all}
 use Rattle.sd_explain.proofs.case.Case.write_reasons.Goals as goal
 

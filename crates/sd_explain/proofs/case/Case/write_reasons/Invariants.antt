@@ -1,7 +1,5 @@
 -- The reasons so far stand at the places of the bits that have a part in the answer, and at the others none.
-use Rattle.std.proofs.Common.{None, get_or}
-use Rattle.sd_explain.specs.Findings.{of_case}
-use Rattle.sd_explain.specs.Reasons.{reason_at}
+use Rattle.sd_explain.proofs.Cited.{None, get_or, of_case, reason_at}
 use Rattle.sd_explain.proofs.Written.{IsWritten}
 use Rattle.sd_explain.proofs.case.Case.write_reasons.Given as goal
 

@@ -1,6 +1,5 @@
 -- The bits so far are those of the share below the place.
-use Rattle.std.proofs.Common.{◌≡◌}
-use Rattle.sd_explain.specs.Parts.{reason_in, bits_of}
+use Rattle.sd_explain.proofs.Cited.{bits_of, reason_in, ◌≡◌}
 use Rattle.sd_explain.proofs.explanation.Explanation.bits_below.Given as goal
 
 abbrev pub invariant-loop-place : goal.invariant-loop-place

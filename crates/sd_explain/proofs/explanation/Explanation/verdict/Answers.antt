@@ -1,8 +1,6 @@
-use Rattle.std.proofs.Common.{refl, sym, ap, ◌∙◌}
+use Rattle.sd_explain.proofs.Cited.{Granted, Missing, Share, ap, is_of_share, refl, sym, ◌∙◌}
 use Rattle.sd_sid.specs.Mask.{mask_of}
-use Rattle.sd_explain.specs.Parts.{is_of_share}
-use Rattle.sd_explain.specs.declared.reason.Share.{Share}
-use Rattle.sd_explain.specs.declared.reason.Share.TheVariants.{Reserved, Missing, Granted}
+use Rattle.sd_explain.specs.declared.reason.Share.TheVariants.{Reserved}
 use Rattle.sd_explain.proofs.Bits.{one_more, no_more}
 use Rattle.sd_explain.proofs.explanation.Explanation.verdict.Goals.{in-Some, in_default}
 use Rattle.sd_explain.proofs.explanation.Explanation.verdict.Goals as goal

@@ -1,7 +1,6 @@
 -- The bits so far are those of each share below the place.
-use Rattle.std.proofs.Common.{◌≡◌}
-use Rattle.sd_explain.specs.Parts.{reason_in, bits_of}
-use Rattle.sd_explain.specs.declared.reason.Share.TheVariants.{Reserved, Missing, Granted}
+use Rattle.sd_explain.proofs.Cited.{Granted, Missing, bits_of, reason_in, ◌≡◌}
+use Rattle.sd_explain.specs.declared.reason.Share.TheVariants.{Reserved}
 use Rattle.sd_explain.proofs.explanation.Explanation.verdict.Given as goal
 
 abbrev pub invariant-loop-place : goal.invariant-loop-place

@@ -1,7 +1,4 @@
-use Rattle.std.proofs.Common.{◌≡◌, ℕ, List, ◌++◌, refl, append_assoc, ◌∙◌}
-use Rattle.sd_lines.specs.Decoder.{text_by, text_in}
-use Rattle.sd_lines.specs.declared.decoder.Coding.{Coding}
-use Rattle.sd_lines.specs.declared.decoder.Coding.TheVariants.{Utf8}
+use Rattle.sd_lines.proofs.Cited.{Coding, List, Utf8, append_assoc, refl, text_by, text_in, ℕ, ◌++◌, ◌∙◌, ◌≡◌}
 use Rattle.sd_lines.proofs.decoder.Decoder.decode.Goals as goal
 
 held_text : (coding : Coding) (held more : List ℕ) → (coding ≡ Utf8 → ⊥) → text_in coding held more ≡ text_by coding (held ++ more)

@@ -1,7 +1,4 @@
-use Rattle.std.proofs.Common.{length, rules, tests, ◌∙◌}
-use Rattle.std.proofs.lemmas.Iterator.{YieldsList-from_slice}
-use Rattle.std.proofs.lemmas.Iterator.Search.{position_from_yields_List}
-use Rattle.std.proofs.lemmas.List.Sums.{prefix_len-le-length}
+use Rattle.sd_lines.proofs.Cited.{YieldsList-from_slice, length, position_from_yields_List, prefix_len-le-length, rules, tests, ◌∙◌}
 use Rattle.sd_lines.proofs.Cutting.{ends, place_or_end}
 use Rattle.sd_lines.proofs.ending.Ending.place.Goals as goal
 

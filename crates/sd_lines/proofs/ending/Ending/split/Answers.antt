@@ -1,5 +1,4 @@
-use Rattle.std.proofs.Common.{length-drop, arith}
-use Rattle.std.proofs.lemmas.List.{take_rest}
+use Rattle.sd_lines.proofs.Cited.{arith, length-drop, take_rest}
 use Rattle.sd_lines.proofs.Cutting.{end_at, none_before}
 use Rattle.sd_lines.proofs.ending.Ending.split.Goals as goal
 

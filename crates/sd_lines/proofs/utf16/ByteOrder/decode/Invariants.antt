@@ -1,6 +1,5 @@
 -- The text so far, and then that of the rest, is the text of the bytes.
-use Rattle.std.proofs.Common.{◌≡◌, ℕ, List, ◌++◌, length}
-use Rattle.sd_lines.specs.Utf16.{utf16_text}
+use Rattle.sd_lines.proofs.Cited.{List, length, utf16_text, ℕ, ◌++◌, ◌≡◌}
 use Rattle.sd_lines.proofs.utf16.ByteOrder.decode.Given as goal
 
 abbrev pub invariant-chars : goal.invariant-chars

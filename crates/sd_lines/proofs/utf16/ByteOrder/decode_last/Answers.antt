@@ -1,5 +1,4 @@
-use Rattle.std.proofs.Common.{◌≡◌, [], ◌++◌, append_assoc, append-nil, rules}
-use Rattle.sd_lines.specs.Utf16.{utf16_text}
+use Rattle.sd_lines.proofs.Cited.{[], append-nil, append_assoc, rules, utf16_text, ◌++◌, ◌≡◌}
 use Rattle.sd_lines.proofs.utf16.ByteOrder.decode_last.Goals as goal
 
 pub returns : goal.returns

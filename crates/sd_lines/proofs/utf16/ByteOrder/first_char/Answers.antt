@@ -1,6 +1,4 @@
-use Rattle.std.proofs.Common.{◌≡◌, true, false, ◌++◌, get_or, refl, sym, ◌∙◌, ap, arith}
-use Rattle.std.specs.Char.Utf16.{is_high_surrogate, is_low_surrogate, lone_unit_char}
-use Rattle.sd_lines.specs.Utf16.{over_in, units_in}
+use Rattle.sd_lines.proofs.Cited.{ap, arith, false, get_or, is_high_surrogate, is_low_surrogate, lone_unit_char, over_in, refl, sym, true, units_in, ◌++◌, ◌∙◌, ◌≡◌}
 use Rattle.sd_lines.proofs.Characters.{lone, lone_is, no_char, pair, pair_is, too_short, too_short_pair}
 use Rattle.sd_lines.proofs.utf16.ByteOrder.first_char.Goals as goal
 

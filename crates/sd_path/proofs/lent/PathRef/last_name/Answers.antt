@@ -1,5 +1,4 @@
-use Rattle.std.proofs.Common.{◌≡◌, ◌-◌, [], ◌∷◌, ◌++◌, length, take, drop, subst}
-use Rattle.sd_path.specs.Names.{Names, up}
+use Rattle.sd_path.proofs.Cited.{Names, [], drop, length, subst, take, up, ◌++◌, ◌-◌, ◌∷◌, ◌≡◌}
 use Rattle.sd_path.proofs.PathBytes.{last_name-kept}
 use Rattle.sd_path.proofs.lent.PathRef.last_name.Goals as goal
 

@@ -1,5 +1,4 @@
-use Rattle.std.proofs.Common.{◌∙◌, ap}
-use Rattle.sd_path.specs.Names.{up}
+use Rattle.sd_path.proofs.Cited.{ap, up, ◌∙◌}
 use Rattle.sd_path.proofs.PathBytes.{Keeps-up, names_of-up}
 use Rattle.sd_path.proofs.lent.PathRef.parent.Goals as goal
 

@@ -1,6 +1,4 @@
-use Rattle.std.proofs.Common.{refl, ap, ◌∙◌, arith}
-use Rattle.std.specs.List.{prefix_len}
-use Rattle.sd_path.specs.Names.{is_name_byte}
+use Rattle.sd_path.proofs.Cited.{ap, arith, is_name_byte, prefix_len, refl, ◌∙◌}
 use Rattle.sd_path.proofs.PathTexts.{whole-cut, whole-empty, whole-long, whole-none, whole-name, whole-within}
 use Rattle.sd_path.proofs.name.Name.read.Goals as goal
 

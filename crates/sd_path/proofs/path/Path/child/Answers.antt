@@ -1,5 +1,4 @@
-use Rattle.std.proofs.Common.{◌≡◌, ◌<◌, ◌++◌, ◌∷◌, [], length, ap, ◌∙◌, arith, append_assoc}
-use Rattle.sd_path.specs.Names.{Names}
+use Rattle.sd_path.proofs.Cited.{Names, [], ap, append_assoc, arith, length, ◌++◌, ◌<◌, ◌∙◌, ◌∷◌, ◌≡◌}
 use Rattle.sd_path.proofs.PathBytes.{names_of-push, Keeps-push}
 use Rattle.sd_path.proofs.path.Path.child.Goals as goal
 

@@ -1,5 +1,4 @@
-use Rattle.std.proofs.Common.{◌≡◌, ◌≤◌, ◌++◌, true, length, drop, ap, ◌∙◌}
-use Rattle.sd_path.specs.Names.{is_within, names_of, moved_path}
+use Rattle.sd_path.proofs.Cited.{ap, drop, is_within, length, moved_path, names_of, true, ◌++◌, ◌∙◌, ◌≡◌, ◌≤◌}
 use Rattle.sd_path.proofs.Moved.{source_fits, count_fits, moved_keeps, moved_names}
 use Rattle.sd_path.proofs.path.Path.moved.Goals as goal
 

@@ -1,6 +1,4 @@
-use Rattle.std.proofs.Common.{length, sym, ◌∙◌, ap, Ok}
-use Rattle.std.proofs.lemmas.Result.{err_from_is_err_and}
-use Rattle.sd_path.specs.Names.{names_of}
+use Rattle.sd_path.proofs.Cited.{Ok, ap, err_from_is_err_and, length, names_of, sym, ◌∙◌}
 use Rattle.sd_path.proofs.PathTexts.{path_of-empty, path_of-other, path_of-root, read-fault, read-memory, read-path, Keeps-read}
 use Rattle.sd_path.proofs.path.Path.read.Goals as goal
 

@@ -1,8 +1,5 @@
 -- OWNER RIGHTS has one sub-authority.
-use Rattle.std.proofs.Common.{◌≡◌, ℕ, zero, suc, Bool, true, false, ◌&&◌, ◌==◌, List, [], ◌∷◌, refl, sym, ap, ◌∙◌}
-use Rattle.std.specs.Str.{bytes_eq}
-use Rattle.sd_sid.specs.Sid.{SidValue, same_sid, owner_rights}
-use Rattle.sd_sid.specs.SidBytes.{authority_of, u32s_at}
+use Rattle.sd_sid.proofs.Cited.{Bool, List, SidValue, [], ap, authority_of, bytes_eq, false, owner_rights, refl, same_sid, suc, sym, true, u32s_at, zero, ℕ, ◌&&◌, ◌==◌, ◌∙◌, ◌∷◌, ◌≡◌}
 use Rattle.sd_sid.proofs.lent.SidRef.is_owner_rights.Goals as goal
 
 neither : (b : Bool) → (b && false) ≡ false

@@ -1,8 +1,5 @@
 -- The last of the numbers stands at its place.
-use Rattle.std.proofs.Common.{◌+◌, ◌-◌, ◌*◌, length, slice_index, sym, ap, ◌∙◌, arith}
-use Rattle.std.proofs.lemmas.List.FromFn.{length-map-range_with_len, get_or-map-range_with_len}
-use Rattle.sd_sid.specs.Sid.{SidValue}
-use Rattle.sd_sid.specs.SidBytes.{u32_at, u32s_at}
+use Rattle.sd_sid.proofs.Cited.{SidValue, ap, arith, get_or-map-range_with_len, length, length-map-range_with_len, slice_index, sym, u32_at, u32s_at, ◌*◌, ◌+◌, ◌-◌, ◌∙◌}
 use Rattle.sd_sid.proofs.lent.SidRef.last_sub.Goals as goal
 
 pub returns : goal.returns

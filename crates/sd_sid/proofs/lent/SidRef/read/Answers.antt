@@ -1,6 +1,5 @@
 -- As many sub-authorities are read as are told.
-use Rattle.std.proofs.Common.{◌+◌, ◌*◌, sym, ap, rules}
-use Rattle.std.proofs.lemmas.List.FromFn.{length-map-range_with_len}
+use Rattle.sd_sid.proofs.Cited.{ap, length-map-range_with_len, rules, sym, ◌*◌, ◌+◌}
 use Rattle.sd_sid.proofs.lent.SidRef.read.Goals as goal
 
 pub returns-clause-size : goal.returns-clause-size

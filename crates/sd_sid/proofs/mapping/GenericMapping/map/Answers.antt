@@ -1,7 +1,5 @@
 -- Each union takes in what the mapping gives for one generic place.
-use Rattle.std.proofs.Common.{◌≡◌, ℕ, Bool, ◌||◌, cond, ap, ◌∙◌}
-use Rattle.sd_sid.specs.Mask.{holds, mask_of}
-use Rattle.sd_sid.specs.Mapping.{MappingValue, mapped}
+use Rattle.sd_sid.proofs.Cited.{Bool, MappingValue, ap, cond, holds, mapped, mask_of, ℕ, ◌||◌, ◌∙◌, ◌≡◌}
 use Rattle.sd_sid.proofs.Mapped.{mapped_by_steps}
 use Rattle.sd_sid.proofs.mapping.GenericMapping.map.Goals as goal
 

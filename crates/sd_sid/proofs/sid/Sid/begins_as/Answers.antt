@@ -1,9 +1,4 @@
-use Rattle.std.proofs.Common.{◌≡◌, ℕ, length, take, get_or, arith, sym, ap, ◌∙◌}
-use Rattle.std.proofs.lemmas.Bool.{eqb-true}
-use Rattle.std.proofs.lemmas.List.{length-take-le}
-use Rattle.sd_sid.specs.SidParts.{value_of}
-use Rattle.sd_sid.specs.Sid.{SidValue, same_sid}
-use Rattle.sd_sid.specs.declared.sid.Sid.TheInside.{Inside}
+use Rattle.sd_sid.proofs.Cited.{Inside, SidValue, ap, arith, eqb-true, get_or, length, length-take-le, same_sid, sym, take, value_of, ℕ, ◌∙◌, ◌≡◌}
 use Rattle.sd_sid.proofs.Compared.{same_fields, few_same}
 use Rattle.sd_sid.proofs.sid.Sid.begins_as.Goals.{then-one-two-2-via-then-one-two-2, then-one-two-2-via-else-one-two-2+then-one-two-3, then-one-two-2-via-else-one-two-2+else-one-two-3+then-one-two-4, then-one-two-2-via-else-one-two-2+else-one-two-3+else-one-two-4+then-one-two-5}
 use Rattle.sd_sid.proofs.sid.Sid.begins_as.Goals as goal

@@ -1,5 +1,4 @@
-use Rattle.std.proofs.Common.{arith}
-use Rattle.sd_history.specs.Chains.{items_from}
+use Rattle.sd_store.proofs.Cited.{arith, items_from}
 use Rattle.sd_store.proofs.Prefixes.{prefix_self, shorter_begins, turned}
 use Rattle.sd_store.proofs.floor.Floor.raise.Goals as goal
 

@@ -1,7 +1,4 @@
-use Rattle.std.proofs.Common.{sym}
-use Rattle.sd_text.specs.Alias.{aliases}
-use Rattle.sd_text.specs.Sid.{other_alias}
-use Rattle.sd_text.specs.Names.{rows}
+use Rattle.sd_text.proofs.Cited.{aliases, other_alias, rows, sym}
 use Rattle.sd_text.proofs.AliasTables.{alias_found, no_alias_found, known_placed}
 use Rattle.sd_text.proofs.cursor.Cursor.alias.Goals as goal
 

@@ -1,5 +1,4 @@
-use Rattle.std.proofs.Common.{◌∙◌}
-use Rattle.sd_text.specs.Names.{rows}
+use Rattle.sd_text.proofs.Cited.{rows, ◌∙◌}
 use Rattle.sd_text.proofs.AliasTables.{account_found, no_account_found, needs_a_domain}
 use Rattle.sd_text.proofs.cursor.Cursor.domain_alias.Goals as goal
 

@@ -1,8 +1,5 @@
-use Rattle.std.proofs.Common.{◌≡◌, true, sym, ◌∙◌}
-use Rattle.std.specs.Prelude.{codes, is_ok}
-use Rattle.std.proofs.lemmas.Bool.{and_parts}
-use Rattle.std.proofs.lemmas.Result.{err_from_is_err_and}
-use Rattle.sd_text.specs.Entry.{entry, entries}
+use Rattle.sd_text.proofs.Cited.{and_parts, codes, entry, err_from_is_err_and, is_ok, sym, true, ◌∙◌, ◌≡◌}
+use Rattle.sd_text.specs.Entry.{entries}
 use Rattle.sd_text.proofs.Loops.{item_last, item_fault, item_takes}
 use Rattle.sd_text.proofs.Entries.{parsed_more, list_made}
 use Rattle.sd_text.proofs.cursor.Cursor.entries.Goals as goal

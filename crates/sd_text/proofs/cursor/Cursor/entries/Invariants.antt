@@ -1,5 +1,4 @@
-use Rattle.std.proofs.Common.{length}
-use Rattle.sd_text.specs.Entry.{entry}
+use Rattle.sd_text.proofs.Cited.{entry, length}
 use Rattle.sd_text.proofs.Entries.{Parsed}
 use Rattle.sd_text.proofs.cursor.Cursor.entries.Given as goal
 

@@ -1,7 +1,4 @@
-use Rattle.std.proofs.Common.{◌≡◌, Ok, lit<, arith, subst}
-use Rattle.sd_text.specs.Finding.{find}
-use Rattle.sd_text.specs.Rights.{bits_of}
-use Rattle.sd_text.specs.Entry.{flag_names}
+use Rattle.sd_text.proofs.Cited.{Ok, arith, bits_of, find, flag_names, lit<, subst, ◌≡◌}
 use Rattle.sd_text.proofs.Tables.{bits_below}
 use Rattle.sd_text.proofs.cursor.Cursor.flags.Goals as goal
 

@@ -1,6 +1,4 @@
-use Rattle.std.proofs.Common.{◌≡◌, drop}
-use Rattle.sd_text.specs.Grammar.{named}
-use Rattle.sd_text.specs.Names.{rows}
+use Rattle.sd_text.proofs.Cited.{drop, named, rows, ◌≡◌}
 use Rattle.sd_text.proofs.cursor.Cursor.name.Given as goal
 
 -- none of the rows so far stands there

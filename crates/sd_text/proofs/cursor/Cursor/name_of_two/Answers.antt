@@ -1,5 +1,4 @@
-use Rattle.std.proofs.Common.{arith, refl, sym}
-use Rattle.sd_text.specs.Names.{rows}
+use Rattle.sd_text.proofs.Cited.{arith, refl, rows, sym}
 use Rattle.sd_text.proofs.Placed.{at_its_place, no_place, too_short}
 use Rattle.sd_text.proofs.cursor.Cursor.name_of_two.Goals as goal
 

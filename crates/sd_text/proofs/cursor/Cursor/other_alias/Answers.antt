@@ -1,7 +1,4 @@
-use Rattle.std.proofs.Common.{sym}
-use Rattle.sd_text.specs.Alias.{later_aliases, domain_aliases}
-use Rattle.sd_text.specs.Sid.{domain_alias}
-use Rattle.sd_text.specs.Names.{rows}
+use Rattle.sd_text.proofs.Cited.{domain_alias, domain_aliases, later_aliases, rows, sym}
 use Rattle.sd_text.proofs.AliasTables.{alias_found, no_alias_found}
 use Rattle.sd_text.proofs.cursor.Cursor.other_alias.Goals as goal
 

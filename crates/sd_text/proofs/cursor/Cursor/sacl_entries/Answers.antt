@@ -1,7 +1,4 @@
-use Rattle.std.proofs.Common.{sym}
-use Rattle.std.specs.Prelude.{codes}
-use Rattle.std.proofs.lemmas.Result.{err_from_is_err_and}
-use Rattle.sd_text.specs.Sacl.{sacl_entry}
+use Rattle.sd_text.proofs.Cited.{codes, err_from_is_err_and, sacl_entry, sym}
 use Rattle.sd_text.proofs.Audits.{sacl_more, sacl_end, sacl_fault}
 use Rattle.sd_text.proofs.Loops.{item_takes}
 use Rattle.sd_text.proofs.cursor.Cursor.sacl_entries.Goals as goal

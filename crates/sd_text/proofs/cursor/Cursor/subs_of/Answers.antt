@@ -1,9 +1,4 @@
-use Rattle.std.proofs.Common.{rules, ◌≡◌, ◌<◌, ◌+◌, length, take, arith, sym, refl}
-use Rattle.std.proofs.lemmas.Result.{err_from_is_err_and}
-use Rattle.std.proofs.lemmas.List.{length-take-le}
-use Rattle.std.proofs.lemmas.Grind.{take-set_at}
-use Rattle.std.specs.Prelude.{codes}
-use Rattle.sd_text.specs.Sid.{sub}
+use Rattle.sd_text.proofs.Cited.{arith, codes, err_from_is_err_and, length, length-take-le, refl, rules, sub, sym, take, take-set_at, ◌+◌, ◌<◌, ◌≡◌}
 use Rattle.sd_text.proofs.Loops.{item_more, item_takes}
 use Rattle.sd_text.proofs.Sids.{subs_end, subs_fault, at_least_one}
 use Rattle.sd_text.proofs.cursor.Cursor.subs_of.Goals as goal

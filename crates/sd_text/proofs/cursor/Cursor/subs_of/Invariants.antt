@@ -1,6 +1,4 @@
-use Rattle.std.proofs.Common.{◌≡◌, ◌≤◌, length, take, true}
-use Rattle.std.specs.Prelude.{codes}
-use Rattle.sd_text.specs.Grammar.{begins}
+use Rattle.sd_text.proofs.Cited.{begins, codes, length, take, true, ◌≡◌, ◌≤◌}
 use Rattle.sd_text.proofs.Sids.{SubsReach}
 use Rattle.sd_text.proofs.cursor.Cursor.subs_of.Given as goal
 

@@ -1,5 +1,4 @@
-use Rattle.std.proofs.Common.{length}
-use Rattle.sd_text.specs.Sddl.{dacl_words, with_word, no_words}
+use Rattle.sd_text.proofs.Cited.{dacl_words, length, no_words, with_word}
 use Rattle.sd_text.proofs.Tables.{IsTogether}
 use Rattle.sd_text.proofs.cursor.Cursor.words.Given as goal
 

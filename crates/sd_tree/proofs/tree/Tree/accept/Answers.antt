@@ -1,7 +1,4 @@
-use Rattle.std.proofs.Common.{◌≡◌, [], ◌∷◌, ◌++◌, sym, ap, subst, append_assoc, ◌∙◌}
-use Rattle.sd_edit.specs.Journal.{TreeValue}
-use Rattle.sd_tree.specs.Plans.{IsPlanned}
-use Rattle.sd_tree.specs.Stored.{edits_in}
+use Rattle.sd_tree.proofs.Cited.{IsPlanned, TreeValue, [], ap, append_assoc, edits_in, subst, sym, ◌++◌, ◌∙◌, ◌∷◌, ◌≡◌}
 use Rattle.sd_tree.proofs.Stands.{can_carry_out, stored_more}
 use Rattle.sd_tree.proofs.tree.Tree.accept.Goals as goal
 

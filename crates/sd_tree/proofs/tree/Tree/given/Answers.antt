@@ -1,9 +1,4 @@
-use Rattle.std.proofs.Common.{◌≤◌, sym, subst}
-use Rattle.sd_acl.specs.Ace.{acl_size_of}
-use Rattle.sd_edit.specs.Refusals.{dacl_size, own_entries}
-use Rattle.sd_tree.specs.Stored.{tree_of}
-use Rattle.sd_edit.specs.declared.node.NodeRow.{NodeRow}
-use Rattle.sd_edit.proofs.Given.{given_fits}
+use Rattle.sd_tree.proofs.Cited.{NodeRow, acl_size_of, dacl_size, given_fits, own_entries, subst, sym, tree_of, ◌≤◌}
 use Rattle.sd_tree.proofs.tree.Tree.given.Goals as goal
 
 -- src/listing.rt:71:36

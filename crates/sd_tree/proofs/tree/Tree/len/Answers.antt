@@ -1,6 +1,4 @@
-use Rattle.std.proofs.Common.{arith}
-use Rattle.sd_tree.specs.Stored.{edits_in}
-use Rattle.sd_edit.proofs.Journals.{lawful_short}
+use Rattle.sd_tree.proofs.Cited.{arith, edits_in, lawful_short}
 use Rattle.sd_tree.proofs.tree.Tree.len.Goals as goal
 
 pub len-requires : goal.len-requires

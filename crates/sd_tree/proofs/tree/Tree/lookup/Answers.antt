@@ -1,6 +1,4 @@
-use Rattle.std.proofs.Common.{ap, ◌∙◌}
-use Rattle.sd_edit.specs.Answers.{kind_at}
-use Rattle.sd_tree.specs.Stored.{tree_of}
+use Rattle.sd_tree.proofs.Cited.{ap, kind_at, tree_of, ◌∙◌}
 use Rattle.sd_tree.proofs.tree.Tree.lookup.Goals as goal
 
 pub returns : goal.returns

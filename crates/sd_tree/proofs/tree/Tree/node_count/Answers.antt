@@ -1,5 +1,4 @@
-use Rattle.std.proofs.Common.{sym, ap, ◌∙◌}
-use Rattle.std.specs.FinMap.{len}
+use Rattle.sd_tree.proofs.Cited.{ap, len, sym, ◌∙◌}
 use Rattle.sd_tree.proofs.Fitting.{nodes_count}
 use Rattle.sd_tree.proofs.tree.Tree.node_count.Goals as goal
 

@@ -1,6 +1,4 @@
-use Rattle.std.proofs.Common.{sym}
-use Rattle.std.proofs.lemmas.Result.{err_from_is_err_and}
-use Rattle.sd_edit.specs.Journal.{opening_within}
+use Rattle.sd_tree.proofs.Cited.{err_from_is_err_and, opening_within, sym}
 use Rattle.sd_tree.proofs.Stands.{stored_first, root_error}
 use Rattle.sd_tree.proofs.tree.Tree.opening_within.Goals as goal
 

@@ -1,6 +1,4 @@
-use Rattle.std.proofs.Common.{ap}
-use Rattle.sd_edit.specs.Journal.{TreeValue}
-use Rattle.sd_tree.specs.Stored.{tree_of}
+use Rattle.sd_tree.proofs.Cited.{TreeValue, ap, tree_of}
 use Rattle.sd_tree.proofs.Stands.{planned_of_tree, refused_of_tree}
 use Rattle.sd_tree.proofs.tree.Tree.plan_or_refusal.Goals as goal
 

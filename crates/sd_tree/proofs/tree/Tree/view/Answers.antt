@@ -1,6 +1,4 @@
-use Rattle.std.proofs.Common.{ap, ◌∙◌}
-use Rattle.sd_edit.specs.Journal.{TreeValue, replay}
-use Rattle.sd_tree.specs.Stored.{edits_in}
+use Rattle.sd_tree.proofs.Cited.{TreeValue, ap, edits_in, replay, ◌∙◌}
 use Rattle.sd_tree.proofs.Stands.{standing_from_stored}
 use Rattle.sd_tree.proofs.tree.Tree.view.Goals as goal
 

@@ -1,7 +1,4 @@
-use Rattle.std.proofs.Common.{sym, ◌∙◌}
-use Rattle.sd_edit.specs.Refusals.{place_tests, list_tests}
-use Rattle.sd_tree.specs.Stored.{tree_of}
-use Rattle.sd_edit.proofs.Refused.{fits_first}
+use Rattle.sd_tree.proofs.Cited.{fits_first, list_tests, place_tests, sym, tree_of, ◌∙◌}
 use Rattle.sd_tree.proofs.tree_view.TreeView.addition_refusal.Goals as goal
 
 pub returns-in-Some : goal.returns-in-Some

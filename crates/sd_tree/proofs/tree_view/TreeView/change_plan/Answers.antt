@@ -1,10 +1,4 @@
-use Rattle.std.proofs.Common.{◌∙◌, ap, sym, subst}
-use Rattle.std.proofs.lemmas.Bool.{not-true}
-use Rattle.sd_edit.specs.Plain.{PlainTree}
-use Rattle.sd_edit.specs.Edits.{ChangesOneNode}
-use Rattle.sd_tree.specs.Plans.{changed_row}
-use Rattle.sd_edit.specs.Refusals.{has_child}
-use Rattle.sd_tree.specs.Stored.{tree_of}
+use Rattle.sd_tree.proofs.Cited.{ChangesOneNode, PlainTree, ap, changed_row, has_child, not-true, subst, sym, tree_of, ◌∙◌}
 use Rattle.sd_tree.proofs.Adding.{changed_there}
 use Rattle.sd_tree.proofs.OneNode.{trustee_stays, childless_stays}
 use Rattle.sd_tree.proofs.tree_view.TreeView.change_plan.Goals.{then-is_of_trustee, else-is_of_trustee}

@@ -1,6 +1,4 @@
-use Rattle.std.proofs.Common.{sym, ap, ◌∙◌, arith}
-use Rattle.sd_path.specs.Names.{is_within}
-use Rattle.sd_tree.specs.declared.node.Node.{Node}
+use Rattle.sd_tree.proofs.Cited.{Node, ap, arith, is_within, sym, ◌∙◌}
 use Rattle.sd_tree.proofs.Children.{childless_last, next_tells}
 use Rattle.sd_tree.proofs.Kept.{a_node}
 use Rattle.sd_tree.proofs.tree_view.TreeView.has_child.Goals as goal

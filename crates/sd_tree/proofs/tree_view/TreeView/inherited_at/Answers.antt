@@ -1,12 +1,6 @@
-use Rattle.std.proofs.Common.{◌≡◌, sym, ap, ◌∙◌}
-use Rattle.std.proofs.lemmas.Result.{IfOk-weaker}
-use Rattle.std.specs.List.{HoldsAt}
-use Rattle.sd_path.specs.Names.{up}
-use Rattle.sd_tree.specs.Stored.{path_of_node, tree_of}
-use Rattle.sd_tree.specs.Node.{whole_with}
+use Rattle.sd_tree.proofs.Cited.{HoldsAt, IfOk-weaker, ap, path_of_node, sym, tree_of, up, whole_at_root, whole_with, ◌∙◌, ◌≡◌}
 use Rattle.sd_tree.proofs.Beside.{dacl_beside}
 use Rattle.sd_tree.proofs.OneDacl.{own_alone}
-use Rattle.sd_edit.proofs.NewRow.{whole_at_root}
 use Rattle.sd_tree.proofs.NewNode.{stored_whole, below_stored}
 use Rattle.sd_tree.proofs.tree_view.TreeView.inherited_at.Goals as goal
 

@@ -1,8 +1,4 @@
-use Rattle.std.proofs.Common.{◌≡◌, Option, Some, None, sym, ap, ◌∙◌}
-use Rattle.std.proofs.lemmas.Result.{err_from_is_err_and}
-use Rattle.sd_tree.specs.Stored.{path_of_node}
-use Rattle.sd_tree.specs.declared.node.Node.{Node}
-use Rattle.sd_edit.proofs.Rows.{row_at-insert_same}
+use Rattle.sd_tree.proofs.Cited.{Node, None, Option, Some, ap, err_from_is_err_and, path_of_node, row_at-insert_same, sym, ◌∙◌, ◌≡◌}
 use Rattle.sd_tree.proofs.Adding.{insertion}
 use Rattle.sd_tree.proofs.Rebuilding.{large_error, row_there}
 use Rattle.sd_tree.proofs.NewNode.{size_error}

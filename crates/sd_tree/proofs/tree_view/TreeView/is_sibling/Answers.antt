@@ -1,11 +1,5 @@
-use Rattle.std.proofs.Common.{◌≡◌, ◌+◌, ◌≤◌, [], ◌∷◌, ◌++◌, length, false, true, subst, sym, ap, ◌∙◌, get_or, length-append, arith, rules}
-use Rattle.sd_path.specs.Names.{Names, up, is_root, is_within}
-use Rattle.sd_path.proofs.Paths.{up-push, within_rest}
-use Rattle.sd_path.proofs.PathBytes.{length-up}
-use Rattle.sd_tree.specs.Sharing.{InheritOne}
-use Rattle.sd_tree.specs.Stored.{path_of_node}
-use Rattle.sd_tree.specs.declared.node.Node.{Node}
-use Rattle.sd_edit.specs.declared.node.NodeRow.{NodeRow}
+use Rattle.sd_tree.proofs.Cited.{InheritOne, Names, Node, NodeRow, [], ap, arith, false, get_or, is_root, is_within, length, length-up, path_of_node, rules, subst, sym, true, up, up-push, within_rest, ◌++◌, ◌+◌, ◌∙◌, ◌∷◌, ◌≡◌, ◌≤◌}
+use Rattle.std.proofs.Common.{length-append}
 use Rattle.sd_tree.proofs.OneDacl.{alike_inherit_one}
 use Rattle.sd_tree.proofs.tree_view.TreeView.is_sibling.Goals as goal
 

@@ -1,10 +1,5 @@
-use Rattle.std.proofs.Common.{sym, subst, ◌∙◌}
-use Rattle.sd_edit.specs.Plain.{PlainTree}
-use Rattle.sd_edit.specs.Edits.{ChangesOneNode}
-use Rattle.sd_tree.specs.Stored.{tree_of}
-use Rattle.sd_edit.specs.declared.node.NodeRow.{NodeRow}
+use Rattle.sd_tree.proofs.Cited.{ChangesOneNode, NodeRow, PlainTree, same_row_stays, subst, sym, tree_of, ◌∙◌}
 use Rattle.sd_tree.proofs.Adding.{changed_there}
-use Rattle.sd_edit.proofs.Trustees.{same_row_stays}
 use Rattle.sd_tree.proofs.tree_view.TreeView.keeping_plan.Goals as goal
 
 pub one_node_plan-requires-clause-alone : goal.one_node_plan-requires-clause-alone

@@ -1,9 +1,4 @@
-use Rattle.std.proofs.Common.{[], ◌∷◌, ◌++◌, sym, ◌∙◌}
-use Rattle.sd_path.specs.Names.{is_root, is_within}
-use Rattle.sd_edit.specs.Refusals.{place_tests, node_tests}
-use Rattle.sd_tree.specs.Stored.{tree_of}
-use Rattle.sd_edit.specs.declared.refusal.EditRefusal.TheVariants.{IsRoot, IntoItself}
-use Rattle.sd_edit.proofs.Refused.{fits_first, fits_later}
+use Rattle.sd_tree.proofs.Cited.{IntoItself, IsRoot, [], fits_first, fits_later, is_root, is_within, node_tests, place_tests, sym, tree_of, ◌++◌, ◌∙◌, ◌∷◌}
 use Rattle.sd_tree.proofs.tree_view.TreeView.move_refusal.Goals as goal
 
 pub returns-in-Some-absence : goal.returns-in-Some-absence

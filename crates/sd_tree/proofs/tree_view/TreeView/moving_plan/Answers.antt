@@ -1,15 +1,4 @@
-use Rattle.std.proofs.Common.{◌≡◌, ◌+◌, ◌-◌, ◌<◌, List, Option, Some, None, length, get_or, inl, inr, sym, ap, ◌∙◌, arith}
-use Rattle.std.proofs.lemmas.List.{length-map}
-use Rattle.std.proofs.lemmas.Result.{err_from_is_err_and}
-use Rattle.std.specs.FinMap.{insert}
-use Rattle.sd_sid.specs.Mapping.{MappingValue}
-use Rattle.sd_acl.specs.declared.ace.Ace.{Ace}
-use Rattle.sd_path.specs.Names.{Names, is_within}
-use Rattle.sd_edit.specs.Edits.{moved}
-use Rattle.sd_edit.specs.Plain.{dacl_at}
-use Rattle.sd_tree.specs.Stored.{path_of_node, tree_of}
-use Rattle.sd_tree.specs.Node.{whole_with}
-use Rattle.sd_tree.specs.declared.node.Node.{Node}
+use Rattle.sd_tree.proofs.Cited.{Ace, List, MappingValue, Names, Node, None, Option, Some, ap, arith, dacl_at, err_from_is_err_and, get_or, inl, inr, insert, is_within, length, length-map, moved, path_of_node, sym, tree_of, whole_with, ◌+◌, ◌-◌, ◌<◌, ◌∙◌, ◌≡◌}
 use Rattle.sd_tree.proofs.Moves.{first_refused, is_moved, gap_behind, plan_moved, deep_refused, none_too_deep, large_late}
 use Rattle.sd_tree.proofs.Rebuilding.{row_there}
 use Rattle.sd_tree.proofs.NewNode.{size_error}

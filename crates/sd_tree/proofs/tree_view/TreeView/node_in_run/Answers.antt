@@ -1,7 +1,4 @@
-use Rattle.std.proofs.Common.{List, Option, ap, sym, ◌∙◌}
-use Rattle.std.proofs.lemmas.Result.{IfOk-weaker, IfErr-weaker}
-use Rattle.sd_acl.specs.declared.ace.Ace.{Ace}
-use Rattle.sd_tree.specs.Node.{whole_with}
+use Rattle.sd_tree.proofs.Cited.{Ace, IfErr-weaker, IfOk-weaker, List, Option, ap, sym, whole_with, ◌∙◌}
 use Rattle.sd_tree.proofs.Beside.{made_beside}
 use Rattle.sd_tree.proofs.NewNode.{size_error}
 use Rattle.sd_tree.proofs.tree_view.TreeView.node_in_run.Goals as goal

@@ -1,6 +1,4 @@
-use Rattle.std.proofs.Common.{ap, sym, ◌∙◌}
-use Rattle.sd_tree.specs.declared.node.Node.{Node}
-use Rattle.sd_edit.proofs.Rows.{compared_same}
+use Rattle.sd_tree.proofs.Cited.{Node, ap, compared_same, sym, ◌∙◌}
 use Rattle.sd_tree.proofs.tree_view.TreeView.node_near.Goals as goal
 
 pub returns-then-eq-clause-stands : goal.returns-then-eq-clause-stands

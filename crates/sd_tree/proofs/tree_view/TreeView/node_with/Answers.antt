@@ -1,14 +1,4 @@
-use Rattle.std.proofs.Common.{◌≡◌, ap, ◌∙◌}
-use Rattle.std.proofs.lemmas.Result.{IfOk-weaker, IfErr-weaker}
-use Rattle.std.specs.FinMap.{insert}
-use Rattle.sd_edit.specs.Additions.{AdditionValue}
-use Rattle.sd_edit.specs.Plain.{dacl_at}
-use Rattle.sd_tree.specs.Stored.{tree_of, path_of_node}
-use Rattle.sd_tree.specs.Node.{whole_with}
-use Rattle.sd_tree.specs.declared.node.Node.{Node}
-use Rattle.sd_edit.specs.declared.node.NodeRow.{NodeRow}
-use Rattle.sd_edit.proofs.Rows.{row_at-insert_same}
-use Rattle.sd_edit.proofs.Below.{parent_there}
+use Rattle.sd_tree.proofs.Cited.{AdditionValue, IfErr-weaker, IfOk-weaker, Node, NodeRow, ap, dacl_at, insert, parent_there, path_of_node, row_at-insert_same, tree_of, whole_with, ◌∙◌, ◌≡◌}
 use Rattle.sd_tree.proofs.Rebuilding.{large_error, row_there}
 use Rattle.sd_tree.proofs.NewNode.{size_error}
 use Rattle.sd_tree.proofs.tree_view.TreeView.node_with.Goals as goal

@@ -1,5 +1,4 @@
-use Rattle.std.proofs.Common.{is_some, ap, sym, ◌∙◌}
-use Rattle.std.proofs.lemmas.Bool.{false≢true}
+use Rattle.sd_tree.proofs.Cited.{ap, false≢true, is_some, sym, ◌∙◌}
 use Rattle.sd_tree.proofs.Kept.{row_absent}
 use Rattle.sd_tree.proofs.tree_view.TreeView.place_of.Goals as goal
 

@@ -1,8 +1,4 @@
-use Rattle.std.proofs.Common.{◌≡◌, None, sym, ◌∙◌}
-use Rattle.std.proofs.lemmas.Result.{err_from_is_err_and}
-use Rattle.sd_edit.specs.Refusals.{early_refusal}
-use Rattle.sd_tree.specs.Stored.{tree_of}
-use Rattle.sd_edit.proofs.Refused.{refusal_by_parts}
+use Rattle.sd_tree.proofs.Cited.{None, early_refusal, err_from_is_err_and, refusal_by_parts, sym, tree_of, ◌∙◌, ◌≡◌}
 use Rattle.sd_tree.proofs.Fitting.{no_large_planned, late_error}
 use Rattle.sd_tree.proofs.tree_view.TreeView.plan_or_refusal.Goals as goal
 

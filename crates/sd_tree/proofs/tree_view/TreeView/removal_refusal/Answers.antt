@@ -1,8 +1,4 @@
-use Rattle.std.proofs.Common.{◌≡◌, true, false, is_some, sym, ap, ◌∙◌}
-use Rattle.sd_path.specs.Names.{is_root}
-use Rattle.sd_edit.specs.Plain.{row_at}
-use Rattle.sd_edit.specs.Refusals.{has_child}
-use Rattle.sd_tree.specs.Stored.{tree_of}
+use Rattle.sd_tree.proofs.Cited.{ap, false, has_child, is_root, is_some, row_at, sym, tree_of, true, ◌∙◌, ◌≡◌}
 use Rattle.sd_tree.proofs.Kept.{row_absent}
 use Rattle.sd_tree.proofs.Rebuilding.{row_there}
 use Rattle.sd_tree.proofs.tree_view.TreeView.removal_refusal.Goals as goal

@@ -1,6 +1,4 @@
-use Rattle.std.proofs.Common.{length, ap, ◌∙◌, arith}
-use Rattle.std.specs.FinMap.{len}
-use Rattle.sd_tree.specs.Stored.{tree_of}
+use Rattle.sd_tree.proofs.Cited.{ap, arith, len, length, tree_of, ◌∙◌}
 use Rattle.sd_tree.proofs.Fitting.{nodes_count, room_full, room_left}
 use Rattle.sd_tree.proofs.tree_view.TreeView.room_refusal.Goals as goal
 

@@ -1,6 +1,4 @@
-use Rattle.std.proofs.lemmas.Result.{err_from_is_err_and}
-use Rattle.std.specs.FinMap.{insert}
-use Rattle.sd_tree.specs.Stored.{tree_of}
+use Rattle.sd_tree.proofs.Cited.{err_from_is_err_and, insert, tree_of}
 use Rattle.sd_tree.proofs.Staying.{is_taken, all_changed}
 use Rattle.sd_tree.proofs.tree_view.TreeView.run_plan.Goals as goal
 

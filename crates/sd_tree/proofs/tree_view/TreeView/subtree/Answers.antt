@@ -1,10 +1,6 @@
-use Rattle.std.proofs.Common.{◌≡◌, ◌+◌, ◌-◌, [], ◌∷◌, ◌++◌, get_or, length, ap, sym, ◌∙◌, arith, add-zero, length-append}
-use Rattle.std.proofs.lemmas.Result.{err_from_is_err_and}
-use Rattle.sd_path.specs.Names.{up}
-use Rattle.sd_tree.specs.Stored.{path_of_node, tree_of}
-use Rattle.sd_tree.specs.declared.node.Node.{Node}
+use Rattle.sd_tree.proofs.Cited.{Node, [], add-zero, ap, arith, err_from_is_err_and, get_or, length, parent_there, path_of_node, sym, tree_of, up, ◌++◌, ◌+◌, ◌-◌, ◌∙◌, ◌∷◌, ◌≡◌}
+use Rattle.std.proofs.Common.{length-append}
 use Rattle.sd_tree.proofs.Kept.{row_here}
-use Rattle.sd_edit.proofs.Below.{parent_there}
 use Rattle.sd_tree.proofs.Rebuilding.{parent_place}
 use Rattle.sd_tree.proofs.Under.{under_first, IsNext, next_stays, next_made, next_error, next_more, stays_more}
 use Rattle.sd_tree.proofs.tree_view.TreeView.subtree.Goals as goal

@@ -1,7 +1,5 @@
 -- The run so far; the parent that was read last, and the node right before the next.
-use Rattle.std.proofs.Common.{◌≡◌, ℕ, ◌+◌, ◌-◌, ◌<◌, true, get_or, length}
-use Rattle.sd_tree.specs.Plans.{AreUnder}
-use Rattle.sd_tree.specs.declared.node.Node.{Node}
+use Rattle.sd_tree.proofs.Cited.{AreUnder, Node, get_or, length, true, ℕ, ◌+◌, ◌-◌, ◌<◌, ◌≡◌}
 use Rattle.sd_tree.proofs.tree_view.TreeView.subtree.Given as goal
 
 abbrev pub invariant-loop-k : goal.invariant-loop-k

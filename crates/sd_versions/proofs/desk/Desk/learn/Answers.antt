@@ -1,11 +1,4 @@
-use Rattle.std.proofs.Common.{◌≡◌, ◌<◌, ◌≤◌, length, take, max, slice_index_or, slice_set, subst, sym, ap, ◌∙◌, arith}
-use Rattle.std.proofs.lemmas.List.{length-take-le, get_or_read}
-use Rattle.std.proofs.lemmas.List.Elements.{All-get_or}
-use Rattle.sd_edit.specs.Machine.{Machine, Steps, floor_of, with_floor}
-use Rattle.sd_edit.specs.Machine.{longer}
-use Rattle.sd_versions.specs.Desk.{machine_of}
-use Rattle.sd_edit.specs.declared.request.Request.TheVariants.{Learn}
-use Rattle.sd_edit.specs.declared.request.Reply.TheVariants.{Learned}
+use Rattle.sd_versions.proofs.Cited.{All-get_or, Learn, Learned, Machine, Steps, ap, arith, floor_of, get_or_read, length, length-take-le, longer, machine_of, max, slice_index_or, slice_set, subst, sym, take, with_floor, ◌<◌, ◌∙◌, ◌≡◌, ◌≤◌}
 use Rattle.sd_versions.proofs.Keeping.{is_reader, floor_is, longer_is, floor_set}
 use Rattle.sd_versions.proofs.desk.Desk.learn.Goals as goal
 

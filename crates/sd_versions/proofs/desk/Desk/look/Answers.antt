@@ -1,5 +1,4 @@
-use Rattle.std.proofs.Common.{length, ap, ◌∙◌}
-use Rattle.sd_edit.specs.Machine.{Machine, with_look}
+use Rattle.sd_versions.proofs.Cited.{Machine, ap, length, with_look, ◌∙◌}
 use Rattle.sd_versions.proofs.Keeping.{look_set}
 use Rattle.sd_versions.proofs.desk.Desk.look.Goals as goal
 

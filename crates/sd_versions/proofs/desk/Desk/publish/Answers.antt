@@ -1,8 +1,4 @@
-use Rattle.std.proofs.Common.{length, ap, ◌∙◌, subst}
-use Rattle.sd_versions.specs.Desk.{machine_of}
-use Rattle.sd_edit.specs.Machine.{Machine, Steps}
-use Rattle.sd_edit.specs.declared.request.Request.TheVariants.{Publish}
-use Rattle.sd_edit.specs.declared.request.Reply.TheVariants.{Published}
+use Rattle.sd_versions.proofs.Cited.{Machine, Publish, Published, Steps, ap, length, machine_of, subst, ◌∙◌}
 use Rattle.sd_versions.proofs.Keeping.{published_steps, published_within}
 use Rattle.sd_versions.proofs.desk.Desk.publish.Goals as goal
 

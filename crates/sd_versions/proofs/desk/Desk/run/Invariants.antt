@@ -1,5 +1,4 @@
-use Rattle.std.proofs.Common.{◌≡◌, ◌≤◌, take, length, vec_len, vec_capacity}
-use Rattle.sd_edit.specs.Machine.{Runs}
+use Rattle.sd_versions.proofs.Cited.{Runs, length, take, vec_capacity, vec_len, ◌≡◌, ◌≤◌}
 use Rattle.sd_versions.proofs.desk.Desk.run.Given as goal
 
 -- the first requests are done, and there is room for the replies to the others

@@ -1,5 +1,4 @@
--- The words of the rules, and the lemmas on masks, tests and lists, that most proofs cite: passed on from one place.
--- Declares nothing.
+-- What these proofs cite of other modules, passed on from one place.
 pub use Rattle.sd_acl.specs.Ace.{is_allow, is_inherit_only}
 pub use Rattle.sd_acl.specs.declared.ace.Ace.{Ace}
 pub use Rattle.sd_acl.specs.declared.ace.AceKind.TheVariants.{Allow, Deny}
