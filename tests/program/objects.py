@@ -3,12 +3,11 @@
 
 Each row of tests/ whose command takes `--json`, and whose input has less than 64 KiB, is run with it and without:
 its status and its standard error are the same, and each line of its output is made again from its object, by the table
-of docs/JSON.md, whose rows are those of crates/sd_json/src/table.rt. Keys of all bytes are tried beside them.
+of crates/sd_json/src/table.rt; tests/rows validates the object. Keys of all bytes are tried beside them.
 """
 import importlib.machinery
 import importlib.util
 import json
-import re
 import subprocess
 import sys
 from concurrent.futures import ThreadPoolExecutor
@@ -19,32 +18,26 @@ sys.path.append(str(TOP / "tests"))
 from tally import close, holds  # noqa: E402
 
 PROGRAM = sys.argv[1]
-MARKS = "$#,*"
 COMMANDS = "verdict why who compare lint print sort tobin frombin rights sid each script serve audit".split()
 
 
 def load(path):
     """A file of Python whose name has no ending."""
-    loader = importlib.machinery.SourceFileLoader("rows", str(path))
-    module = importlib.util.module_from_spec(importlib.util.spec_from_loader("rows", loader))
-    sys.modules["rows"] = module
+    name = path.replace("/", "_")
+    loader = importlib.machinery.SourceFileLoader(name, str(TOP / path))
+    module = importlib.util.module_from_spec(importlib.util.spec_from_loader(name, loader))
+    sys.modules[name] = module
     loader.exec_module(module)
     return module
 
 
-def names_of(words):
-    return tuple(word[1:] for word in words.split(" ") if word[0] in MARKS)
+ROWS, KINDS = load("tests/rows"), load("tests/pages/json")
+MARKS = KINDS.MARKS
 
 
-def table_of_page():
-    """The rows of docs/JSON.md: the words of a line by its kind and names."""
-    page = (TOP / "docs/JSON.md").read_text()
-    rows = re.findall(r"^\| `([^`]+)` \| `([^`]+)` \|$", page, re.M)
-    table = {(kind, names_of(words)): words for kind, words in rows}
-    assert len(table) == len(rows), "two rows of one kind have the same names"
-    source = (TOP / "crates/sd_json/src/table.rt").read_text()
-    assert rows == re.findall(r'\(\s*"([^"]+)",\s*"([^"]+)",?\s*\)', source), "the page's rows aren't those of table.rt"
-    return table
+def table_of_kinds():
+    """The words of a line by its kind and names."""
+    return {(kind, tuple(KINDS.members(words))): words for kind, words in KINDS.rows()}
 
 
 def line_of(object_, table):
@@ -83,7 +76,7 @@ def run(arguments, input_):
 
 
 def compare(arguments, input_, table):
-    """What differs between an answer and the one that its objects make again; None if nothing does."""
+    """What differs between an answer and the one that its objects make again, or an object outside of the schema."""
     plain = run(arguments, input_)
     shown = run(["--json", *arguments], input_)
     if plain.returncode == shown.returncode == 2 and plain.stdout == shown.stdout:
@@ -91,7 +84,7 @@ def compare(arguments, input_, table):
     try:
         same = (shown.returncode, shown.stderr) == (plain.returncode, plain.stderr)
         if same and lines_of(shown.stdout, table) == plain.stdout:
-            return None
+            return "".join(ROWS.outside(shown.stdout)[:1])
     except (AssertionError, KeyError, ValueError) as error:
         return "%s: %r: %r" % (arguments, error, shown.stdout[:300])
     return "%s: %r, not %r" % (arguments, (shown.returncode, shown.stdout[:300]), (plain.returncode, plain.stdout[:300]))
@@ -111,9 +104,8 @@ def takes_json(arguments):
 
 
 def cases():
-    rows = load(TOP / "tests/rows")
     for path in sorted((TOP / "tests").rglob("*.rows")):
-        found, rejected = rows.read(path)
+        found, rejected = ROWS.read(path)
         assert not rejected, rejected
         yield from ((row.arguments, row.input) for row in found if takes_json(row.arguments) and len(row.input) < 0x1_0000)
     for byte in set(range(256)) - {9, 10}:
@@ -121,7 +113,7 @@ def cases():
 
 
 def main():
-    table = table_of_page()
+    table = table_of_kinds()
     with ThreadPoolExecutor() as processors:
         for found in processors.map(lambda case: compare(*case, table), cases()):
             holds("objects.py", not found, found)
