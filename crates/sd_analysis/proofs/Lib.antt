@@ -15,6 +15,7 @@ pub mod Placed
 pub mod Unnamed
 pub mod Effects
 pub mod Alike
+pub mod Each
 pub mod Restricted
 pub mod Judged
 pub mod Creators

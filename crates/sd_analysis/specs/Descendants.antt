@@ -1,7 +1,7 @@
 -- What a list decides of what is made in its container: the lists of new objects and containers in it, and below new
 -- containers. A child's owner and group are open: CREATOR OWNER and CREATOR GROUP stand for them, which no effective
 -- inherited entry names else ([MS-DTYP] 2.5.3.4).
-use Rattle.std.specs.Prelude.{◌≡◌, ℕ, Bool, ◌||◌, if◌then◌else◌, List, [], ◌∷◌, map, Option, Some}
+use Rattle.std.specs.Prelude.{◌≡◌, ℕ, Bool, ◌||◌, if◌then◌else◌, List, [], ◌∷◌, map, Some}
 use Rattle.std.specs.List.{All, flat_map, list_any}
 use Rattle.sd_sid.specs.Mapping.{MappingValue}
 use Rattle.sd_sid.specs.Sid.{SidValue}
@@ -16,6 +16,8 @@ use Rattle.sd_analysis.specs.declared.descendants.Descendant.{Descendant}
 use Rattle.sd_analysis.specs.declared.descendants.Descendant.TheVariants.{Object, Container}
 use Rattle.sd_analysis.specs.declared.descendants.Descendant.TheVariants.{ObjectBelow, ContainerBelow}
 use Rattle.sd_analysis.specs.declared.descendants_compare.DescendantChange.{DescendantChange}
+use Rattle.sd_analysis.specs.declared.descendants_who.DescendantAccess.{DescendantAccess}
+use Rattle.sd_analysis.specs.Who.{AllBeyond, HasEachOnce, IsMost, IsWho}
 
 -- what the entries hand on to a child of the kind
 abbrev pub inherited_entries : MappingValue → NodeKind → List Ace → List Ace
@@ -58,3 +60,18 @@ pub record AreDescendantChanges (g : MappingValue) (base : List (SidValue × Gro
   pub each : map (λ (c : DescendantChange). c.descendant) changes
       ≡ descendants_of (stops_somewhere old || stops_somewhere new)
   pub right : All (IsDescendantChange g base old new) changes
+
+-- who is granted which of the rights, of such a descendant of a container with this list
+pub record IsDescendantAccess (g : MappingValue) (base : List (SidValue × GroupState)) (es : List Ace) (rights : ℕ)
+    (a : DescendantAccess) : Type 0 where
+  pub list : a.list.items ≡ list_of g a.descendant es
+  pub exact : IsWho (Some creator_owner) (Some a.list.items) g base rights a.accesses.items
+  pub most : IsMost (Some creator_owner) (Some a.list.items) g base rights a.accesses.items
+  pub once : HasEachOnce rights a.accesses.items
+  pub beyond : AllBeyond base a.accesses.items
+
+-- each descendant has its own
+pub record AreDescendantAccesses (g : MappingValue) (base : List (SidValue × GroupState)) (es : List Ace) (rights : ℕ)
+    (all : List DescendantAccess) : Type 0 where
+  pub each : map (λ (a : DescendantAccess). a.descendant) all ≡ descendants_of (stops_somewhere es)
+  pub right : All (IsDescendantAccess g base es rights) all

@@ -27,6 +27,7 @@ mod compare_table;
 mod concern;
 mod descendants;
 mod descendants_compare;
+mod descendants_who;
 mod effect;
 mod laws;
 mod redundancy;
@@ -43,6 +44,7 @@ pub use compare_report::Change;
 pub use compare_sides::DescriptorRef;
 pub use descendants::{Descendant, descendants_of, inherited_list};
 pub use descendants_compare::{DescendantChange, compare_descendants, descendant_ref};
+pub use descendants_who::{DescendantAccess, who_descendants};
 pub use effect::has_effect;
 pub use laws::{
     below_is_as_in_it, bit_is_its_check, creators_stand_for_all, unnamed_users_are_alike,
