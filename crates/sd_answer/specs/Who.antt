@@ -42,5 +42,9 @@ with_access lines access =
 abbrev pub who_lines : List Access → List LineValue
 who_lines accesses = fold with_access [] accesses
 
+-- the lines, each after a head
+abbrev pub headed_who_text : Spelling → List ℕ → List Access → List ℕ
+headed_who_text spelling head accesses = lines_text spelling head (who_lines accesses)
+
 abbrev pub who_text : Spelling → List Access → List ℕ
-who_text spelling accesses = lines_text spelling [] (who_lines accesses)
+who_text spelling accesses = headed_who_text spelling [] accesses

@@ -3,11 +3,15 @@ ghost use Rattle.std.specs.Prelude.{◌≡◌, IfOk, Some, string_bytes};
 ghost use Rattle.sd_check.specs.Check.{entries_of};
 ghost use Rattle.sd_inheritance.specs.Inheritance.{creator_owner};
 ghost use Rattle.sd_answer.specs.Compare.{gains_and_losses};
-ghost use Rattle.sd_answer.specs.Descendants.{descendant_head, descendant_lines, descendants_text, inheritance_text};
+ghost use Rattle.sd_answer.specs.Descendants.{descendant_head, descendant_lines, descendant_who_lines};
+ghost use Rattle.sd_answer.specs.Descendants.{descendants_text, descendants_who_text, inheritance_text};
 
 use crate::compare::gains_and_losses;
 use crate::verdict_lines::Spelling;
-use sd_analysis::{Comparison, Descendant, DescendantChange, DescriptorRef, descendant_ref};
+use crate::who::headed_who_text;
+use sd_analysis::{
+    Comparison, Descendant, DescendantAccess, DescendantChange, DescriptorRef, descendant_ref,
+};
 use sd_check::DaclRef;
 use std::alloc::{AllocError, Global};
 
@@ -95,4 +99,35 @@ pub fn inheritance_text(was: bool, is: bool) -> &'static str
     } else {
         "inheritance: is protected, was not\n"
     }
+}
+
+/// Whom rights of each descendant are granted to, as `new objects: 0x1 to S-1-1-0`, or that it inherits nothing. The
+/// only error is out of memory.
+pub fn descendants_who_text(
+    alloc: Global,
+    spelling: Spelling,
+    all: &[DescendantAccess],
+) -> Result<String, AllocError>
+    ensures { IfOk result (λ text. string_bytes text ≡ descendants_who_text spelling all.now) }
+{
+    let mut text = String::new(alloc);
+    for access in all {
+        let lines = descendant_who_lines(alloc, spelling, access)?;
+        text.push_str(lines.as_str())?;
+    }
+    Ok(text)
+}
+
+fn descendant_who_lines(
+    alloc: Global,
+    spelling: Spelling,
+    access: &DescendantAccess,
+) -> Result<String, AllocError>
+    ensures { IfOk result (λ text. string_bytes text ≡ descendant_who_lines spelling access.now) }
+{
+    let head = descendant_head(access.descendant);
+    if access.list.is_empty() {
+        return format!(in alloc; "{head}nothing is inherited\n");
+    }
+    headed_who_text(alloc, spelling, head, &access.accesses)
 }

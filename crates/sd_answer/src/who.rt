@@ -1,7 +1,8 @@
 //! The rights that `who` is asked about, and its lines: rights, and whom they are granted to.
 ghost use Rattle.std.specs.Prelude.{◌≡◌, IfOk, OnOk, string_bytes};
 ghost use Rattle.sd_answer.specs.Lines.{values};
-ghost use Rattle.sd_answer.specs.Who.{alternative_text, holder_text, rights_asked, unless_text, who_text, with_access};
+ghost use Rattle.sd_answer.specs.Who.{alternative_text, headed_who_text, holder_text, rights_asked, unless_text};
+ghost use Rattle.sd_answer.specs.Who.{who_text, with_access};
 
 use crate::lines::{BitsLine, Printer, join, push_sid};
 use crate::verdict_lines::Spelling;
@@ -32,12 +33,24 @@ pub fn who_text(
 ) -> Result<String, AllocError>
     ensures { IfOk result (λ text. string_bytes text ≡ who_text spelling accesses.now) }
 {
+    headed_who_text(alloc, spelling, "", accesses)
+}
+
+/// The lines of accesses, each after a head.
+pub(crate) fn headed_who_text(
+    alloc: Global,
+    spelling: Spelling,
+    head: &str,
+    accesses: &[Access],
+) -> Result<String, AllocError>
+    ensures { IfOk result (λ text. string_bytes text ≡ headed_who_text spelling head.now accesses.now) }
+{
     let mut lines = Vec::new(alloc);
     for access in accesses {
         join_access(alloc, &mut lines, access)?;
     }
     let mut text = String::new(alloc);
-    Printer { alloc, spelling }.push_lines(&mut text, "", &lines)?;
+    Printer { alloc, spelling }.push_lines(&mut text, head, &lines)?;
     Ok(text)
 }
 
