@@ -41,7 +41,7 @@ use Rattle.sd_answer.specs.Who.{rights_asked, who_text}
 use Rattle.sd_answer.specs.Why.{why_text}
 use Rattle.sd_answer.specs.Word.{AreGroups, IsFirstNoGroup, IsFirstNoWord, IsToken, texts}
 use Rattle.sd_commands.specs.Analysis.{AreAccesses}
-use Rattle.sd_commands.specs.Logon.{words_for}
+use Rattle.sd_commands.specs.Logon.{fits_logon, words_for}
 use Rattle.sd_commands.specs.Bytes.{BytesRead, bytes_read, form_name, has_sacl, without_sacl}
 use Rattle.sd_usage.specs.declared.row.TextCommand.{TextCommand}
 use Rattle.sd_usage.specs.declared.row.TextCommand.TheVariants as questions
@@ -243,11 +243,21 @@ AnswersWithLogon settings form d user asked words answer =
     (all : List (Bor (List ℕ))) × (texts all ≡ words_for settings.logon (texts words))
     × AnswersWords settings form d user asked all answer
 
+-- what is answered of a user whose mask and words these arguments are
+abbrev pub AnswersMask : Settings → Form → List (Bor (List ℕ)) → DescriptorValue → SidValue → AnswerValue → Type 0
+AnswersMask settings form arguments d user = AnswersOfMask settings (argument arguments 1)
+    (λ asked. AnswersWithLogon settings form d user asked (drop 2 arguments))
+
+-- what is answered of any user: who can't have logged on as is said is a fault
+abbrev pub AnswersFitting : Settings → Form → List (Bor (List ℕ)) → DescriptorValue → SidValue → AnswerValue → Type 0
+AnswersFitting settings form arguments d user answer = MatchBool (fits_logon settings.logon user)
+    (AnswersMask settings form arguments d user answer)
+    (IsFault (fault_line (codes "sid")) (told_line (codes "USER") (codes "no anonymous user")) answer)
+
 -- the arguments are the user, the mask and words
 abbrev pub AnswersUser : Settings → Form → List (Bor (List ℕ)) → DescriptorValue → AnswerValue → Type 0
 AnswersUser settings form arguments d = AnswersOfSid (codes "USER") settings (argument arguments 0)
-    (λ user. AnswersOfMask settings (argument arguments 1)
-    (λ asked. AnswersWithLogon settings form d user asked (drop 2 arguments)))
+    (AnswersFitting settings form arguments d)
 
 -- ---- other forms
 

@@ -1,6 +1,9 @@
 -- The value of `--logon`: which groups Windows adds to a token by how its user logged on ([MS-DTYP] 2.4.2.4): Everyone,
 -- Authenticated Users and This Organization, and the group of that kind of logon; LOCAL where it is at the machine.
-use Rattle.std.specs.Prelude.{◌≡◌, ℕ, List, [], ◌∷◌, ◌++◌, if◌then◌else◌, Option, Some, None, codes, bytes_eq}
+use Rattle.std.specs.Prelude.{◌≡◌, ℕ, Bool, true, List, [], ◌∷◌, ◌++◌, if◌then◌else◌, Option, Some, None, codes}
+use Rattle.std.specs.Prelude.{bytes_eq}
+use Rattle.sd_sid.specs.Sid.{SidValue, same_sid}
+use Rattle.sd_analysis.specs.Risks.{anonymous}
 use Rattle.sd_commands.specs.declared.logon.Logon.{Logon}
 use Rattle.sd_commands.specs.declared.logon.Logon.TheVariants.{Interactive, Network, Batch, Service, Anonymous}
 
@@ -28,6 +31,11 @@ group_texts Anonymous = codes "S-1-5-2" ∷ []
 abbrev pub words_for : Option Logon → List (List ℕ) → List (List ℕ)
 words_for None words = words
 words_for (Some logon) words = words ++ group_texts logon
+
+-- the user can have logged on so: without an account Anonymous alone
+abbrev pub fits_logon : Option Logon → SidValue → Bool
+fits_logon (Some Anonymous) user = same_sid user anonymous
+fits_logon logon user = true
 
 -- without the option nothing is added
 abbrev pub GivesLogon : Option (List ℕ) → Option Logon → Type 0

@@ -38,6 +38,6 @@ pub use command_answer::{Answer, Outcome, answer_question, fault};
 pub use diagnostic::{sid_reason, told_line};
 pub use escaped::escaped_word;
 pub use laws::sorted_is_canonical;
-pub use logon::{Logon, logon_given};
+pub use logon::{Logon, fits_logon, logon_given};
 pub use mapping::{kind_given, mapping_given};
 pub use settings::{ByteForm, Settings};

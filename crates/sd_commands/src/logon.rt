@@ -1,8 +1,9 @@
 //! What Windows adds to a token by how its user logged on.
 ghost use Rattle.std.specs.Prelude.{◌≡◌, ◌++◌, IfNone, IfOk, IfSome, option_map};
 ghost use Rattle.sd_answer.specs.Word.{texts};
-ghost use Rattle.sd_commands.specs.Logon.{GivesLogon, GivesNoLogon, group_texts, logon_named, words_for};
+ghost use Rattle.sd_commands.specs.Logon.{GivesLogon, GivesNoLogon, fits_logon, group_texts, logon_named, words_for};
 
+use sd_sid::Sid;
 use std::alloc::{AllocError, Global};
 
 /// How a user logged on, by the names of LogonUser.
@@ -44,6 +45,16 @@ fn logon_named(text: &str) -> Option<Logon>
         "service" => Some(Logon::Service),
         "anonymous" => Some(Logon::Anonymous),
         _ => None,
+    }
+}
+
+/// Whether the user can have logged on so, if a logon is given: without an account S-1-5-7 alone.
+pub fn fits_logon(logon: Option<Logon>, user: &Sid) -> bool
+    ensures { result ≡ fits_logon logon user.now }
+{
+    match logon {
+        Some(Logon::Anonymous) => user.authority() == 5 && user.subs() == [7].as_slice(),
+        _ => true,
     }
 }
 

@@ -2,11 +2,11 @@
 ghost use Rattle.std.specs.Prelude.{◌≡◌, ◌<◌, IfOk, length};
 ghost use Rattle.sd_acl.specs.Descriptor.{descriptor_of};
 ghost use Rattle.sd_answer.specs.Word.{IsFirstNoWord, texts};
-ghost use Rattle.sd_commands.specs.CommandAnswer.{AnswersUser, AnswersWithLogon, IsVerdict, IsWordFault, answer_of};
-ghost use Rattle.sd_commands.specs.CommandAnswer.{verdict_outcome};
+ghost use Rattle.sd_commands.specs.CommandAnswer.{AnswersFitting, AnswersMask, AnswersUser, AnswersWithLogon};
+ghost use Rattle.sd_commands.specs.CommandAnswer.{IsVerdict, IsWordFault, answer_of, verdict_outcome};
 
 use crate::command_answer::{Answer, Answered, Outcome};
-use crate::logon::words_for;
+use crate::logon::{fits_logon, words_for};
 use crate::settings::CommandContext;
 use crate::words::{argument, items_from};
 use sd_acl::Descriptor;
@@ -32,16 +32,46 @@ impl CommandContext {
         ensures { IfOk result (λ answer. AnswersUser self.settings form arguments.now (descriptor_of descriptor.now)
             (answer_of answer)) }
     {
-        let (user, mask) = (argument(arguments, 0), argument(arguments, 1));
-        let sid = match read_sid_text_in(self.settings.aliases, user) {
-            Ok(sid) => sid,
-            Err(error) => return self.text_fault("sid", "USER", user, error),
-        };
-        let asked = match read_mask_in(self.settings.spelling, mask) {
-            Ok(asked) => asked,
-            Err(error) => return self.text_fault("mask", "MASK", mask, error),
-        };
-        self.with_words(form, descriptor, sid, asked, items_from(arguments, 2))
+        let user = argument(arguments, 0);
+        match read_sid_text_in(self.settings.aliases, user) {
+            Ok(sid) => self.for_user(form, descriptor, sid, arguments),
+            Err(error) => self.text_fault("sid", "USER", user, error),
+        }
+    }
+
+    /// The verdict for this user, or the fault that nobody else can log on so.
+    fn for_user(
+        self,
+        form: Form,
+        descriptor: &Descriptor,
+        user: Sid,
+        arguments: &[&str],
+    ) -> Answered
+        ensures { IfOk result (λ answer. AnswersFitting self.settings form arguments.now (descriptor_of descriptor.now)
+            user (answer_of answer)) }
+    {
+        if fits_logon(self.settings.logon, &user) {
+            self.with_mask(form, descriptor, user, arguments)
+        } else {
+            self.fault("sid", "USER", "no anonymous user")
+        }
+    }
+
+    fn with_mask(
+        self,
+        form: Form,
+        descriptor: &Descriptor,
+        user: Sid,
+        arguments: &[&str],
+    ) -> Answered
+        ensures { IfOk result (λ answer. AnswersMask self.settings form arguments.now (descriptor_of descriptor.now)
+            user (answer_of answer)) }
+    {
+        let mask = argument(arguments, 1);
+        match read_mask_in(self.settings.spelling, mask) {
+            Ok(asked) => self.with_words(form, descriptor, user, asked, items_from(arguments, 2)),
+            Err(error) => self.text_fault("mask", "MASK", mask, error),
+        }
     }
 
     /// The verdict for the token of the user and of these words, with the groups of the logon behind them, or the fault

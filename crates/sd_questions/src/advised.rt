@@ -6,11 +6,11 @@ ghost use Rattle.sd_arguments.specs.CommandLine.{request_of};
 
 use crate::found::{found_in_descriptor, found_in_mask, found_in_user, found_in_word};
 use crate::notes::notes_on;
-use crate::remedies::{EACH, HEX, LABELS, RemedyRow, row_line};
+use crate::remedies::{EACH, HEX, LABELS, OTHER_USER, RemedyRow, row_line};
 use crate::spoken::answer_text;
 use sd_answer::{TokenError, read_base, read_mask_in, read_sddl_argument, read_token};
 use sd_arguments::{Options, TextRequest};
-use sd_commands::{Answer, ByteForm, Outcome, Settings, told_line};
+use sd_commands::{Answer, ByteForm, Outcome, Settings, fits_logon, told_line};
 use sd_text::{TextError, read_sid_text_in};
 use sd_usage::{DescriptorCommand, OptionName, TextCommand};
 use std::alloc::{AllocError, Global};
@@ -151,6 +151,9 @@ fn argument_row(
             let Ok(sid) = read_sid_text_in(settings.aliases, user) else {
                 return found_in_user(settings.aliases, user);
             };
+            if !fits_logon(settings.logon, &sid) {
+                return Some(OTHER_USER);
+            }
             if read_mask_in(settings.spelling, mask).is_err() {
                 return found_in_mask(settings, mask);
             }

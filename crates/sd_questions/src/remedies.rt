@@ -126,6 +126,12 @@ pub(crate) const DESCRIPTOR: RemedyRow = (
 
 pub(crate) const RIGHTS_AS_USER: RemedyRow = ("rights", "a SID", "USER comes before MASK");
 
+pub(crate) const OTHER_USER: RemedyRow = (
+    "another user",
+    "S-1-5-7",
+    "write AN as USER after --logon anonymous",
+);
+
 pub(crate) const NAME: RemedyRow = (
     "a name",
     "a SID",
