@@ -17,7 +17,7 @@ use Rattle.sd_answer.specs.declared.verdict_lines.Spelling.{Spelling}
 use Rattle.sd_answer.specs.declared.verdict_lines.Spelling.TheVariants.{Number, Names as ByNames}
 use Rattle.sd_usage.specs.Table.{option_named, place, takes_option}
 use Rattle.sd_usage.specs.declared.row.OptionName.{OptionName}
-use Rattle.sd_usage.specs.declared.row.OptionName.TheVariants.{Aliases, Base64, Caret, Domain, Edits, Json}
+use Rattle.sd_usage.specs.declared.row.OptionName.TheVariants.{Aliases, Base64, Below, Caret, Domain, Edits, Json}
 use Rattle.sd_usage.specs.declared.row.OptionName.TheVariants.{Logon, Loose, Mapping, Names, Nodes, Percent}
 use Rattle.sd_usage.specs.declared.row.OptionName.TheVariants.{RequireDacl, Risks, WithoutSacl}
 use Rattle.sd_usage.specs.declared.row.ProgramOption.{ProgramOption}
@@ -118,6 +118,7 @@ pub record AreSettings (options : OptionsValue) (settings : Settings) : Type 0 w
   pub logon : GivesLogon (given options Logon) settings.logon
   pub without_sacl : settings.without_sacl ≡ has options WithoutSacl
   pub require_dacl : settings.require_dacl ≡ has options RequireDacl
+  pub below : settings.below ≡ has options Below
   pub risks : settings.risks ≡ has options Risks
   pub bytes : settings.bytes ≡ (if has options Base64 then forms.Base64
       else (if has options Loose then forms.Loose else forms.Hex))

@@ -102,6 +102,7 @@ impl<'a> Options<'a> {
             logon,
             without_sacl: self.has(OptionName::WithoutSacl),
             require_dacl: self.has(OptionName::RequireDacl),
+            below: self.has(OptionName::Below),
             risks: self.has(OptionName::Risks),
             points: self.has(OptionName::Caret),
             spelling: if self.has(OptionName::Names) {

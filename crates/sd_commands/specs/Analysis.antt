@@ -1,12 +1,17 @@
 -- What `who` finds: whom rights are granted to, of the tokens that have the base.
-use Rattle.std.specs.Prelude.{ℕ, List}
+use Rattle.std.specs.Prelude.{◌≡◌, ◌==◌, ℕ, MatchBool, List, [], ◌++◌, if◌then◌else◌, length}
 use Rattle.sd_sid.specs.Mapping.{MappingValue}
 use Rattle.sd_sid.specs.Sid.{SidValue}
 use Rattle.sd_acl.specs.Descriptor.{DescriptorValue}
 use Rattle.sd_check.specs.Check.{dacl_entries}
 use Rattle.sd_check.specs.declared.token.GroupState.{GroupState}
+use Rattle.sd_analysis.specs.Descendants.{AreDescendantAccesses}
 use Rattle.sd_analysis.specs.Who.{AllBeyond, HasEachOnce, IsMost, IsWho}
+use Rattle.sd_analysis.specs.declared.descendants_who.DescendantAccess.{DescendantAccess}
 use Rattle.sd_analysis.specs.declared.who_has.Access.{Access}
+use Rattle.sd_answer.specs.Descendants.{descendants_who_text}
+use Rattle.sd_answer.specs.Parts.{entries_in}
+use Rattle.sd_commands.specs.declared.settings.Settings.{Settings}
 
 -- these are whom the rights are granted to
 pub record AreAccesses (g : MappingValue) (d : DescriptorValue) (base : List (SidValue × GroupState)) (rights : ℕ)
@@ -15,3 +20,14 @@ pub record AreAccesses (g : MappingValue) (d : DescriptorValue) (base : List (Si
   pub most : IsMost d.owner (dacl_entries d.dacl) g base rights accesses
   pub each : HasEachOnce rights accesses
   pub beyond : AllBeyond base accesses
+
+-- the lines about what is made in the object, if it is a container, where they are asked for
+abbrev pub AreBelowLines : Settings → DescriptorValue → List (SidValue × GroupState) → ℕ → List ℕ → Type 0
+AreBelowLines settings d base rights text = MatchBool settings.below
+    ((all : List DescendantAccess) × AreDescendantAccesses settings.mapping base (entries_in d.dacl) rights all
+    × (text ≡ descendants_who_text settings.spelling all))
+    (text ≡ [])
+
+-- the object's own lines, and then those; none where no right is asked about
+abbrev pub with_below : List ℕ → List ℕ → List ℕ
+with_below own below = if length own == 0 then [] else own ++ below

@@ -40,7 +40,7 @@ use Rattle.sd_answer.specs.Rights.{rights_line}
 use Rattle.sd_answer.specs.Who.{rights_asked, who_text}
 use Rattle.sd_answer.specs.Why.{why_text}
 use Rattle.sd_answer.specs.Word.{AreGroups, IsFirstNoGroup, IsFirstNoWord, IsToken, texts}
-use Rattle.sd_commands.specs.Analysis.{AreAccesses}
+use Rattle.sd_commands.specs.Analysis.{AreAccesses, AreBelowLines, with_below}
 use Rattle.sd_commands.specs.Logon.{fits_logon, words_for}
 use Rattle.sd_commands.specs.Bytes.{BytesRead, bytes_read, form_name, has_sacl, without_sacl}
 use Rattle.sd_usage.specs.declared.row.TextCommand.{TextCommand}
@@ -311,8 +311,10 @@ AnswersOfBase settings words Answers answer =
 -- whom the rights are granted to is printed
 abbrev pub PrintsWho : Settings → ℕ → DescriptorValue → List (SidValue × GroupState) → AnswerValue → Type 0
 PrintsWho settings asked d base answer =
-    (accesses : List Access) × AreAccesses settings.mapping d base (rights_asked settings.mapping asked) accesses
-    × IsDone (who_text settings.spelling accesses) answer
+    (accesses : List Access) × (below : List ℕ)
+    × AreAccesses settings.mapping d base (rights_asked settings.mapping asked) accesses
+    × AreBelowLines settings d base (rights_asked settings.mapping asked) below
+    × IsDone (with_below (who_text settings.spelling accesses) below) answer
 
 -- what tokens gain and lose of the object itself
 abbrev pub AreOwnChanges : Settings → DescriptorValue → DescriptorValue → List (SidValue × GroupState) → List ℕ → Type 0

@@ -2,19 +2,19 @@
 ghost use Rattle.std.specs.Prelude.{◌<◌, IfOk, length, string_bytes};
 ghost use Rattle.sd_acl.specs.Descriptor.{descriptor_of};
 ghost use Rattle.sd_answer.specs.Word.{IsFirstNoGroup, texts};
-ghost use Rattle.sd_commands.specs.CommandAnswer.{AnswersOfBase, AnswersOn, AreDescendantLines, AreOwnChanges};
-ghost use Rattle.sd_commands.specs.CommandAnswer.{IsGroupFault, PrintsComparison};
-ghost use Rattle.sd_commands.specs.CommandAnswer.{PrintsWho, answer_of};
+ghost use Rattle.sd_commands.specs.Analysis.{AreBelowLines};
+ghost use Rattle.sd_commands.specs.CommandAnswer.{AnswersOfBase, AnswersOn, AreDescendantLines};
+ghost use Rattle.sd_commands.specs.CommandAnswer.{AreOwnChanges, IsGroupFault, PrintsComparison, PrintsWho, answer_of};
 
 use crate::command_answer::{Answer, Answered, found};
 use crate::descriptor::{Given, note_left_out_sacl};
 use crate::settings::CommandContext;
 use crate::words::{argument, items_from};
 use sd_acl::Descriptor;
-use sd_analysis::{Base, compare, compare_descendants, who};
+use sd_analysis::{Base, compare, compare_descendants, who, who_descendants};
 use sd_answer::{
-    TokenError, dacl_ref, descendants_text, descriptor_ref, entries_in, gains_and_losses,
-    inheritance_text, read_base, read_mask_in, rights_asked, who_text,
+    TokenError, dacl_ref, descendants_text, descendants_who_text, descriptor_ref, entries_in,
+    gains_and_losses, inheritance_text, read_base, read_mask_in, rights_asked, who_text,
 };
 use sd_check::GroupState;
 use sd_sid::{Mask, Sid};
@@ -54,8 +54,30 @@ impl CommandContext {
         let (base, mapping) = (Base { groups }, &self.settings.mapping);
         let rights = rights_asked(mapping, asked);
         let accesses = who(self.alloc, owner, dacl, mapping, &base, rights)?;
-        let text = who_text(self.alloc, self.settings.spelling, &accesses)?;
+        let mut text = who_text(self.alloc, self.settings.spelling, &accesses)?;
+        let below = self.below_lines(descriptor, &base, rights)?;
+        if !text.is_empty() {
+            text.push_str(below.as_str())?;
+        }
         Ok(Answer::done(self.alloc, text))
+    }
+
+    /// Whom they are granted to of all that is made in it, if it is a container and that is asked for.
+    fn below_lines(
+        &self,
+        descriptor: &Descriptor,
+        base: &Base<'_>,
+        rights: Mask,
+    ) -> Result<String, AllocError>
+        ensures { IfOk result (λ text. AreBelowLines self.now.settings (descriptor_of descriptor.now) base.now rights
+            (string_bytes text)) }
+    {
+        if !self.settings.below {
+            return Ok(String::new(self.alloc));
+        }
+        let entries = entries_in(&descriptor.dacl);
+        let all = who_descendants(self.alloc, entries, &self.settings.mapping, base, rights)?;
+        descendants_who_text(self.alloc, self.settings.spelling, &all)
     }
 
     /// The answer to words of which the one at the place is the first that is no group.

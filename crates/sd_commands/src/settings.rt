@@ -34,6 +34,8 @@ pub struct Settings {
     pub without_sacl: bool,
     /// Whether a descriptor without a list of entries is a fault.
     pub require_dacl: bool,
+    /// Whether `who` also looks at what is made in a container.
+    pub below: bool,
     /// Whether `lint` reports risks too.
     pub risks: bool,
     /// How bytes are spelled.

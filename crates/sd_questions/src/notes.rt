@@ -34,7 +34,7 @@ pub(crate) fn notes_on(
             push_empty(alloc, text, &mut notes)?;
             push_label(alloc, settings, text, &mut notes)?;
             push_mask(alloc, mask, words, &mut notes)?;
-            push_children(alloc, text, &mut notes)?;
+            push_children(alloc, settings, text, &mut notes)?;
         }
         _ => {}
     }
@@ -87,9 +87,15 @@ fn push_label(
     notes.push_str(note.as_str())
 }
 
-/// Notes entries that are inherited by what is made in a container ([MS-DTYP] 2.4.4.1): only the object is looked at.
-fn push_children(alloc: Global, text: &str, notes: &mut String) -> Result<(), AllocError> {
-    if text.split('(').any(is_inherited) {
+/// Notes entries that are inherited by what is made in a container ([MS-DTYP] 2.4.4.1), where only the object is looked
+/// at.
+fn push_children(
+    alloc: Global,
+    settings: &Settings,
+    text: &str,
+    notes: &mut String,
+) -> Result<(), AllocError> {
+    if !settings.below && text.split('(').any(is_inherited) {
         let note = told_line(alloc, "SDDL", CHILDREN)?;
         notes.push_str(note.as_str())?;
     }

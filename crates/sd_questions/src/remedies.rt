@@ -185,7 +185,7 @@ pub(crate) const LABELS: &str =
     "a line's mandatory label is ignored, by which Windows may deny what is granted here";
 
 pub(crate) const CHILDREN: &str =
-    "what is made in a container isn't looked at: entries with OI or CI may count there (compare looks at it)";
+    "what is made in a container isn't looked at: entries with OI or CI may count there (--below looks at it)";
 
 /// The line that says a row. The only error is out of memory.
 pub(crate) fn row_line(alloc: Global, row: RemedyRow) -> Result<String, AllocError> {

@@ -92,6 +92,9 @@ Prints a line for each part of the rights and each alternative:
   0x60000 to S-1-5-32-544 as the owner
   0x1 to everyone
   0xfe00 to nobody
+After '--below' also, of what is made in it, if it is a container:
+  new objects: 0x89 to S-1-5-32-545
+  new containers: nothing is inherited
 A user without privileges has the rights if an alternative holds: its SID is the user's or an
 enabled group's, and none of those after 'unless' is the user's, a group's or a deny-only group's.
 MAXIMUM_ALLOWED, 0x02000000, asks about all rights. Bits from 0x200000 on are left out.

@@ -43,6 +43,20 @@ pub(crate) const VERDICT_OPTIONS: &[OptionName] = &[
     OptionName::StrictStatus,
 ];
 
+pub(crate) const WHO_OPTIONS: &[OptionName] = &[
+    OptionName::Stdin,
+    OptionName::Names,
+    OptionName::WithoutSacl,
+    OptionName::RequireDacl,
+    OptionName::Below,
+    OptionName::Domain,
+    OptionName::Aliases,
+    OptionName::Mapping,
+    OptionName::Json,
+    OptionName::Caret,
+    OptionName::StrictStatus,
+];
+
 pub(crate) const LINT_OPTIONS: &[OptionName] = &[
     OptionName::Stdin,
     OptionName::Names,

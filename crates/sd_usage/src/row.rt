@@ -80,6 +80,8 @@ pub enum OptionName {
     WithoutSacl,
     /// `--require-dacl`.
     RequireDacl,
+    /// `--below`.
+    Below,
     /// `--risks`.
     Risks,
     /// `--base64`.
@@ -111,7 +113,7 @@ pub enum OptionName {
 }
 
 /// How many options there are.
-pub const OPTION_COUNT: usize = 18;
+pub const OPTION_COUNT: usize = 19;
 
 /// A command, and what follows it.
 #[derive(Clone, Copy)]

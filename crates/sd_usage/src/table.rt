@@ -2,7 +2,7 @@
 
 use crate::options::{
     BYTES_OPTIONS, LINT_OPTIONS, NAMED_TEXT_OPTIONS, RIGHTS_OPTIONS, SCRIPT_OPTIONS, SID_OPTIONS,
-    TEXT_OPTIONS, VERDICT_OPTIONS,
+    TEXT_OPTIONS, VERDICT_OPTIONS, WHO_OPTIONS,
 };
 use crate::row::{
     Argument, Arguments, Command, CommandName, CommandRow, DescriptorCommand, Flag, Flags,
@@ -44,7 +44,7 @@ sdstore verdict 'D:(D;;0x2;;;S-1-5-21-1-2-3-1001)(A;;0x1f01ff;;;S-1-5-21-1-2-3-1
             arguments: Arguments::Two(Argument::Descriptor, Argument::Mask),
             repeated: Some(Argument::Group),
         },
-        NAMED_TEXT_OPTIONS,
+        WHO_OPTIONS,
         "Prints to whom a descriptor grants the rights of an access mask",
         "sdstore who 'O:BAG:SYD:(D;;FW;;;BG)(A;;FA;;;BU)(A;;FR;;;WD)' FR",
     ),
@@ -239,6 +239,15 @@ but not of a script's lines",
             excludes: None,
         },
         "a descriptor without a DACL, or with a null one, is a fault: either grants everything",
+    ),
+    (
+        "--below",
+        ProgramOption {
+            name: OptionName::Below,
+            value: None,
+            excludes: None,
+        },
+        "also prints to whom the rights of what is made in the object are granted, if it is a container",
     ),
     (
         "--risks",
