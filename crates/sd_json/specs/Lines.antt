@@ -25,14 +25,15 @@ words_after (Some text) = words_of text
 
 -- ---- a line that is of a row
 
--- a row's word is `$name` for any word, `#name` for a number, `,name` for a word with a comma after it, `*name` for all
--- words that are left, one at least; each other word is for itself
+-- a row's word is `$name` for any word, `#name` for a number, `,name` and `:name` for a word with that mark after it,
+-- `*name` for all words that are left, one at least; each other word is for itself
 abbrev pub fits_mark : ℕ → List ℕ → List ℕ → Bool
 fits_mark mark name word =
     if mark == 36 then true
     else (if mark == 35 then is_number word
     else (if mark == 44 then position_or_len (λ b. b == 44) word + 1 == length word
-    else bytes_eq (mark ∷ name) word))
+    else (if mark == 58 then position_or_len (λ b. b == 58) word + 1 == length word
+    else bytes_eq (mark ∷ name) word)))
 
 abbrev pub fits_word : List ℕ → List ℕ → Bool
 fits_word [] word = length word == 0
@@ -54,7 +55,8 @@ abbrev pub marked_member : ℕ → List ℕ → List ℕ → List ℕ
 marked_member mark name word =
     if mark == 36 then then_named name (json_string word)
     else (if mark == 35 then then_named name word
-    else (if mark == 44 then then_named name (json_string (before_first (λ b. b == 44) word)) else []))
+    else (if mark == 44 then then_named name (json_string (before_first (λ b. b == 44) word))
+    else (if mark == 58 then then_named name (json_string (before_first (λ b. b == 58) word)) else [])))
 
 abbrev pub member : List ℕ → List ℕ → List ℕ
 member [] word = []

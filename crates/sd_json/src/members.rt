@@ -58,6 +58,7 @@ fn fits_word(piece: &[u8], word: &[u8]) -> bool
         b'$' => true,
         b'#' => is_number(word),
         b',' => place(b',', word) + 1 == word.len(),
+        b':' => place(b':', word) + 1 == word.len(),
         _ => is_same(piece, word),
     }
 }
@@ -99,6 +100,7 @@ fn push_member(out: &mut Vec<u8>, piece: &[u8], word: &[u8]) -> Result<(), Alloc
         b'$' => push_named_string(out, name, word),
         b'#' => push_number(out, name, word),
         b',' => push_named_string(out, name, &word[..place(b',', word)]),
+        b':' => push_named_string(out, name, &word[..place(b':', word)]),
         _ => Ok(()),
     }
 }

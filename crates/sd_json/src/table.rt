@@ -1,7 +1,7 @@
 //! The table of the kinds of lines that the program prints. docs/JSON.md has the same rows, and says what they mean.
 
-/// A kind, and the line's words: `$name` stands for any word, `#name` for a number, `,name` for a word with a comma
-/// after it, `*name` for all words that are left, one at least; each other word for itself.
+/// A kind, and the line's words: `$name` stands for any word, `#name` for a number, `,name` and `:name` for a word with
+/// that mark after it, `*name` for all words that are left, one at least; each other word for itself.
 pub type LineRow = (&'static str, &'static str);
 
 /// The kinds. A line is of the first row whose words it has. No two rows of one kind have the same names.
@@ -51,6 +51,28 @@ pub const ROWS: &[LineRow] = &[
     ("gained", "gained $mask by $by *with"),
     ("lost", "lost $mask by $by"),
     ("lost", "lost $mask by $by *with"),
+    ("gained below", "new :new gained $mask by $by"),
+    ("gained below", "new :new gained $mask by $by *with"),
+    (
+        "gained below",
+        "$below below new containers: gained $mask by $by",
+    ),
+    (
+        "gained below",
+        "$below below new containers: gained $mask by $by *with",
+    ),
+    ("lost below", "new :new lost $mask by $by"),
+    ("lost below", "new :new lost $mask by $by *with"),
+    (
+        "lost below",
+        "$below below new containers: lost $mask by $by",
+    ),
+    (
+        "lost below",
+        "$below below new containers: lost $mask by $by *with",
+    ),
+    ("no longer protected", "inheritance: was protected, is not"),
+    ("now protected", "inheritance: is protected, was not"),
     // What is doubtful.
     ("clean", "clean"),
     ("no DACL", "no DACL grants everything"),
@@ -68,6 +90,11 @@ pub const ROWS: &[LineRow] = &[
     ("empty DACL", "an empty DACL grants nothing"),
     ("owner cannot read", "the owner $sid has no way to read"),
     ("risky grant", "$sid is granted $right"),
+    ("risky grant below", "new :new $sid is granted $right"),
+    (
+        "risky grant below",
+        "$below below new containers: $sid is granted $right",
+    ),
     (
         "unknown SID",
         "entry #entry $ace names a SID of no known kind",
@@ -103,6 +130,31 @@ pub const ROWS: &[LineRow] = &[
     ("gained", "$path gained $mask by $by *with"),
     ("lost", "$path lost $mask by $by"),
     ("lost", "$path lost $mask by $by *with"),
+    ("gained below", "$path new :new gained $mask by $by"),
+    ("gained below", "$path new :new gained $mask by $by *with"),
+    (
+        "gained below",
+        "$path $below below new containers: gained $mask by $by",
+    ),
+    (
+        "gained below",
+        "$path $below below new containers: gained $mask by $by *with",
+    ),
+    ("lost below", "$path new :new lost $mask by $by"),
+    ("lost below", "$path new :new lost $mask by $by *with"),
+    (
+        "lost below",
+        "$path $below below new containers: lost $mask by $by",
+    ),
+    (
+        "lost below",
+        "$path $below below new containers: lost $mask by $by *with",
+    ),
+    (
+        "no longer protected",
+        "$path inheritance: was protected, is not",
+    ),
+    ("now protected", "$path inheritance: is protected, was not"),
     ("new", "new $path"),
     ("moved", "moved $from $path"),
     ("gone", "gone $path"),
