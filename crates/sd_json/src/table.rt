@@ -46,6 +46,31 @@ pub const ROWS: &[LineRow] = &[
     ("who", "$mask to $to as the $as"),
     ("who", "$mask to $to unless *unless"),
     ("who", "$mask to $to as the $as unless *unless"),
+    ("who below", "new :new $mask to $to"),
+    ("who below", "new :new $mask to $to as the $as"),
+    ("who below", "new :new $mask to $to unless *unless"),
+    (
+        "who below",
+        "new :new $mask to $to as the $as unless *unless",
+    ),
+    ("who below", "$below below new containers: $mask to $to"),
+    (
+        "who below",
+        "$below below new containers: $mask to $to as the $as",
+    ),
+    (
+        "who below",
+        "$below below new containers: $mask to $to unless *unless",
+    ),
+    (
+        "who below",
+        "$below below new containers: $mask to $to as the $as unless *unless",
+    ),
+    ("nothing inherited", "new :new nothing is inherited"),
+    (
+        "nothing inherited",
+        "$below below new containers: nothing is inherited",
+    ),
     ("same", "same"),
     ("gained", "gained $mask by $by"),
     ("gained", "gained $mask by $by *with"),
