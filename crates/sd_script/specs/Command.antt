@@ -21,8 +21,8 @@ use Rattle.sd_script.specs.Fault.{Reading, Just, Then, UnlessMemory}
 use Rattle.sd_script.specs.Lines.{words_of}
 use Rattle.sd_answer.specs.Word.{texts}
 use Rattle.sd_script.specs.declared.line_request.LineRequest.{LineRequest}
-use Rattle.sd_script.specs.declared.line_request.LineRequest.TheVariants.{Opening, Asking, Explaining, Finding}
-use Rattle.sd_script.specs.declared.line_request.LineRequest.TheVariants.{Deleting, Viewing, Importing, Moving}
+use Rattle.sd_script.specs.declared.line_request.LineRequest.TheVariants.{Opening, Asking, AskingNode}
+use Rattle.sd_script.specs.declared.line_request.LineRequest.TheVariants.{Viewing, Importing, Moving}
 use Rattle.sd_script.specs.declared.line_request.GroupsQuestion.{GroupsQuestion}
 use Rattle.sd_script.specs.declared.line_request.GroupsQuestion.TheVariants as granted
 use Rattle.sd_script.specs.declared.line_request.TokenQuestion.{TokenQuestion}
@@ -39,6 +39,8 @@ use Rattle.sd_script.specs.declared.fault.LineStop.{LineStop}
 use Rattle.sd_acl.specs.declared.ace.Ace.{Ace}
 use Rattle.sd_script.specs.declared.script_options.Notation.{Notation}
 use Rattle.sd_script.specs.declared.view.ViewRequest.{ViewRequest}
+use Rattle.sd_script.specs.declared.listing.NodeFilter.TheVariants.{Granting}
+use Rattle.sd_script.specs.declared.question.NodeQuestion.TheVariants as nodes
 use Rattle.sd_script.specs.declared.view.ViewRequest.TheVariants as views
 
 -- ---- arguments by kind
@@ -113,8 +115,8 @@ view v = Asks (Viewing v)
 -- a question for a token, to a reader, of a path
 abbrev pub poses : TokenQuestion → ℕ → Names → TokenValue → ℕ → LineRequest
 poses questions.Check reader p t asked = Asking (requests.Check reader p t asked)
-poses questions.Why reader p t asked = Explaining reader p t asked
-poses questions.Find reader p t asked = Finding reader p t asked
+poses questions.Why reader p t asked = AskingNode reader p (nodes.Why t asked)
+poses questions.Find reader p t asked = AskingNode reader p (nodes.Find (Granting t asked))
 
 unfoldable pub posed : TokenQuestion → List ℕ → List ℕ → List ℕ → List ℕ → List (List ℕ) → Arguments
 posed question reader at user asked words =
@@ -147,7 +149,7 @@ asks_groups question at asked words =
 -- a reader, a path, a user and words: whether the user may delete the node
 unfoldable pub deletes : List ℕ → List ℕ → List ℕ → List (List ℕ) → Arguments
 deletes reader at user words =
-    Number reader ▸ λ i. Path at ▸ λ p. Sid user ▸ λ s. Token s words ▸ λ t. Asks (Deleting i p t)
+    Number reader ▸ λ i. Path at ▸ λ p. Sid user ▸ λ s. Token s words ▸ λ t. Asks (AskingNode i p (nodes.Delete t))
 
 -- each other command on these arguments, where they are as many as it takes
 abbrev pub asks_taking : ScriptCommand → List (List ℕ) → Option Arguments

@@ -28,10 +28,11 @@ use Rattle.sd_script.specs.Reply.{seen_line}
 use Rattle.sd_script.specs.Review.{IsNodeReview, IsReview, reviewed_line}
 use Rattle.sd_script.specs.Who.{IsOnly}
 use Rattle.sd_script.specs.declared.line_request.LineRequest.{LineRequest}
-use Rattle.sd_script.specs.declared.line_request.LineRequest.TheVariants.{Asking, Explaining, Deleting, Viewing}
+use Rattle.sd_script.specs.declared.line_request.LineRequest.TheVariants.{Asking, AskingNode, Viewing}
 use Rattle.sd_script.specs.declared.script_options.ScriptOptions.{ScriptOptions}
 use Rattle.sd_script.specs.declared.script_options.Notation.{Notation}
 use Rattle.sd_script.specs.declared.session.Session.{Session}
+use Rattle.sd_script.specs.declared.question.NodeQuestion.TheVariants.{Why, Delete}
 use Rattle.sd_script.specs.declared.session.Session.TheVariants.{Opened}
 use Rattle.sd_script.specs.declared.view.ViewRequest.TheVariants.{Who, Only, Review}
 
@@ -68,7 +69,7 @@ BeginsAsCheck =
     (notation : Notation) (old : Machine) (reader : ℕ) (path : Names) (token : TokenValue) (asked : ℕ)
     (checked explained : List ℕ) (one other : Session)
     → IsDone (Opened notation old) (Asking (Check reader path token asked)) checked one
-    → IsDone (Opened notation old) (Explaining reader path token asked) explained other
+    → IsDone (Opened notation old) (AskingNode reader path (Why token asked)) explained other
     → ((reasons : List ℕ) × (explained ≡ checked ++ reasons)) × (other ≡ one)
 
 -- a check of a published tree of so many edits is answered by a grant
@@ -85,7 +86,7 @@ DeletesAsChecked =
     (notation : Notation) (old : Machine) (reader : ℕ) (path : Names) (token : TokenValue)
     (checked deleted : List ℕ) (one other : Session)
     → IsDone (Opened notation old) (Asking (Check reader path token delete_right)) checked one
-    → IsDone (Opened notation old) (Deleting reader path token) deleted other
+    → IsDone (Opened notation old) (AskingNode reader path (Delete token)) deleted other
     → (IsGranted notation.spelling (length old.published) checked → deleted ≡ by_node_line (length old.published))
     × (deleted ≡ by_node_line (length old.published) → IsGranted notation.spelling (length old.published) checked)
     × (other ≡ one)

@@ -22,13 +22,11 @@ use Rattle.sd_script.specs.Reply.{counted_line, reply_line, start_error_line}
 use Rattle.sd_script.specs.ScriptCounts.{no_lines, tallied}
 use Rattle.sd_script.specs.View.{IsViewed}
 use Rattle.sd_script.specs.declared.line_request.LineRequest.{LineRequest}
-use Rattle.sd_script.specs.declared.line_request.LineRequest.TheVariants.{Opening as Opens, Asking, Explaining, Finding}
-use Rattle.sd_script.specs.declared.line_request.LineRequest.TheVariants.{Viewing, Deleting, Importing, Moving}
+use Rattle.sd_script.specs.declared.line_request.LineRequest.TheVariants.{Opening as Opens, Asking, AskingNode}
+use Rattle.sd_script.specs.declared.line_request.LineRequest.TheVariants.{Viewing, Importing, Moving}
 use Rattle.sd_script.specs.declared.script_state.ScriptState.{ScriptState}
 use Rattle.sd_script.specs.declared.fault.LineFault.{LineFault}
-use Rattle.sd_script.specs.declared.listing.NodeFilter.TheVariants.{Granting}
 use Rattle.sd_script.specs.declared.script_options.ScriptOptions.{ScriptOptions}
-use Rattle.sd_script.specs.declared.question.NodeQuestion.TheVariants.{Why, Find, Delete}
 use Rattle.sd_script.specs.declared.session.Session.{Session}
 use Rattle.sd_script.specs.declared.session.Session.TheVariants.{Closed, Opened}
 use Rattle.sd_script.specs.declared.script_counts.ScriptCounts.{ScriptCounts}
@@ -73,12 +71,8 @@ IsDone (Opened notation old) (Asking request) printed new =
     (reply : Reply) × (machine : Machine) × Steps old request reply machine
     × (reply_line notation.spelling reply ≡ Some printed)
     × (new ≡ Opened notation machine)
-IsDone (Opened notation old) (Explaining reader path token asked) printed new =
-    IsSeen notation old reader path (Why token asked) printed new
-IsDone (Opened notation old) (Finding reader path token asked) printed new =
-    IsSeen notation old reader path (Find (Granting token asked)) printed new
-IsDone (Opened notation old) (Deleting reader path token) printed new =
-    IsSeen notation old reader path (Delete token) printed new
+IsDone (Opened notation old) (AskingNode reader path question) printed new =
+    IsSeen notation old reader path question printed new
 IsDone (Opened notation old) (Viewing view) printed new =
     IsViewed notation old view printed × (new ≡ Opened notation old)
 IsDone (Opened notation old) (Importing edit path given) printed new =

@@ -57,8 +57,10 @@ pub use laws::{
 pub use line::read_line;
 pub use line_request::LineRequest;
 pub use lines::is_silent;
+pub use listing::NodeFilter;
 pub use moving::move_line;
 pub use paths::PathSpelling;
+pub use question::NodeQuestion;
 pub use reply::{counted_line, reply_line, start_error_line};
 pub use script::answer_line;
 pub use script_counts::ScriptCounts;

@@ -9,6 +9,8 @@ ghost use Rattle.sd_answer.specs.Word.{texts};
 use crate::argument::{Parser, number_in};
 use crate::command::{CommandWithArguments, ScriptCommand};
 use crate::fault::LineStop;
+use crate::listing::NodeFilter;
+use crate::question::NodeQuestion;
 use crate::view::{Groups, ViewRequest};
 use sd_check::Token;
 use sd_sid::Mask;
@@ -26,26 +28,11 @@ pub enum LineRequest {
     },
     /// Something of the store that is open.
     Asking(Request),
-    /// Of the store that is open, why it answers a reader's check as it does ([MS-DTYP] 2.5.3.2).
-    Explaining {
+    /// Of the store that is open, what a reader asks about the node of a path.
+    AskingNode {
         reader: u64,
         path: Path,
-        token: Token,
-        asked: Mask,
-    },
-    /// Of the store that is open, which nodes at and below a path grant what a reader asks for ([MS-DTYP] 2.5.3.2).
-    Finding {
-        reader: u64,
-        path: Path,
-        token: Token,
-        asked: Mask,
-    },
-    /// Of the store that is open, whether a reader's user may delete a node: by DELETE on it, or by FILE_DELETE_CHILD
-    /// on its parent ([MS-FSA] 2.1.5.1.2.1).
-    Deleting {
-        reader: u64,
-        path: Path,
-        token: Token,
+        question: NodeQuestion,
     },
     /// A view of the published tree.
     Viewing(ViewRequest),
@@ -142,10 +129,10 @@ impl Parser {
         let path = self.path(path)?;
         let user = self.sid(user)?;
         let token = self.token(user, words)?;
-        Ok(Some(LineRequest::Deleting {
+        Ok(Some(LineRequest::AskingNode {
             reader,
             path,
-            token,
+            question: NodeQuestion::Delete { token },
         }))
     }
 
@@ -335,17 +322,15 @@ impl TokenQuestion {
                 token,
                 asked,
             }),
-            TokenQuestion::Why => LineRequest::Explaining {
+            TokenQuestion::Why => LineRequest::AskingNode {
                 reader,
                 path,
-                token,
-                asked,
+                question: NodeQuestion::Why { token, asked },
             },
-            TokenQuestion::Find => LineRequest::Finding {
+            TokenQuestion::Find => LineRequest::AskingNode {
                 reader,
                 path,
-                token,
-                asked,
+                question: NodeQuestion::Find(NodeFilter::Granting { token, asked }),
             },
         }
     }

@@ -21,7 +21,7 @@ use std::alloc::{AllocError, Global};
 
 /// Which nodes have a line.
 #[derive(Debug, Drop)]
-pub(crate) enum NodeFilter {
+pub enum NodeFilter {
     /// All nodes, each with its descriptor.
     All,
     /// The nodes that grant a token what is asked for ([MS-DTYP] 2.5.3.2), each by its path.

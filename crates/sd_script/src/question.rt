@@ -20,7 +20,7 @@ use std::alloc::{AllocError, Global};
 
 /// What a reader asks about the node of a path.
 #[derive(Debug, Drop)]
-pub(crate) enum NodeQuestion {
+pub enum NodeQuestion {
     /// Why a check is answered as it is ([MS-DTYP] 2.5.3.2).
     Why { token: Token, asked: Mask },
     /// Which nodes at and below the path there are.

@@ -11,9 +11,7 @@ use crate::importing::import_line;
 use crate::line::read_line;
 use crate::line_request::LineRequest;
 use crate::lines::{is_silent, wants_lines};
-use crate::listing::NodeFilter;
 use crate::moving::moved;
-use crate::question::NodeQuestion;
 use crate::reply::{counted_line, reply_line, start_error_line};
 use crate::script_counts::ScriptCounts;
 use crate::script_options::{Notation, ScriptOptions};
@@ -150,26 +148,11 @@ fn done(
             let reply = desk.step(&request);
             reply_line(alloc, notation.spelling, &reply)
         }
-        LineRequest::Explaining {
+        LineRequest::AskingNode {
             reader,
             path,
-            token,
-            asked,
-        } => NodeQuestion::Why { token, asked }.answer(alloc, notation, desk, reader, &path),
-        LineRequest::Finding {
-            reader,
-            path,
-            token,
-            asked,
-        } => {
-            let which = NodeFilter::Granting { token, asked };
-            NodeQuestion::Find(which).answer(alloc, notation, desk, reader, &path)
-        }
-        LineRequest::Deleting {
-            reader,
-            path,
-            token,
-        } => NodeQuestion::Delete { token }.answer(alloc, notation, desk, reader, &path),
+            question,
+        } => question.answer(alloc, notation, desk, reader, &path),
         LineRequest::Viewing(view) => view_text(alloc, notation, desk, &view),
         LineRequest::Importing { edit, path, given } => {
             let reply = desk.step(&Request::Edit(edit));
