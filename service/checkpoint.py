@@ -1,7 +1,6 @@
 """What a store goes back to where a commit fails."""
 
 from collections.abc import Sequence
-from typing import cast
 
 from entry import Line, Place
 from loading import Loaded, Moment
@@ -16,7 +15,7 @@ class Checkpoint:
     def __init__(self) -> None:
         self._moment: Moment | None = None
         self._lines: list[tuple[Line, bytes]] = []
-        self._published = self._last = cast("Place | None", None)
+        self._published = self._last = Place(0, b"")
 
     def begin(self, state: Loaded) -> Place:
         """The last line, after which others are made. Until `end` they can be taken back."""
@@ -47,4 +46,3 @@ class Checkpoint:
         if self._moment is not None:
             self._moment.close()
         self._moment, self._lines = None, []
-        self._published = self._last = None

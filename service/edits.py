@@ -1,8 +1,7 @@
 """The edits of a script, by one table: their arguments, and the call of the library that makes each."""
 
 from collections.abc import Callable, Sequence
-from dataclasses import dataclass
-from typing import Any
+from typing import Any, NamedTuple
 
 from hudarin import Refused, Store, View
 
@@ -10,8 +9,7 @@ from errors import Fault
 from spelling import descriptor_of, fault_of, path_of, printed, sid_of, spelled
 
 
-@dataclass(frozen=True, slots=True)
-class Edit:
+class Edit(NamedTuple):
     """An edit: its name, its arguments, and the words that spell them."""
 
     name: str
@@ -29,7 +27,7 @@ class Edit:
     def line(self) -> str:
         """The one line that spells it: parsed again it is the same edit."""
         spellings = zip(_EDITS[self.name][0], self.arguments, self.words)
-        return " ".join([self.name, *(show(argument, word) for (_, show), argument, word in spellings)])
+        return " ".join([self.name, *[show(argument, word) for (_, show), argument, word in spellings]])
 
 
 _Argument = tuple[Callable[[str], Any], Callable[[Any, str], str]]
@@ -55,17 +53,18 @@ PUBLISH = "publish"
 
 def edit_of(words: Sequence[str], view: View) -> Edit:
     """The edit of a line's words. Fault: its first fault, arguments from the left; `view` only tests paths."""
-    parsers = _EDITS[words[0]][0]
-    if len(words) != len(parsers) + 1:
+    name, *given = words
+    parsers = _EDITS[name][0]
+    if len(given) != len(parsers):
         raise Fault("fault words")
     arguments: list[Any] = []
     try:
-        for (parse, _), word in zip(parsers, words[1:]):
+        for (parse, _), word in zip(parsers, given):
             arguments.append(parse(word))
     except Fault:
-        require_paths(view, [given for given in arguments if isinstance(given, str)])
+        require_paths(view, [each for each in arguments if isinstance(each, str)])
         raise
-    return Edit(words[0], tuple(arguments), words[1:])
+    return Edit(name, tuple(arguments), given)
 
 
 def is_same(made: str, line: str, view: View) -> bool:

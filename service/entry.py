@@ -46,7 +46,8 @@ class Line(NamedTuple):
 
     def chained(self, store: str, before: bytes) -> bytes:
         """The digest of the chain before the line, and of the line in the store of this id."""
-        return hashlib.sha256(before + "\n".join(map(str, (store, *self[:-1], self.outcome))).encode()).digest()
+        text = f"{store}\n{self.epoch}\n{self.number}\n{self.time}\n{self.who}\n{self.key}\n{self.line}\n{self.outcome}"
+        return hashlib.sha256(before + text.encode()).digest()
 
 
 class Place(NamedTuple):

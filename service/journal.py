@@ -4,6 +4,7 @@ A commit is on disk when it returns (WAL, synchronous=FULL). After it the mark, 
 how far the journal goes: SQLite drops the end of a cut write-ahead log without a word, and the mark shows it.
 """
 
+import itertools
 import os
 import sqlite3
 from collections.abc import Iterator, Sequence
@@ -129,7 +130,7 @@ class Journal:
 
     def append(self, lines: Sequence[tuple[Line, bytes]]) -> None:
         """Appends lines with their chains by one statement, and so one commit, which is on disk at the return."""
-        values = [value for line, chain in lines for value in (*line, chain)]
+        values = list(itertools.chain.from_iterable([(*line, chain) for line, chain in lines]))
         self._database.execute(f"{_INSERT} {', '.join([_ROW] * len(lines))}", values)
         line, chain = lines[-1]
         self._move_mark(Place(line.number, chain))

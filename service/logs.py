@@ -24,7 +24,7 @@ _AT_ONCE = 64
 RECORD_SECONDS = 2.0
 #: After a failed write the next one is tried after so many seconds.
 _RETRY_SECONDS = 0.5
-_ENCODE = json.JSONEncoder().encode
+in_json = json.JSONEncoder().encode
 #: So many events of one name are written in so many seconds: what somebody without a role causes fills no disk.
 _FEW, _FEW_SECONDS = 600, 60
 
@@ -77,7 +77,7 @@ class Log:
 
     def event(self, what: str, **fields: object) -> bool:
         """One line. False: too many wait, and this one is lost."""
-        text = _lines(what, [fields])
+        text = _lines(what, [in_json(fields)[1:-1]])
         with self._changed:
             if self._bytes >= _MOST_OF_EVENTS:
                 self.lost += 1
@@ -103,16 +103,14 @@ class Log:
         self._few[what] = now, count + 1, 0
         return left_out
 
-    def records(self, what: str, many: Sequence[dict[str, object]], then: Callable[[bool], object]) -> bool:
-        """A line each. Returns whether they are on the stream; otherwise `then` is called, by any thread, with whether
-        they are in time. If they aren't, they are written once the stream takes them."""
-        waiting = _Waiting(_lines(what, many), time.monotonic(), then)
+    def records(self, what: str, many: Sequence[str], then: Callable[[bool], object]) -> bool:
+        """A line each, of fields in JSON. Returns whether they are on the stream; otherwise `then` is called, by any
+        thread, with whether they are in time. If they aren't, they are written once the stream takes them."""
+        is_failing = self._is_failing
+        waiting = _Waiting(_lines(what, many), time.monotonic(), None if is_failing else then)
         with self._lock:
-            is_failing = self._is_failing
             is_first = not self._waiting and not is_failing
             self._is_written = self._is_written or is_first
-            if is_failing:
-                waiting.then = None
             self._put(waiting)
         if is_failing:
             _call([then], False)
@@ -127,10 +125,12 @@ class Log:
     def _write_now(self, first: _Waiting) -> bool:
         """Writes the only one, as far as the stream takes it at once. Returns whether all is there, in time."""
         rest = memoryview(first.text)
-        with contextlib.suppress(OSError):
+        try:
             # (a ready pipe takes so many bytes; each look at it, and each write, gives other threads a turn)
             while rest and (self._is_file or self._ready.poll(0)):
                 rest = rest[os.write(self._out, rest if self._is_file else rest[: select.PIPE_BUF]) :]
+        except OSError:
+            pass
         with self._lock:
             self._bytes -= len(first.text) - len(rest)
             first.text, is_waited_for = bytes(rest), first.then is not None
@@ -207,7 +207,7 @@ def _call(thens: Sequence[Callable[[bool], object]], is_written: bool) -> None:
             then(is_written)
 
 
-def _lines(what: str, many: Sequence[dict[str, object]]) -> bytes:
-    """A line each. Texts may come from outside: JSON escapes what would make a line of its own."""
+def _lines(what: str, many: Sequence[str]) -> bytes:
+    """A line each, of fields in JSON. Texts may come from outside: JSON escapes what would make a line of its own."""
     head = f'{{"time": {round(time.time(), 3)}, "event": "{what}"'
-    return "".join([f"{head}{', ' if fields else ''}{_ENCODE(fields)[1:]}\n" for fields in many]).encode()
+    return "".join([f"{head}{', ' if fields else ''}{fields}}}\n" for fields in many]).encode()

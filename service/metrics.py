@@ -69,7 +69,8 @@ class Metrics:
         if answer != "fault role":
             self.edit_seconds.add(seconds)
         if not is_publish:
-            self.edits[_label(answer)] += 1
+            # An answer without its numbers: `ok`, a refusal's name, `fault` or `unavailable`.
+            self.edits[answer.split(" ")[-1 if answer.startswith("refused") else 0]] += 1
         elif answer.startswith("published"):
             self.publishes += 1
 
@@ -94,9 +95,3 @@ class Metrics:
 def seconds_since(milliseconds: int) -> float:
     """The seconds since a time in milliseconds since 1970."""
     return max(0.0, time.time() - milliseconds / 1000)
-
-
-def _label(answer: str) -> str:
-    """An answer without its numbers: `ok`, a refusal's name, `fault` or `unavailable`."""
-    words = answer.split(" ")
-    return words[-1] if words[0] == "refused" else words[0]

@@ -4,7 +4,6 @@ tokens."""
 import functools
 from collections import OrderedDict
 from collections.abc import Sequence
-from dataclasses import replace
 
 import hudarin
 from hudarin import Group, KeptDescriptor, Refused, Sid, Token, Verdict
@@ -134,7 +133,7 @@ class Questions:
 
     def beside(self, deadline: Deadline) -> "Questions":
         """The same, by a view of its own that is closed by itself: for a thread, up to the deadline."""
-        shown = replace(self.shown, view=self.shown.view.share())
+        shown = self.shown._replace(view=self.shown.view.share())
         return Questions(shown, self.store, self.mapping, deadline)
 
     def _token(self, mask: str, words: tuple[str, ...], paths: Sequence[str]) -> tuple[Token, int]:

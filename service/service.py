@@ -25,7 +25,7 @@ from following import Following, feed_of, stream_of
 from held import Held
 from journal import Journal
 from loading import Loaded
-from logs import Log
+from logs import Log, in_json
 from long_answers import BUSY, STOPPING, LongAnswers, Work
 from metrics import Metrics, seconds_since
 from questions import Questions
@@ -249,19 +249,19 @@ class Service:
 
     def _begin(self, task: Task) -> None:
         """The edits are in progress. Fault: they aren't taken now."""
-        count, length = len(task.parts) or 1, len(task.line)
-        for part in task.parts:
-            length += len(part.line)
+        count, length = self._edits, self._edit_length
+        for each in task.parts or (task,):
+            count += 1
+            length += len(each.line)
         if not self._writer.leads:
             raise Fault(NO_LEADER)
         if self.is_stopping:
             raise Fault(STOPPING)
         if not self.log.takes_records:
             raise Fault(NO_RECORD)
-        if self._edits + count > self.limits.edits or self._edit_length + length > _EDIT_LENGTH:
+        if count > self.limits.edits or length > _EDIT_LENGTH:
             raise Fault(BUSY)
-        self._edits += count
-        self._edit_length += length
+        self._edits, self._edit_length = count, length
 
     def _task(self, words: list[str], caller: Caller, reply: Callable[[Task], None]) -> Task:
         """An edit or publish of these words, or one that is answered by its fault."""
@@ -301,8 +301,10 @@ class Service:
 
     def _record(self, tasks: list[Task], then: Callable[[bool], None]) -> bool:
         """Whether the records of the edits are written; otherwise the loop calls `then` with whether they are."""
+        # (to encode the fields of a record together takes longer)
         return self.log.records("edit", [
-            {"who": each.who, "key": each.key, "line": each.line, "answer": each.answer, "number": each.number}
+            f'"who": {in_json(each.who)}, "key": {in_json(each.key)}, "line": {in_json(each.line)}, '
+            f'"answer": {in_json(each.answer)}, "number": {each.number}'
             for task in tasks for each in task.parts or (task,)
         ], functools.partial(self._loop.call_soon_threadsafe, then))
 

@@ -1,14 +1,13 @@
 """What questions are answered by: the published tree, and how far the journal goes."""
 
-from dataclasses import dataclass
+from typing import NamedTuple
 
 from hudarin import View
 
 from entry import Place
 
 
-@dataclass(frozen=True, slots=True)
-class Shown:
+class Shown(NamedTuple):
     """What readers see."""
 
     view: View

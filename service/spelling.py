@@ -51,7 +51,7 @@ _kept_descriptor = functools.lru_cache(_KEPT)(_descriptor)
 
 def printed(descriptor: Descriptor, given: str = "") -> str:
     """The canonical text, which isn't parsed again if it is the one that was given. Fault: it parses to other bytes."""
-    is_short = len(bytes(descriptor)) <= _KEPT_LENGTH and len(given) <= _KEPT_LENGTH
+    is_short = len(given or bytes(descriptor)) <= _KEPT_LENGTH
     return _kept_text(descriptor, given) if is_short else _text(descriptor, given)
 
 

@@ -2,7 +2,7 @@
 
 import asyncio
 import time
-from typing import Protocol, cast
+from typing import Protocol
 
 #: A client has so much of twice the time. Then others have the loop, for a round of it or for the rest of that time.
 _SECONDS = 0.004
@@ -20,29 +20,27 @@ class Turn:
 
     def __init__(self) -> None:
         self._loop = asyncio.get_running_loop()
-        #: When it is over, if the connection at work goes on; and from then on another one begins by itself.
-        self.ends = self._next = 0.0
-        #: The time that was used of it, and since when a connection is at work.
-        self._used, self._since = 0.0, cast("float | None", None)
+        #: When it is over, if a connection is at work, or 0; when another one begins by itself; and what is left of it.
+        self.ends = self._next = self._left = 0.0
         #: The connections that proceed in the next turn, in their order.
         self._later: dict[Worker, None] = {}
 
     def begin(self) -> None:
         """A connection is at work from here on, up to `end`."""
-        now = self._since = time.perf_counter()
+        now = time.perf_counter()
         if now >= self._next:
-            self._used, self._next = 0.0, now + 2 * _SECONDS
-        self.ends = now + _SECONDS - self._used
+            self._left, self._next = _SECONDS, now + 2 * _SECONDS
+        self.ends = now + self._left
 
     def end(self) -> None:
         """It waits for others."""
-        if self._since is not None:
-            self._used += time.perf_counter() - self._since
-        self._since = None
+        if self.ends:
+            self._left = self.ends - time.perf_counter()
+        self.ends = 0.0
 
     def is_over(self) -> bool:
         """Whether others have the loop now. If no connection is at work, the one that asks is from here on."""
-        if self._since is None or time.perf_counter() >= self._next:
+        if not self.ends or time.perf_counter() >= self._next:
             self.begin()
         return time.perf_counter() >= self.ends
 

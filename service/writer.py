@@ -12,7 +12,7 @@ import time
 from collections import deque
 from collections.abc import Callable
 from concurrent.futures import Future
-from dataclasses import dataclass, field, replace
+from dataclasses import dataclass, field
 
 from hudarin import View
 
@@ -148,7 +148,7 @@ class Writer:
     def _answer(self, tasks: list[Task]) -> None:
         """Has the tasks answered. Readers see what is on disk from here on; if that isn't known, what they saw."""
         if self.is_lost:
-            self.shown = replace(self.shown, takes_edits=False, fresh_until=self.fresh_until)
+            self.shown = self.shown._replace(takes_edits=False, fresh_until=self.fresh_until)
         else:
             self.shown = self._show()
         self.done(tasks, self.shown)
@@ -159,17 +159,14 @@ class Writer:
         count = 0
         try:
             item = self.waiting.get(timeout=RETRY_SECONDS if self._may_try_again() else None)
-        except queue.Empty:
-            return tasks, self._try_again, False
-        while isinstance(item, Task):
-            tasks.append(item)
-            count += len(item.parts) or 1
-            if count >= MOST_AT_ONCE:
-                return tasks, None, False
-            try:
+            while isinstance(item, Task):
+                tasks.append(item)
+                count += len(item.parts) or 1
+                if count >= MOST_AT_ONCE:
+                    return tasks, None, False
                 item = self.waiting.get_nowait()
-            except queue.Empty:
-                return tasks, None, False
+        except queue.Empty:
+            return tasks, None if tasks else self._try_again, False
         return tasks, item, item is None
 
     def _carry_out(self, tasks: list[Task]) -> None:
@@ -214,9 +211,8 @@ class Writer:
             self._log(task, batch)
 
     def _edit(self, task: Task, edit: Edit) -> bool:
-        refusal = self.state.tree.make(edit)
-        task.answer = ACCEPTED if refusal is None else refusal
-        return refusal is None
+        task.answer = self.state.tree.make(edit) or ACCEPTED
+        return task.answer == ACCEPTED
 
     def _publish(self, task: Task) -> bool:
         """Publishes what is pending; without that nothing changes."""
@@ -240,17 +236,16 @@ class Writer:
         return True
 
     def _log(self, task: Task, batch: Batch) -> None:
-        state = self.state
-        state.time = clock.milliseconds()
-        task.number = state.last.number + 1
-        length = 0 if task.edit is not None else state.tree.length
+        state, length = self.state, 0 if task.edit is not None else self.state.tree.length
+        number, before = state.last
+        task.number, state.time = number + 1, clock.milliseconds()
         line = Line(state.epoch, task.number, state.time, task.who, task.key, task.line, length)
-        chain = line.chained(self.journal.store, state.last.chain)
+        chain = line.chained(self.journal.store, before)
         batch.lines.append((line, chain))
         if task.key:
             batch.by_key[task.key] = line
         state.last = Place(task.number, chain)
-        if task.edit is None:
+        if length:
             state.published = state.last
 
     def _drop(self, view: View) -> None:

@@ -43,7 +43,7 @@ class Logs(rig.Case):
             def then(is_written: bool, at: int = at) -> None:
                 told.append((at, is_written))
 
-            if log.records("edit", [{"at": at, "text": "x" * 300}], then):
+            if log.records("edit", [f'"at": {at}, "text": "{"x" * 300}"'], then):
                 then(True)
         end = time.monotonic() + 10 * RECORD_SECONDS
         while log.takes_records or len(told) < 400:
