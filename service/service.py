@@ -72,7 +72,8 @@ class Service:
         self._long_answers = LongAnswers(config.limits.long_answers, config.limits.long_seconds)
         self.slots, self.held = Slots(config.limits), Held(config.limits.held_bytes)
         self._turns: weakref.WeakValueDictionary[str, Turn] = weakref.WeakValueDictionary()
-        self._edits = self._edit_length = 0
+        #: The edits in progress, their characters, and those that the writer gets once this round of the loop is over.
+        self._edits, self._edit_length, self._gathered = 0, 0, list[Task]()
         #: The commits so far, and those that readers see.
         self._commits = self._shown_commits = 0
         self.is_stopping = False
@@ -244,8 +245,19 @@ class Service:
                 task.settle(UNMADE)
                 reply(task)
                 return
+        is_alone = not self._edits
         self._begin(task)
-        self._writer.put(task)
+        self._gathered.append(task)
+        if is_alone:
+            self._hand_over()
+        elif len(self._gathered) == 1:
+            self._loop.call_soon(self._hand_over)
+
+    def _hand_over(self) -> None:
+        """The writer gets the edits of a round of the loop at once: one by one, the two would take turns at each."""
+        for task in self._gathered:
+            self._writer.put(task)
+        self._gathered.clear()
 
     def _begin(self, task: Task) -> None:
         """The edits are in progress. Fault: they aren't taken now."""
@@ -344,6 +356,7 @@ class Service:
     async def stop(self) -> None:
         """Takes no more edits, and returns once those in progress are answered and the journal is at rest."""
         self.is_stopping = True
+        self._hand_over()
         await self._long_answers.stop()
         if self._following is not None:
             await self._loop.run_in_executor(None, self._following.stop)
