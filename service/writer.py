@@ -139,10 +139,8 @@ class Writer:
             self._answer(tasks)
         if other is not None:
             other()
-        if not is_last:
-            if self._maker.has_made:
-                self._start_epoch_if_made()
-            self._make_epoch_if_due()
+        if self._maker.has_made and not is_last:
+            self._start_epoch_if_made()
         return not is_last
 
     def _answer(self, tasks: list[Task]) -> None:
@@ -151,6 +149,7 @@ class Writer:
             self.shown = self.shown._replace(takes_edits=False, fresh_until=self.fresh_until)
         else:
             self.shown = self._show()
+        self._make_epoch_if_due()
         self.done(tasks, self.shown)
 
     def _take(self) -> tuple[list[Task], Callable[[], None] | None, bool]:
