@@ -1,20 +1,6 @@
 -- Lists that act alike: those that are equal, and one after another. What is handed on by a list is what its parts hand on.
-use Rattle.std.proofs.Common.{◌≡◌, ℕ, suc, true, ◌==◌, inl, inr, List, [], ◌∷◌, ◌++◌, length, take, drop, remove, Option, Some, refl, sym, ◌∙◌, ap, zero}
-use Rattle.std.proofs.Math.Dec.{eqb-suc-zero}
-use Rattle.std.proofs.lemmas.Bool.{false≢true}
-use Rattle.std.proofs.lemmas.Grind.{flat_map-append}
-use Rattle.sd_sid.specs.Mapping.{MappingValue}
-use Rattle.sd_sid.specs.Sid.{SidValue}
-use Rattle.sd_acl.specs.declared.ace.Ace.{Ace}
-use Rattle.sd_check.specs.Check.{verdict}
-use Rattle.sd_check.specs.declared.token.GroupState.{GroupState}
-use Rattle.sd_inheritance.specs.Inheritance.{creator_group, creator_owner, pass_on}
-use Rattle.sd_inheritance.specs.declared.kind.NodeKind.{NodeKind}
+use Rattle.sd_analysis.proofs.Cited.{Ace, ActAlike, ActUnlike, Container, ContainerBelow, DecideAlike, Descendant, GroupState, InheritAlike, List, MappingValue, NodeKind, Object, ObjectBelow, Option, SidValue, Some, [], ap, creator_group, creator_owner, drop, eqb-suc-zero, false≢true, flat_map-append, inherited_entries, inl, inr, length, list_of, pass_on, refl, remove, suc, sym, take, true, verdict, zero, ℕ, ◌++◌, ◌==◌, ◌∙◌, ◌∷◌, ◌≡◌}
 use Rattle.sd_inheritance.specs.declared.kind.NodeKind.TheVariants as kinds
-use Rattle.sd_analysis.specs.Descendants.{inherited_entries, list_of}
-use Rattle.sd_analysis.specs.Effect.{ActAlike, ActUnlike, DecideAlike, InheritAlike}
-use Rattle.sd_analysis.specs.declared.descendants.Descendant.{Descendant}
-use Rattle.sd_analysis.specs.declared.descendants.Descendant.TheVariants.{Object, Container, ObjectBelow, ContainerBelow}
 
 module _ (g : MappingValue) (base : List (SidValue × GroupState)) where
   pub decide_same : (owner : Option SidValue) (es others : List Ace) → others ≡ es → DecideAlike owner g base es others

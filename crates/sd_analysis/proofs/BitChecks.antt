@@ -1,16 +1,5 @@
 -- A request for one bit below place 21: it is granted where nothing is missing of it.
-use Rattle.std.proofs.Common.{◌≡◌, ℕ, ◌^◌, ◌<◌, Bool, true, false, ◌&&◌, not, ◌==◌, cond, inl, inr, sym, ◌∙◌, ap, arith}
-use Rattle.std.proofs.lemmas.Bool.{cases_eq, cond-false, ne_eqb, true_from_ne_false}
-use Rattle.std.proofs.lemmas.Nat.{pow_below}
-use Rattle.std.proofs.lemmas.Nat.Bits.{bit_at-pow_same, bit_at-pow_other, bit_at-zero}
-use Rattle.std.proofs.Math.Bool.{and-false}
-use Rattle.std.proofs.Math.Pow.{pow_pos}
-use Rattle.sd_sid.specs.Mask.{holds}
-use Rattle.sd_sid.proofs.Masks.{holds_place, mask_of-alike}
-use Rattle.sd_check.specs.Check.{is_granted, missing_of, most}
-use Rattle.sd_check.specs.declared.verdict.Verdict.TheVariants.{Granted, Denied}
-use Rattle.sd_check.proofs.LowMasks.{judged_low, no_places}
-use Rattle.sd_analysis.specs.Base.{BitIsItsCheck}
+use Rattle.sd_analysis.proofs.Cited.{BitIsItsCheck, Bool, Denied, Granted, and-false, ap, arith, bit_at-pow_other, bit_at-pow_same, bit_at-zero, cases_eq, cond, cond-false, false, holds, holds_place, inl, inr, is_granted, judged_low, mask_of-alike, missing_of, most, ne_eqb, no_places, not, pow_below, pow_pos, sym, true, true_from_ne_false, ℕ, ◌&&◌, ◌<◌, ◌==◌, ◌^◌, ◌∙◌, ◌≡◌}
 
 none_missing : (p : ℕ → Bool) (b : ℕ) → p b ≡ true → missing_of p (2 ^ b) ≡ 0
 none_missing p b given = mask_of-alike _ (λ k. false) 32 (λ k h. elim (cases_eq k b) [

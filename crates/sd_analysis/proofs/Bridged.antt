@@ -1,21 +1,5 @@
 -- What a token is granted, pass by pass; and which demands on its passes make a gain.
-use Rattle.std.proofs.Common.{arith, ◌≡◌, ℕ, Bool, true, false, not, ◌&&◌, ◌||◌, ◌==◌, cond, List, ◌∷◌, Option, Some, None, ◌⊎◌, inl, inr, refl, sym, ◌∙◌, ap}
-use Rattle.std.specs.List.{list_any}
-use Rattle.std.specs.Option.{option_to_list}
-use Rattle.std.proofs.lemmas.Bool.{cases_Bool, and_parts, and_from, or_cases, and_left, false≢true, not-true}
-use Rattle.std.proofs.Math.Bool.{or_assoc}
-use Rattle.sd_sid.specs.Mapping.{MappingValue}
-use Rattle.sd_sid.specs.Sid.{SidValue, same_sid}
-use Rattle.sd_acl.specs.declared.ace.AceKind.{AceKind}
-use Rattle.sd_acl.specs.declared.ace.AceKind.TheVariants.{Allow}
-use Rattle.sd_check.specs.Check.{acl_grants, applies, applies_again, is_granted, is_given, limits_owner, stands_for_subject, is_restricting_subject, subject}
-use Rattle.sd_check.specs.Token.{TokenValue, is_restricted}
-use Rattle.sd_check.specs.declared.grounds.Pass.TheVariants.{First, Second}
-use Rattle.sd_check.specs.declared.token.GroupState.{GroupState}
-use Rattle.sd_analysis.specs.Sufficient.{Parts, gains, token_of, has_sid}
-use Rattle.sd_analysis.specs.Passes.{about, lists, owns, meets, stands_in, sids_stand}
-use Rattle.sd_analysis.specs.declared.witness.Demand.{Demand}
-use Rattle.sd_analysis.specs.declared.witness.PassSids.{PassSids}
+use Rattle.sd_analysis.proofs.Cited.{AceKind, Allow, Bool, Demand, First, GroupState, List, MappingValue, None, Option, Parts, PassSids, Second, SidValue, Some, TokenValue, about, acl_grants, and_from, and_left, and_parts, ap, applies, applies_again, arith, cases_Bool, cond, false, false≢true, gains, has_sid, inl, inr, is_given, is_granted, is_restricted, is_restricting_subject, limits_owner, list_any, lists, meets, not, not-true, option_to_list, or_assoc, or_cases, owns, refl, same_sid, sids_stand, stands_for_subject, stands_in, subject, sym, token_of, true, ℕ, ◌&&◌, ◌==◌, ◌||◌, ◌∙◌, ◌∷◌, ◌≡◌, ◌⊎◌}
 
 -- ---- a token in its passes
 

@@ -1,30 +1,6 @@
 -- Lists that decide alike for two tokens.
-use Rattle.std.proofs.Common.{◌≡◌, ℕ, Bool, true, false, not, ◌&&◌, ◌||◌, ◌==◌, nat_lt, cond, List, [], ◌∷◌, ◌++◌, length, Option, Some, None, option_map, inl, inr, refl, sym, ◌∙◌, ap, ap₂, arith, find}
-use Rattle.std.specs.List.{flat_map, list_any}
-use Rattle.std.specs.Option.{option_or}
-use Rattle.std.proofs.Math.Bool.{and-false, and-true, or-false, or-true}
-use Rattle.std.proofs.Math.Dec.{eqb-suc-zero}
-use Rattle.std.proofs.lemmas.Bool.{cases_Bool, false≢true, false_from_ne_true, or_parts}
-use Rattle.std.proofs.lemmas.List.Folds.{list_any-append}
-use Rattle.sd_sid.specs.Mask.{holds}
-use Rattle.sd_sid.specs.Mapping.{MappingValue, mapped}
-use Rattle.sd_sid.specs.Sid.{SidValue, owner_rights, same_sid}
-use Rattle.sd_sid.proofs.Compared.{same_sid-itself, same_sid-true}
-use Rattle.sd_acl.specs.Ace.{is_allow, is_inherit_only}
-use Rattle.sd_acl.specs.declared.ace.Ace.{Ace}
-use Rattle.sd_acl.specs.declared.ace.AceKind.{AceKind}
-use Rattle.sd_acl.specs.declared.ace.AceKind.TheVariants.{Allow, Deny}
-use Rattle.sd_check.specs.Check.{acl_grants, applies, decides, first, is_allowed_by, is_granted, is_implied, is_limit, is_restricting_subject, stands_for_subject, subject}
-use Rattle.sd_check.specs.Token.{TokenValue, a_group_stands_for, is_restricted, is_restricting, stands_for}
-use Rattle.sd_check.specs.declared.token.GroupState.{GroupState}
-use Rattle.sd_check.specs.declared.token.GroupState.TheVariants.{Enabled, DenyOnly, Disabled}
-use Rattle.sd_inheritance.specs.Inheritance.{creator_group, creator_owner, container_inherit, created_by, effective_copy, is_split, no_propagate, object_inherit, pass_on, waiting_copy, whole_copy}
-use Rattle.sd_inheritance.specs.declared.kind.NodeKind.{NodeKind}
+use Rattle.sd_analysis.proofs.Cited.{Ace, AceKind, Allow, Bool, CreatorsStandForAll, Deny, DenyOnly, Disabled, EachHasAStandIn, Enabled, GroupState, HasNoCreator, List, MappingValue, NodeKind, None, Option, Parts, SidValue, Some, StandsIn, TokenValue, UnnamedUsersAreAlike, [], a_group_stands_for, acl_grants, and-false, and-true, ap, applies, ap₂, arith, cases_Bool, cond, container_inherit, created_by, creator_group, creator_owner, decides, effective_copy, entries_or_none, eqb-suc-zero, false, false_from_ne_true, false≢true, find, first, flag_of, flat_map, gains, handed_to, has_sid, holds, in_its_state, inherited_entries, inl, inr, is_allow, is_allowed_by, is_granted, is_implied, is_inherit_only, is_limit, is_named, is_restricted, is_restricting, is_restricting_subject, is_split, length, list_any, list_any-append, mapped, nat_lt, no_propagate, not, object_inherit, option_map, option_or, or-false, or-true, or_parts, owner_rights, pass_on, refl, same_sid, same_sid-itself, same_sid-true, stand_in, stands_for, stands_for_subject, subject, sym, true, waiting_copy, where_restricting, whole_copy, with_user, ℕ, ◌&&◌, ◌++◌, ◌==◌, ◌||◌, ◌∙◌, ◌∷◌, ◌≡◌}
 use Rattle.sd_inheritance.specs.declared.kind.NodeKind.TheVariants.{Container, Object}
-use Rattle.sd_inheritance.proofs.HandedOn.{flag_of}
-use Rattle.sd_analysis.specs.Creators.{CreatorsStandForAll, EachHasAStandIn, HasNoCreator, StandsIn, UnnamedUsersAreAlike, handed_to, in_its_state, stand_in, where_restricting, with_user}
-use Rattle.sd_analysis.specs.Descendants.{inherited_entries}
-use Rattle.sd_analysis.specs.Sufficient.{Parts, entries_or_none, gains, has_sid, is_named}
 
 apart : (a b : SidValue) → same_sid a b ≡ false → same_sid b a ≡ false
 apart a b h = false_from_ne_true _ (λ there. false≢true (sym h ∙ ap (same_sid a) (same_sid-true b a there) ∙ same_sid-itself a))

@@ -1,20 +1,7 @@
 -- What is handed on below new containers, where each entry is handed on to any depth: what new containers hand on is
 -- what the container above hands on.
-use Rattle.std.proofs.Common.{◌≡◌, ℕ, Bool, true, false, ◌&&◌, ◌||◌, cond, List, [], ◌∷◌, ◌++◌, bit_and, bit_or, inl, inr, refl, sym, ◌∙◌, ap, ap₂, append-nil}
-use Rattle.std.specs.List.{flat_map, list_any}
-use Rattle.std.proofs.Math.Bool.{and-false, and-true, or-false}
-use Rattle.std.proofs.lemmas.Bool.{cases_Bool, or_parts}
-use Rattle.std.proofs.lemmas.Grind.{flat_map-append}
-use Rattle.std.proofs.lemmas.Nat.{and_assoc, and_or_apart}
-use Rattle.sd_sid.specs.Mask.{holds}
-use Rattle.sd_sid.specs.Mapping.{MappingValue, mapped}
-use Rattle.sd_acl.specs.declared.ace.Ace.{Ace}
-use Rattle.sd_inheritance.specs.Inheritance.{container_inherit, creator_group, creator_owner, effective_copy, is_split, no_propagate, object_inherit, pass_on, waiting_copy, whole_copy}
-use Rattle.sd_inheritance.specs.declared.kind.NodeKind.{NodeKind}
+use Rattle.sd_analysis.proofs.Cited.{Ace, BelowIsAsInIt, Bool, List, MappingValue, NodeKind, [], and-false, and-true, and_assoc, and_or_apart, ap, append-nil, ap₂, bit_and, bit_or, cases_Bool, cond, container_inherit, creator_group, creator_owner, effective_copy, effective_hands_nothing, false, flag_of, flat_map, flat_map-append, holds, inherited_entries, inl, inr, is_split, list_any, mapped, no_propagate, object_inherit, or-false, or_parts, pass_on, refl, stops_somewhere, sym, true, unmarked_stays, waiting_copy, whole_copy, ℕ, ◌&&◌, ◌++◌, ◌||◌, ◌∙◌, ◌∷◌, ◌≡◌}
 use Rattle.sd_inheritance.specs.declared.kind.NodeKind.TheVariants.{Container, Object}
-use Rattle.sd_inheritance.proofs.HandedOn.{effective_hands_nothing, flag_of, unmarked_stays}
-use Rattle.sd_analysis.specs.Creators.{BelowIsAsInIt}
-use Rattle.sd_analysis.specs.Descendants.{inherited_entries, stops_somewhere}
 
 -- a copy that is handed on, with flags for itself
 abbrev copied : ℕ → Ace → Ace

@@ -1,8 +1,5 @@
 -- A loop that adds one element for each of a list.
-use Rattle.std.proofs.Common.{◌≡◌, ℕ, zero, suc, ◌+◌, ◌<◌, List, [], ◌∷◌, ◌++◌, length, map, take, get_or, sym, ◌∙◌, ap, ap₂, arith}
-use Rattle.std.specs.List.{All}
-use Rattle.std.proofs.Math.Seq.{take-suc}
-use Rattle.std.proofs.lemmas.List.{map-append}
+use Rattle.sd_analysis.proofs.Cited.{All, List, [], ap, ap₂, arith, get_or, length, map, map-append, suc, sym, take, take-suc, zero, ℕ, ◌++◌, ◌+◌, ◌<◌, ◌∙◌, ◌∷◌, ◌≡◌}
 
 pub each_more : {X Y : Type 0} (f : X → Y) (xs : List X) (x : X) (ys : List Y) (i : ℕ) (y : Y) → i < length ys → f x ≡ get_or ys i y
     → map f xs ≡ take i ys → map f (xs ++ (x ∷ [])) ≡ take (i + 1) ys

@@ -1,24 +1,5 @@
 -- Verdicts on all requests are the same just where the same bits are granted.
-use Rattle.std.proofs.Common.{subst, length, [], ◌∷◌, ◌≡◌, ℕ, ◌^◌, ◌<◌, ◌≤◌, Bool, true, false, not, ◌&&◌, ◌||◌, ◌==◌, nat_lt, List, Option, Some, refl, sym, ◌∙◌, ap, arith}
-use Rattle.std.proofs.Math.Dec.{eqb-suc-zero}
-use Rattle.std.proofs.lemmas.Bool.{false≢true, le-ltb, or_right}
-use Rattle.std.proofs.lemmas.List.Elements.{All-head}
-use Rattle.sd_sid.specs.Mask.{holds, mask_of}
-use Rattle.sd_sid.specs.Mapping.{MappingValue}
-use Rattle.sd_sid.specs.Sid.{SidValue}
-use Rattle.sd_acl.specs.declared.ace.Ace.{Ace}
-use Rattle.sd_check.specs.Check.{first, applies_again, is_allowed_by, is_granted, is_implied, is_owner, judged, limits_owner, verdict}
-use Rattle.sd_acl.specs.declared.ace.AceKind.{AceKind}
-use Rattle.sd_check.specs.Token.{TokenValue, a_group_stands_for}
-use Rattle.sd_check.specs.declared.token.GroupState.{GroupState}
-use Rattle.sd_check.specs.declared.verdict.Verdict.{Verdict}
-use Rattle.sd_check.specs.declared.verdict.Verdict.TheVariants.{Granted}
-use Rattle.sd_check.proofs.LawProofs.{one_test}
-use Rattle.sd_analysis.specs.Base.{HasBase}
-use Rattle.sd_analysis.specs.Compare.{AreGains, HasABit}
-use Rattle.sd_analysis.specs.Effect.{DecideAlike, Differ}
-use Rattle.sd_analysis.specs.Sufficient.{Parts, gains, parts_with, token_of, with_denied}
-use Rattle.sd_analysis.specs.declared.compare_report.Change.{Change}
+use Rattle.sd_analysis.proofs.Cited.{Ace, AceKind, All-head, AreGains, Bool, Change, DecideAlike, Differ, Granted, GroupState, HasABit, HasBase, List, MappingValue, Option, Parts, SidValue, Some, TokenValue, Verdict, [], a_group_stands_for, ap, applies_again, arith, eqb-suc-zero, false, false≢true, first, gains, holds, is_allowed_by, is_granted, is_implied, is_owner, judged, le-ltb, length, limits_owner, mask_of, nat_lt, not, one_test, or_right, parts_with, refl, subst, sym, token_of, true, verdict, with_denied, ℕ, ◌&&◌, ◌<◌, ◌==◌, ◌^◌, ◌||◌, ◌∙◌, ◌∷◌, ◌≡◌, ◌≤◌}
 use Rattle.sd_analysis.proofs.BitChecks.{bit_is_its_check}
 
 -- for a list the verdict rests on which bits are granted

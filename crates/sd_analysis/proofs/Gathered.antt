@@ -1,26 +1,5 @@
 -- How findings become a report, and what a whole report says.
-use Rattle.std.proofs.Common.{◌≡◌, ℕ, ◌<◌, ◌+◌, Bool, true, false, not, List, [], ◌∷◌, length, get_or, take, Some, None, ◌⊎◌, inl, inr, refl, sym, ◌∙◌, ap, arith, subst}
-use Rattle.std.specs.List.{All}
-use Rattle.std.proofs.lemmas.Bool.{and_parts, and_from, or_cases, false≢true, cases_Bool, false_from_ne_true, true_from_ne_false, not_from_false, not-true, ltb-true, agree_below_at}
-use Rattle.std.proofs.lemmas.List.Folds.{list_any_more}
-use Rattle.sd_sid.specs.Mask.{holds}
-use Rattle.sd_sid.specs.Mapping.{MappingValue}
-use Rattle.sd_sid.specs.Sid.{SidValue}
-use Rattle.sd_check.specs.Check.{is_granted}
-use Rattle.sd_check.specs.Token.{TokenValue}
-use Rattle.sd_check.specs.declared.grounds.Pass.TheVariants.{First, Second}
-use Rattle.sd_analysis.specs.Base.{HasBase}
-use Rattle.sd_check.specs.declared.token.GroupState.{GroupState}
-use Rattle.sd_analysis.specs.Sufficient.{Parts, gains, token_of}
-use Rattle.sd_analysis.specs.Passes.{meets, sids_stand, stands_in}
-use Rattle.sd_analysis.specs.Compare.{AreGains}
-use Rattle.sd_analysis.specs.Report.{AreFindings, IsLess, IsNotGained, IsRefused, IsRefusedAgain, IsReportOf, is_found, new_of, old_of, rest_of, token_meets}
-use Rattle.sd_analysis.specs.declared.compare_report.Change.{Change}
-use Rattle.sd_analysis.specs.declared.compare_report.Report.{Report}
-use Rattle.sd_analysis.specs.declared.compare_search.Case.{Case}
-use Rattle.sd_analysis.specs.declared.compare_search.Finding.{Finding}
-use Rattle.sd_analysis.specs.declared.witness.Demand.{Demand}
-use Rattle.sd_analysis.specs.declared.witness.Witness.{Witness}
+use Rattle.sd_analysis.proofs.Cited.{All, AreFindings, AreGains, Bool, Case, Change, Demand, Finding, First, GroupState, HasBase, IsLess, IsNotGained, IsRefused, IsRefusedAgain, IsReportOf, List, MappingValue, None, Parts, Report, Second, SidValue, Some, TokenValue, Witness, [], agree_below_at, and_from, and_parts, ap, arith, cases_Bool, false, false_from_ne_true, false≢true, gains, get_or, holds, inl, inr, is_found, is_granted, length, list_any_more, ltb-true, meets, new_of, not, not-true, not_from_false, old_of, or_cases, refl, rest_of, sids_stand, stands_in, subst, sym, take, token_meets, token_of, true, true_from_ne_false, ℕ, ◌+◌, ◌<◌, ◌∙◌, ◌∷◌, ◌≡◌, ◌⊎◌}
 use Rattle.sd_analysis.proofs.Passed.{meets_low}
 use Rattle.sd_analysis.proofs.Bridged.{gain_shown, unrestricted_gains, restricted_gains}
 

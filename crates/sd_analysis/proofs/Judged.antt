@@ -1,14 +1,7 @@
 -- One entry more is judged, before those that were.
-use Rattle.std.proofs.Common.{◌≡◌, ℕ, suc, zero, ◌<◌, ◌≤◌, ◌+◌, ◌-◌, Bool, true, false, List, [], ◌∷◌, ◌++◌, length, get_or, set, take, drop, replicate, Option, ◌⊎◌, inl, inr, refl, sym, ◌∙◌, ap, subst, arith}
+use Rattle.sd_analysis.proofs.Cited.{Ace, ActAlike, AreRedundant, Bool, Goes, GroupState, HasEffect, HasNoEffect, List, MappingValue, Option, SidValue, Stays, [], ap, arith, cases_eq, cases_lt, drop, drop-set-lt, drop_all, false, false_from_ne_true, false≢true, get_or, get_or-drop, get_or-set_other, get_or-set_same, get_or_past, inl, inr, is_marked, judged_in, length, length-append, length-drop, length-replicate, length-set, length-take-le, refl, replicate, set, subst, suc, sym, take, take-append-drop, take_all, true, unmarked, zero, ℕ, ◌++◌, ◌+◌, ◌-◌, ◌<◌, ◌∙◌, ◌∷◌, ◌≡◌, ◌≤◌, ◌⊎◌}
 use Rattle.std.specs.List.{remove}
-use Rattle.std.proofs.lemmas.Bool.{cases_eq, cases_lt, false_from_ne_true, false≢true}
-use Rattle.std.proofs.lemmas.List.{append-nil, drop-set-lt, drop_all, get_or-drop, get_or-set_other, get_or-set_same, get_or_past, length-append, length-drop, length-replicate, length-set, length-take-le, take-append-drop, take_all}
-use Rattle.sd_sid.specs.Mapping.{MappingValue}
-use Rattle.sd_sid.specs.Sid.{SidValue}
-use Rattle.sd_acl.specs.declared.ace.Ace.{Ace}
-use Rattle.sd_check.specs.declared.token.GroupState.{GroupState}
-use Rattle.sd_analysis.specs.Effect.{ActAlike, HasEffect, HasNoEffect}
-use Rattle.sd_analysis.specs.Redundant.{AreRedundant, Goes, Stays, is_marked, judged_in, unmarked}
+use Rattle.std.proofs.lemmas.List.{append-nil}
 use Rattle.sd_analysis.proofs.Alike.{act_after, act_same, not_both}
 
 -- the entries from a place on are judged

@@ -1,19 +1,5 @@
 -- The SIDs of a pass that decide: with these alone it shows what it showed.
-use Rattle.std.proofs.Common.{arith, ◌≡◌, ℕ, Bool, true, false, not, ◌&&◌, ◌||◌, nat_lt, cond, List, [], ◌∷◌, Option, Some, None, ◌⊎◌, inl, inr, refl, sym, ◌∙◌, ap}
-use Rattle.std.specs.List.{AllByRecursion, list_any, filter_map, cons_option}
-use Rattle.std.specs.Option.{option_to_list}
-use Rattle.std.proofs.lemmas.Bool.{and_parts, and_from, or_left, or_right, false≢true, not_from_false}
-use Rattle.std.proofs.lemmas.List.Folds.{list_any-append}
-use Rattle.sd_sid.specs.Mapping.{MappingValue}
-use Rattle.sd_sid.specs.Sid.{SidValue, same_sid}
-use Rattle.sd_sid.proofs.Compared.{same_sid-itself}
-use Rattle.sd_acl.specs.Ace.{is_allow, is_inherit_only}
-use Rattle.sd_acl.specs.declared.ace.Ace.{Ace}
-use Rattle.sd_acl.specs.declared.ace.AceKind.{AceKind}
-use Rattle.sd_acl.specs.declared.ace.AceKind.TheVariants.{Allow, Deny}
-use Rattle.sd_check.specs.Check.{first, is_allowed_by, subject}
-use Rattle.sd_analysis.specs.Sufficient.{Parts, is_of_kind, subject_if, is_named, allowed_sids, denied_sids, is_among}
-use Rattle.sd_analysis.specs.Passes.{about, lists}
+use Rattle.sd_analysis.proofs.Cited.{Ace, AceKind, AllByRecursion, Allow, Bool, Deny, List, MappingValue, None, Option, Parts, SidValue, Some, [], about, allowed_sids, and_from, and_parts, ap, arith, cond, cons_option, denied_sids, false, false≢true, filter_map, first, inl, inr, is_allow, is_allowed_by, is_among, is_inherit_only, is_named, is_of_kind, list_any, list_any-append, lists, nat_lt, not, not_from_false, option_to_list, or_left, or_right, refl, same_sid, same_sid-itself, subject, subject_if, sym, true, ℕ, ◌&&◌, ◌||◌, ◌∙◌, ◌∷◌, ◌≡◌, ◌⊎◌}
 use Rattle.sd_analysis.proofs.Narrowed.{IsLess, IsIn, allow_decides, none_allowed}
 
 is_allow-Allow : (kind : AceKind) → is_allow kind ≡ true → kind ≡ Allow

@@ -1,3 +1,4 @@
+pub mod Cited
 pub mod BitChecks
 pub mod Rights
 pub mod Walks

@@ -1,14 +1,5 @@
 -- A pass with fewer SIDs: what decided still decides where its SID is kept.
-use Rattle.std.proofs.Common.{arith, ◌≡◌, ℕ, Bool, true, false, not, ◌&&◌, List, [], ◌∷◌, Option, Some, None, ◌⊎◌, inl, inr, refl, sym, ◌∙◌, ap, find}
-use Rattle.std.specs.List.{AllByRecursion, list_any}
-use Rattle.std.proofs.lemmas.Bool.{and_parts, or_left, or_right, cases_Bool, false≢true}
-use Rattle.sd_sid.specs.Mask.{holds}
-use Rattle.sd_sid.specs.Mapping.{MappingValue, mapped}
-use Rattle.sd_sid.specs.Sid.{SidValue}
-use Rattle.sd_acl.specs.Ace.{is_allow, is_inherit_only}
-use Rattle.sd_acl.specs.declared.ace.Ace.{Ace}
-use Rattle.sd_acl.specs.declared.ace.AceKind.{AceKind}
-use Rattle.sd_check.specs.Check.{decides, first, is_allowed_by}
+use Rattle.sd_analysis.proofs.Cited.{Ace, AceKind, AllByRecursion, Bool, List, MappingValue, None, Option, SidValue, Some, [], and_parts, ap, arith, cases_Bool, decides, false, false≢true, find, first, holds, inl, inr, is_allow, is_allowed_by, is_inherit_only, list_any, mapped, not, or_left, or_right, refl, sym, true, ℕ, ◌&&◌, ◌∙◌, ◌∷◌, ◌≡◌, ◌⊎◌}
 
 -- an entry that applies now applied before
 abbrev pub IsLess : (AceKind → SidValue → Bool) → (AceKind → SidValue → Bool) → Ace → Type 0

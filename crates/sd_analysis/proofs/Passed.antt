@@ -1,22 +1,5 @@
 -- What a pass shows of two descriptors, two SIDs show.
-use Rattle.std.proofs.Common.{◌≡◌, ℕ, Bool, true, false, not, ◌&&◌, ◌||◌, ◌==◌, nat_lt, cond, List, [], Option, Some, None, ◌⊎◌, inl, inr, refl, sym, ◌∙◌, ap, arith}
-use Rattle.std.proofs.lemmas.Bool.{and_parts, and_from, or_cases, or_left, or_right, false≢true, not-true, and_right, not_from_false}
-use Rattle.sd_sid.specs.Mapping.{MappingValue}
-use Rattle.sd_sid.specs.Sid.{SidValue, same_sid}
-use Rattle.sd_sid.proofs.Compared.{same_sid-true, same_sid-itself}
-use Rattle.sd_acl.specs.declared.ace.Ace.{Ace}
-use Rattle.sd_acl.specs.declared.ace.AceKind.{AceKind}
-use Rattle.sd_acl.specs.declared.ace.AceKind.TheVariants.{Allow, Deny}
-use Rattle.sd_check.specs.Check.{limits_owner}
-use Rattle.sd_check.specs.Token.{TokenValue, a_group_stands_for, stands_for}
-use Rattle.sd_check.specs.declared.grounds.Pass.{Pass}
-use Rattle.sd_check.specs.declared.grounds.Pass.TheVariants.{First, Second}
-use Rattle.sd_check.specs.declared.token.GroupState.{GroupState}
-use Rattle.sd_analysis.specs.Base.{HasBase}
-use Rattle.sd_analysis.specs.Sufficient.{Parts, with_denied, is_named, has_sid, allowed_sids, denied_sids, is_among, MayDecide}
-use Rattle.sd_analysis.specs.Passes.{lists, owns, meets, stands_in, sids_stand}
-use Rattle.sd_analysis.specs.declared.witness.Demand.{Demand}
-use Rattle.sd_analysis.specs.declared.witness.PassSids.{PassSids}
+use Rattle.sd_analysis.proofs.Cited.{Ace, AceKind, Allow, Bool, Demand, Deny, First, GroupState, HasBase, List, MappingValue, MayDecide, None, Option, Parts, Pass, PassSids, Second, SidValue, Some, TokenValue, [], a_group_stands_for, allowed_sids, and_from, and_parts, and_right, ap, arith, cond, denied_sids, false, false≢true, has_sid, inl, inr, is_among, is_named, limits_owner, lists, meets, nat_lt, not, not-true, not_from_false, or_cases, or_left, or_right, owns, refl, same_sid, same_sid-itself, same_sid-true, sids_stand, stands_for, stands_in, sym, true, with_denied, ℕ, ◌&&◌, ◌==◌, ◌||◌, ◌∙◌, ◌≡◌, ◌⊎◌}
 use Rattle.sd_analysis.proofs.Walks.{stands_for_deny}
 use Rattle.sd_analysis.proofs.Kept.{about_less, owner_named, IsWithin, keeps_listed, keeps_unlisted}
 

@@ -1,15 +1,5 @@
 -- The SIDs of a search, their places in its table, and what the table's walks say of them.
-use Rattle.std.proofs.Common.{◌≡◌, ℕ, ◌<◌, ◌+◌, true, List, [], ◌∷◌, length, get_or, take, Option, Some, inl, inr, sym, ◌∙◌, ap, subst, arith}
-use Rattle.std.proofs.lemmas.Bool.{false≢true}
-use Rattle.std.proofs.lemmas.List.{get_or-append-add, get_or-map, get_or_append_left, get_or_read, length-append, length-map, take-append-le}
-use Rattle.sd_sid.specs.Mask.{holds}
-use Rattle.sd_sid.specs.Sid.{SidValue}
-use Rattle.sd_check.specs.declared.grounds.Pass.{Pass}
-use Rattle.sd_analysis.specs.Sufficient.{is_among}
-use Rattle.sd_analysis.specs.Report.{ArePlaced, HasRoom, IsCase, IsPlace, new_of, old_of, sids_in}
-use Rattle.sd_analysis.specs.Table.{AreBeforeAndAfter, IsOtherSid, listed_of, place_in, point_at, sids_of}
-use Rattle.sd_analysis.specs.declared.compare_search.Case.{Case}
-use Rattle.sd_analysis.specs.declared.compare_table.BeforeAndAfter.{BeforeAndAfter}
+use Rattle.sd_analysis.proofs.Cited.{AreBeforeAndAfter, ArePlaced, BeforeAndAfter, Case, HasRoom, IsCase, IsOtherSid, IsPlace, List, Option, Pass, SidValue, Some, [], ap, arith, false≢true, get_or, get_or-append-add, get_or-map, get_or_append_left, get_or_read, holds, inl, inr, is_among, length, length-append, length-map, listed_of, new_of, old_of, place_in, point_at, sids_in, sids_of, subst, sym, take, take-append-le, true, ℕ, ◌+◌, ◌<◌, ◌∙◌, ◌∷◌, ◌≡◌}
 use Rattle.sd_analysis.proofs.Tables.{among_at, among_left, among_right, first_or_before, place_low}
 
 module _ (case : Case) (is : IsCase case) where

@@ -1,16 +1,6 @@
 -- What a report keeps as changes come to it.
-use Rattle.std.proofs.Common.{◌≡◌, ℕ, suc, zero, ◌<◌, ◌+◌, ◌*◌, ◌^◌, cond, inl, inr, Bool, true, false, not, ◌&&◌, ◌||◌, ◌==◌, List, [], ◌∷◌, length, get_or, set, refl, sym, ◌∙◌, ap, arith}
-use Rattle.std.specs.List.{list_any, All}
-use Rattle.std.proofs.lemmas.Bool.{and_parts, and_from, or_parts, or_right, or_cases, false≢true, cases_Bool, eqb-true, eq-eqb, not_from_false}
-use Rattle.std.proofs.lemmas.Nat.Bits.{bit_at-zero}
-use Rattle.std.proofs.lemmas.List.Elements.{All-set}
-use Rattle.sd_sid.specs.Mask.{holds, mask_of}
-use Rattle.sd_sid.proofs.Masks.{holds-mask_of, holds_place}
-use Rattle.sd_analysis.specs.Compare.{HasABit, is_reported}
-use Rattle.sd_analysis.specs.Report.{IsReport}
-use Rattle.sd_analysis.specs.declared.compare_report.Change.{Change}
-use Rattle.sd_analysis.specs.declared.compare_report.Report.{Report}
-use Rattle.sd_analysis.specs.declared.witness.Witness.{Witness}
+use Rattle.sd_analysis.proofs.Cited.{All, All-set, Bool, Change, HasABit, IsReport, List, Report, Witness, [], and_from, and_parts, ap, arith, bit_at-zero, cases_Bool, cond, eq-eqb, eqb-true, false, false≢true, get_or, holds, holds-mask_of, holds_place, inl, inr, is_reported, length, list_any, not, not_from_false, or_cases, or_parts, or_right, refl, set, suc, sym, true, zero, ℕ, ◌&&◌, ◌*◌, ◌+◌, ◌<◌, ◌==◌, ◌^◌, ◌||◌, ◌∙◌, ◌∷◌, ◌≡◌}
+use Rattle.sd_sid.specs.Mask.{mask_of}
 
 swap_last : (a q r : Bool) → ((a || q) || r) ≡ ((a || r) || q)
 swap_last a q r = grind arith

@@ -1,24 +1,5 @@
 -- What is left to restricted tokens where no unrestricted one gains the bit.
-use Rattle.std.proofs.Common.{◌≡◌, ℕ, ◌<◌, Bool, true, false, not, ◌&&◌, ◌||◌, ◌==◌, List, [], ◌∷◌, Option, Some, None, inl, inr, refl, sym, ◌∙◌, ap, arith}
-use Rattle.std.proofs.lemmas.Bool.{and_parts, and_from, false≢true, false_from_ne_true, not-true}
-use Rattle.sd_sid.specs.Mask.{holds, mask_of}
-use Rattle.sd_sid.specs.Sid.{SidValue, same_sid}
-use Rattle.sd_sid.proofs.Compared.{same_sid-true}
-use Rattle.sd_acl.specs.declared.ace.AceKind.{AceKind}
-use Rattle.sd_acl.specs.declared.ace.AceKind.TheVariants.{Allow}
-use Rattle.sd_check.specs.Check.{entries_of, limits_owner}
-use Rattle.sd_check.specs.Token.{TokenValue, a_group_stands_for, no_privileges}
-use Rattle.sd_check.specs.declared.grounds.Pass.{Pass}
-use Rattle.sd_check.specs.declared.grounds.Pass.TheVariants.{First, Second}
-use Rattle.sd_check.specs.declared.token.GroupState.{GroupState}
-use Rattle.sd_check.specs.declared.token.GroupState.TheVariants.{Enabled}
-use Rattle.sd_analysis.specs.Base.{HasBase}
-use Rattle.sd_analysis.specs.Sufficient.{Parts, has_sid, token_of}
-use Rattle.sd_analysis.specs.Passes.{about, lists, meets, owns, sids_stand, stands_in}
-use Rattle.sd_analysis.specs.Report.{IsCase, IsNeverMet, IsNotGained, IsRefusedAgain, IsSought, is_rest, new_of, old_of, sids_meet, token_meets}
-use Rattle.sd_analysis.specs.declared.compare_search.Case.{Case}
-use Rattle.sd_analysis.specs.declared.witness.Demand.{Demand}
-use Rattle.sd_analysis.specs.declared.witness.PassSids.{PassSids}
+use Rattle.sd_analysis.proofs.Cited.{AceKind, Allow, Bool, Case, Demand, Enabled, First, GroupState, HasBase, IsCase, IsNeverMet, IsNotGained, IsRefusedAgain, IsSought, List, None, Option, Parts, Pass, PassSids, Second, SidValue, Some, TokenValue, [], a_group_stands_for, about, and_from, and_parts, ap, arith, entries_of, false, false_from_ne_true, false≢true, has_sid, holds, inl, inr, is_rest, limits_owner, lists, mask_of, meets, new_of, no_privileges, not, not-true, old_of, owns, refl, same_sid, same_sid-true, sids_meet, sids_stand, stands_in, sym, token_meets, token_of, true, ℕ, ◌&&◌, ◌<◌, ◌==◌, ◌||◌, ◌∙◌, ◌∷◌, ◌≡◌}
 use Rattle.sd_analysis.proofs.Effects.{has_base_with}
 use Rattle.sd_analysis.proofs.Passed.{two_suffice}
 use Rattle.sd_analysis.proofs.Reports.{both_in}

@@ -1,28 +1,6 @@
 -- Rights that a list decides alike.
-use Rattle.std.proofs.Common.{count_by, ◌≡◌, ℕ, ◌+◌, ◌<◌, Bool, true, false, not, ◌&&◌, ◌||◌, ◌==◌, nat_lt, cond, List, [], ◌∷◌, ◌++◌, length, get_or, take, Option, Some, None, sym, refl, ◌∙◌, ap, arith, Bor}
-use Rattle.std.specs.Bool.{beq}
-use Rattle.std.specs.List.{list_all, list_any}
-use Rattle.std.proofs.lemmas.Bool.{agree_below_at, and_from, and_parts, lt-ltb, ltb-true}
-use Rattle.std.proofs.lemmas.List.Elements.{All-push}
-use Rattle.std.proofs.lemmas.List.Folds.{list_all_more, list_any-append}
-use Rattle.std.proofs.lemmas.List.Sums.{sum_by-append}
-use Rattle.sd_sid.specs.Mask.{holds, mask_of}
-use Rattle.sd_sid.specs.Mapping.{MappingValue, mapped}
-use Rattle.sd_sid.specs.Sid.{SidValue}
-use Rattle.sd_sid.proofs.Masks.{holds_place, holds_when}
-use Rattle.sd_acl.specs.Ace.{is_inherit_only}
-use Rattle.sd_acl.specs.declared.ace.Ace.{Ace}
-use Rattle.sd_acl.specs.declared.ace.AceKind.TheVariants.{Allow}
-use Rattle.sd_check.specs.Check.{DaclRef, applies, decides, first, is_granted, entries_of, stands_for_subject}
-use Rattle.sd_check.specs.Laws.{restricted_to}
+use Rattle.sd_analysis.proofs.Cited.{Access, Ace, All-push, AllBeyond, Allow, Bool, Bor, DaclRef, GroupState, HasBase, HasEachOnce, IsBeyond, IsMost, IsPlain, IsWho, List, MappingValue, None, Option, SidValue, Some, TokenValue, [], agree_below_at, and_from, and_parts, ap, applies, arith, beq, cond, count_by, decides, entries_of, false, first, get_or, granted_by, has_right, holds, holds_for, holds_place, holds_when, implied_holder, is_granted, is_inherit_only, length, list_all, list_all_more, list_any, list_any-append, lt-ltb, ltb-true, mapped, mask_of, names, nat_lt, not, refl, restricted_to, restriction_grants_no_bit, stands_for_subject, sum_by-append, sym, take, true, ℕ, ◌&&◌, ◌++◌, ◌+◌, ◌<◌, ◌==◌, ◌||◌, ◌∙◌, ◌∷◌, ◌≡◌}
 use Rattle.sd_acl.specs.declared.descriptor.DaclOf.TheVariants as dacls
-use Rattle.sd_check.specs.Token.{TokenValue}
-use Rattle.sd_check.specs.declared.token.GroupState.{GroupState}
-use Rattle.sd_check.proofs.RestrictionProofs.{restriction_grants_no_bit}
-use Rattle.sd_analysis.specs.Base.{HasBase, IsPlain}
-use Rattle.sd_analysis.specs.Who.{AllBeyond, HasEachOnce, IsBeyond, IsMost, IsWho, has_right, holds_for}
-use Rattle.sd_analysis.specs.declared.who_has.Access.{Access}
-use Rattle.sd_analysis.specs.WhoWalk.{granted_by, implied_holder, names}
 
 -- READ_CONTROL and WRITE_DAC are places 17 and 18
 pub owners_place : (b : ℕ) → b < 32 → holds 0x00060000 b ≡ (b == 17 || b == 18)

@@ -1,21 +1,5 @@
 -- How a search goes on: what it found stays found, and what is left is less.
-use Rattle.std.proofs.Common.{◌≡◌, ℕ, ◌<◌, ◌+◌, Bool, true, false, not, ◌&&◌, ◌||◌, List, [], ◌∷◌, ◌++◌, length, get_or, take, Option, Some, None, ◌⊎◌, inl, inr, refl, sym, ◌∙◌, ap, arith, subst, ◌==◌}
-use Rattle.std.specs.List.{All}
-use Rattle.std.proofs.lemmas.Bool.{and_from, and_parts, not-true, or_cases, or_parts, false≢true, false_from_ne_true, not_from_false}
-use Rattle.std.proofs.lemmas.List.Elements.{All-push}
-use Rattle.std.proofs.lemmas.List.Folds.{list_any_more, list_any-append}
-use Rattle.sd_sid.specs.Mask.{holds, mask_of}
-use Rattle.sd_sid.specs.Sid.{SidValue, same_sid}
-use Rattle.sd_sid.proofs.Compared.{same_sid-true}
-use Rattle.sd_sid.proofs.Masks.{holds_place}
-use Rattle.sd_check.specs.declared.grounds.Pass.{Pass}
-use Rattle.sd_analysis.specs.Sufficient.{is_among}
-use Rattle.sd_analysis.specs.Report.{AreFindings, IsCase, IsFound, IsLessLeft, IsSought, is_found, is_granted_alone, new_of, old_of, sids_meet}
-use Rattle.sd_analysis.specs.declared.compare_search.Case.{Case}
-use Rattle.sd_analysis.specs.declared.compare_search.Finding.{Finding}
-use Rattle.sd_analysis.specs.declared.compare_search.Found.{Found}
-use Rattle.sd_analysis.specs.declared.witness.Demand.{Demand}
-use Rattle.sd_analysis.specs.declared.witness.PassSids.{PassSids}
+use Rattle.sd_analysis.proofs.Cited.{All, All-push, AreFindings, Bool, Case, Demand, Finding, Found, IsCase, IsFound, IsLessLeft, IsSought, List, None, Option, Pass, PassSids, SidValue, Some, [], and_from, and_parts, ap, arith, false, false_from_ne_true, false≢true, get_or, holds, holds_place, inl, inr, is_among, is_found, is_granted_alone, length, list_any-append, list_any_more, mask_of, new_of, not, not-true, not_from_false, old_of, or_cases, or_parts, refl, same_sid, same_sid-true, sids_meet, subst, sym, take, true, ℕ, ◌&&◌, ◌++◌, ◌+◌, ◌<◌, ◌==◌, ◌||◌, ◌∙◌, ◌∷◌, ◌≡◌, ◌⊎◌}
 use Rattle.sd_analysis.proofs.Passed.{two_suffice}
 use Rattle.sd_analysis.proofs.Reports.{in_difference, none_held}
 use Rattle.sd_analysis.proofs.Restricted.{sought}

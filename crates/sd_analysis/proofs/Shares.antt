@@ -1,9 +1,5 @@
 -- What a descriptor grants in a pass, as masks, and whom it speaks of.
-use Rattle.std.proofs.Common.{◌≡◌, ℕ, ◌<◌, Bool, true, false, not, ◌&&◌, ◌||◌, ◌==◌, cond, inl, inr, refl, sym, ◌∙◌, ap, arith}
-use Rattle.std.proofs.lemmas.Bool.{and_parts, agree_below_at, cases_lt, false≢true}
-use Rattle.std.proofs.lemmas.Nat.Bits.{bit_at_above}
-use Rattle.sd_sid.specs.Mask.{holds, mask_of}
-use Rattle.sd_sid.proofs.Masks.{holds_place, holds_when, holds-mask_of}
+use Rattle.sd_analysis.proofs.Cited.{Bool, agree_below_at, and_parts, ap, arith, bit_at_above, cases_lt, cond, false, false≢true, holds, holds-mask_of, holds_place, holds_when, inl, inr, mask_of, not, refl, sym, true, ℕ, ◌&&◌, ◌<◌, ◌==◌, ◌||◌, ◌∙◌, ◌≡◌}
 use Rattle.sd_analysis.proofs.Reports.{none_held}
 
 pub owners_held : (is limited t u : Bool) (m b : ℕ) → m ≡ cond (is && not limited) 0x00060000 0 → is ≡ t → limited ≡ u → b < 21

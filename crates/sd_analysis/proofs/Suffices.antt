@@ -1,8 +1,5 @@
 -- The law: two SIDs per pass are enough.
-use Rattle.std.proofs.Common.{not, Some, None, inl, inr, sym, ◌∙◌, subst}
-use Rattle.sd_check.specs.declared.grounds.Pass.TheVariants.{First, Second}
-use Rattle.sd_analysis.specs.Sufficient.{MayDecide, TwoSidsPerPassSuffice}
-use Rattle.sd_analysis.specs.Passes.{meets, sids_stand}
+use Rattle.sd_analysis.proofs.Cited.{First, MayDecide, None, Second, Some, TwoSidsPerPassSuffice, inl, inr, meets, not, sids_stand, subst, sym, ◌∙◌}
 use Rattle.sd_analysis.proofs.Passed.{two_suffice}
 use Rattle.sd_analysis.proofs.Bridged.{gain_shown, unrestricted_gains, restricted_gains}
 

@@ -1,30 +1,5 @@
 -- One walk over a list says of each SID what the list grants with it.
-use Rattle.std.proofs.Common.{◌≡◌, ℕ, suc, zero, ◌<◌, Bool, true, false, not, ◌&&◌, ◌||◌, ◌==◌, cond, List, [], ◌∷◌, ◌++◌, length, get_or, take, map, Option, Some, None, ◌⊎◌, inl, refl, sym, ◌∙◌, ap, arith}
-use Rattle.std.specs.List.{fold}
-use Rattle.std.specs.Option.{is_some}
-use Rattle.std.proofs.lemmas.Bool.{agree_below_at, cond-true, false≢true, lt-ltb, or_left, or_right}
-use Rattle.std.proofs.lemmas.List.{get_or_read}
-use Rattle.std.proofs.lemmas.List.Folds.{list_any-append}
-use Rattle.sd_sid.specs.Mask.{holds, mask_of}
-use Rattle.sd_sid.specs.Mapping.{MappingValue, mapped}
-use Rattle.sd_sid.specs.Sid.{SidValue, same_sid}
-use Rattle.sd_sid.proofs.Compared.{same_sid-true, same_sid-itself}
-use Rattle.sd_sid.proofs.Masks.{holds_place, holds_when}
-use Rattle.sd_acl.specs.Ace.{is_allow, is_inherit_only}
-use Rattle.sd_acl.specs.declared.ace.Ace.{Ace}
-use Rattle.sd_acl.specs.declared.ace.AceKind.{AceKind}
-use Rattle.sd_check.specs.Check.{decides, first, is_allowed_by, subject}
-use Rattle.sd_check.specs.Token.{counts}
-use Rattle.sd_check.specs.declared.grounds.Pass.{Pass}
-use Rattle.sd_check.specs.declared.token.GroupState.{GroupState}
-use Rattle.sd_analysis.specs.Sufficient.{Parts, entries_or_none, is_among}
-use Rattle.sd_analysis.specs.Passes.{about, lists, sids_stand}
-use Rattle.sd_analysis.specs.Table.{AreRightsBySid, IsOtherSid, IsListing, Point, applies_in, common_of, counts_in, first_point, listed_of, nothing_decided, place_in, point_after, point_at, point_moved, row_for, row_of, share_after, sids_of}
-use Rattle.sd_analysis.specs.declared.compare_table.Listing.{Listing}
-use Rattle.sd_analysis.specs.declared.compare_table.WalkPass.{WalkPass}
-use Rattle.sd_analysis.specs.declared.compare_table.EntryRow.{EntryRow}
-use Rattle.sd_analysis.specs.declared.compare_table.DecidedRights.{DecidedRights}
-use Rattle.sd_analysis.specs.declared.compare_table.RightsBySid.{RightsBySid}
+use Rattle.sd_analysis.proofs.Cited.{Ace, AceKind, AreRightsBySid, Bool, DecidedRights, EntryRow, GroupState, IsListing, IsOtherSid, List, Listing, MappingValue, None, Option, Parts, Pass, Point, RightsBySid, SidValue, Some, WalkPass, [], about, agree_below_at, ap, applies_in, arith, common_of, cond, cond-true, counts, counts_in, decides, entries_or_none, false, false≢true, first, first_point, fold, get_or, get_or_read, holds, holds_place, holds_when, inl, is_allow, is_allowed_by, is_among, is_inherit_only, is_some, length, list_any-append, listed_of, lists, lt-ltb, map, mapped, mask_of, not, nothing_decided, or_left, or_right, place_in, point_after, point_at, point_moved, refl, row_for, row_of, same_sid, same_sid-itself, same_sid-true, share_after, sids_of, sids_stand, subject, suc, sym, take, true, zero, ℕ, ◌&&◌, ◌++◌, ◌<◌, ◌==◌, ◌||◌, ◌∙◌, ◌∷◌, ◌≡◌, ◌⊎◌}
 use Rattle.sd_analysis.proofs.Reports.{none_held}
 
 -- ---- places

@@ -1,16 +1,5 @@
 -- There is always a SID that neither descriptor names: more are numbered than named.
-use Rattle.std.proofs.Common.{◌≡◌, ℕ, suc, zero, ◌<◌, ◌≤◌, ◌+◌, ◌^◌, ◌/◌, ◌%◌, Bool, true, false, ◌||◌, cond, List, [], ◌∷◌, ◌++◌, length, map, Option, Ok, Result, inl, inr, refl, sym, ◌∙◌, ap, arith}
-use Rattle.std.specs.List.{list_any}
-use Rattle.std.specs.Option.{option_to_list}
-use Rattle.std.proofs.lemmas.Bool.{cases_Bool, false_from_ne_true, le-ltb, lt-ltb, ne_eqb}
-use Rattle.std.proofs.lemmas.List.Folds.{list_any-append}
-use Rattle.std.proofs.lemmas.List.{length-append, length-map}
-use Rattle.sd_sid.specs.Sid.{SidValue, same_sid, sid_of}
-use Rattle.sd_sid.specs.declared.sid.SidError.{SidError}
-use Rattle.sd_sid.proofs.Compared.{same_sid-true}
-use Rattle.sd_acl.specs.declared.ace.Ace.{Ace}
-use Rattle.sd_analysis.specs.Sufficient.{Parts, entries_or_none, has_sid, is_among, is_named}
-use Rattle.sd_analysis.specs.Passes.{numbered}
+use Rattle.sd_analysis.proofs.Cited.{Ace, Bool, List, Ok, Option, Parts, Result, SidError, SidValue, [], ap, arith, cases_Bool, cond, entries_or_none, false, false_from_ne_true, has_sid, inl, inr, is_among, is_named, le-ltb, length, length-append, length-map, list_any, list_any-append, lt-ltb, map, ne_eqb, numbered, option_to_list, refl, same_sid, same_sid-true, sid_of, suc, sym, true, zero, ℕ, ◌%◌, ◌++◌, ◌+◌, ◌/◌, ◌<◌, ◌^◌, ◌||◌, ◌∙◌, ◌∷◌, ◌≡◌, ◌≤◌}
 
 pub sid_made : (authority : ℕ) (subs : List ℕ) → authority < 2 ^ 48 → 0 < length subs → length subs ≤ 15 → sid_of authority subs ≡ Ok (record { authority = authority; subs = subs })
 sid_made authority subs low some few = rw (ne_eqb (length subs) 0 (omega arith), le-ltb 15 (length subs) few, lt-ltb authority (2 ^ 48) low) refl

@@ -1,28 +1,6 @@
 -- What a walk comes to with one more entry.
-use Rattle.std.proofs.Common.{◌≡◌, ℕ, ◌≤◌, Bool, true, false, not, ◌&&◌, ◌||◌, nat_le, cond, List, [], ◌∷◌, ◌++◌, length, take, drop, Option, Some, None, inl, inr, refl, sym, ◌∙◌, ap, arith, length-append}
-use Rattle.std.specs.List.{list_all, list_any}
-use Rattle.std.specs.Option.{is_none, option_or}
-use Rattle.std.proofs.Math.Bool.{and-false, and-true, or-false}
-use Rattle.std.proofs.lemmas.Bool.{and_from, and_parts, false≢true, leb-true, le-leb, or_cases, or_from, or_left, or_parts, or_right}
-use Rattle.std.proofs.lemmas.List.{take-append-drop, take-append-le}
-use Rattle.std.proofs.lemmas.List.Folds.{find-append, list_any-append}
-use Rattle.sd_sid.specs.Mask.{holds}
-use Rattle.sd_sid.specs.Mapping.{MappingValue, mapped}
-use Rattle.sd_sid.specs.Sid.{SidValue, same_sid}
-use Rattle.sd_sid.proofs.Compared.{same_sid-true}
-use Rattle.sd_acl.specs.Ace.{is_allow, is_inherit_only}
-use Rattle.sd_acl.specs.declared.ace.Ace.{Ace}
-use Rattle.sd_acl.specs.declared.ace.AceKind.TheVariants.{Allow, Deny}
-use Rattle.sd_check.specs.Check.{applies, decides, first, is_allowed_by, stands_for_subject, subject}
-use Rattle.sd_check.specs.Token.{TokenValue, a_group_stands_for, counts, stands_for}
-use Rattle.sd_check.specs.declared.token.GroupState.{GroupState}
-use Rattle.sd_analysis.specs.Base.{HasBase}
-use Rattle.sd_analysis.specs.Who.{holds_for, is_held_by, is_in_base}
-use Rattle.sd_analysis.specs.WhoWalk.{IsWalk, granted_by, is_of, undecided_by}
-use Rattle.sd_analysis.specs.declared.who_has.Alternative.{Alternative}
-use Rattle.sd_analysis.specs.declared.who_has.Holder.{Holder}
-use Rattle.sd_analysis.specs.declared.who_has.Holder.TheVariants.{Everyone, Sid, Owner}
-use Rattle.sd_analysis.specs.declared.who_walk.Walk.{Walk}
+use Rattle.sd_analysis.proofs.Cited.{Ace, Allow, Alternative, Bool, Deny, Everyone, GroupState, HasBase, Holder, IsWalk, List, MappingValue, None, Option, Owner, Sid, SidValue, Some, TokenValue, Walk, [], a_group_stands_for, and-false, and-true, and_from, and_parts, ap, applies, arith, cond, counts, decides, drop, false, false≢true, find-append, first, granted_by, holds, holds_for, inl, inr, is_allow, is_allowed_by, is_held_by, is_in_base, is_inherit_only, is_none, is_of, le-leb, leb-true, length, list_all, list_any, list_any-append, mapped, nat_le, not, option_or, or-false, or_cases, or_from, or_left, or_parts, or_right, refl, same_sid, same_sid-true, stands_for, stands_for_subject, subject, sym, take, take-append-drop, take-append-le, true, undecided_by, ℕ, ◌&&◌, ◌++◌, ◌||◌, ◌∙◌, ◌∷◌, ◌≡◌, ◌≤◌}
+use Rattle.std.proofs.Common.{length-append}
 
 -- ---- lists
 

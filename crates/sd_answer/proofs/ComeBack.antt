@@ -1,35 +1,10 @@
 -- What is printed of a mask parses as that mask.
-use Rattle.std.proofs.Common.{◌≡◌, ℕ, suc, ◌<◌, ◌^◌, ◌&&◌, ◌||◌, ◌==◌, not, Bool, true, false, List, [], ◌∷◌, ◌++◌, length, Option, Some, None, Ok, refl, sym, ◌∙◌, ap, arith, subst, inl, inr, append_assoc, append-nil}
-use Rattle.std.specs.Prelude.{bit_and, bit_or, codes, nat_lt}
-use Rattle.std.specs.Char.{digit_value}
-use Rattle.std.specs.Int.{bit_at}
-use Rattle.std.specs.Int.Bits.{and_zero_r, or_zero_r}
-use Rattle.std.specs.List.{join_with_byte, list_all, onto_first}
-use Rattle.std.specs.Str.Parse.{AllDigits}
-use Rattle.std.proofs.lemmas.Bool.{and_parts, eqb-true, ltb-true, ne_eqb}
-use Rattle.std.proofs.lemmas.Fmt.{digits_is_IsNumeral}
-use Rattle.std.proofs.lemmas.List.Splits.{join_with_byte-slice_split, length-slice_split}
-use Rattle.std.proofs.lemmas.Nat.{and_le_l, or_lt}
-use Rattle.std.proofs.lemmas.Nat.Bits.{bit_at_and, bit_at_or, same_from_bits}
-use Rattle.sd_sid.specs.Mask.{holds, mask_of}
-use Rattle.sd_sid.proofs.Masks.{holds-and, holds-or, holds_place, mask_of-lt, same_masks}
-use Rattle.sd_text.specs.Canon.{hex}
-use Rattle.sd_text.specs.Finding.{find}
-use Rattle.sd_text.specs.Grammar.{Spells}
-use Rattle.sd_text.specs.MaskNames.{is_due, named_from, with_rest, with_word}
-use Rattle.sd_text.specs.Rights.{mask_number, mask_text, rights}
-use Rattle.sd_text.proofs.CanonSids.{number_read}
-use Rattle.sd_text.proofs.Engine.{whole_value}
-use Rattle.sd_text.proofs.Parts.{went}
+use Rattle.sd_answer.proofs.Cited.{AllDigits, AreJoined, Bool, File, IsMaskIn, IsWordMask, Key, List, NamedBits, Names, None, Number, ObjectKind, Ok, Option, Process, Service, Some, Spelling, Spells, [], and_le_l, and_parts, and_zero_r, ap, append-nil, append_assoc, arith, between_pluses, bit_and, bit_at, bit_at_and, bit_at_or, bit_or, codes, digit_value, digits_is_IsNumeral, eqb-true, false, find, hex, holds, holds-and, holds-or, holds_place, inl, inr, is_due, is_of, join_with_byte, join_with_byte-slice_split, length, length-slice_split, list_all, ltb-true, mask_digits, mask_named, mask_of, mask_of-lt, mask_text, names_of, nat_lt, ne_eqb, not, number_read, onto_first, or_lt, or_zero_r, refl, same_from_bits, same_masks, spelled, subst, suc, sym, true, went, whole_value, with_rest, with_word, ℕ, ◌&&◌, ◌++◌, ◌<◌, ◌==◌, ◌^◌, ◌||◌, ◌∙◌, ◌∷◌, ◌≡◌}
+use Rattle.sd_text.specs.MaskNames.{named_from}
+use Rattle.sd_text.specs.Rights.{mask_number, rights}
 use Rattle.sd_answer.proofs.RightNames.{by_test}
-use Rattle.sd_answer.specs.VerdictLines.{mask_digits, spelled}
-use Rattle.sd_answer.specs.Mask.{AreJoined, IsMaskIn, IsWordMask, between_pluses}
-use Rattle.sd_answer.specs.Names.{NamedBits, is_of, long_names, mask_named, names_of, short_names}
+use Rattle.sd_answer.specs.Names.{long_names, short_names}
 use Rattle.sd_answer.specs.Names as table
-use Rattle.sd_answer.specs.declared.verdict_lines.Spelling.{Spelling}
-use Rattle.sd_answer.specs.declared.verdict_lines.Spelling.TheVariants.{Number, Names}
-use Rattle.sd_answer.specs.declared.names.ObjectKind.{ObjectKind}
-use Rattle.sd_answer.specs.declared.names.ObjectKind.TheVariants.{File, Key, Service, Process}
 
 -- ---- texts that plus signs separate
 

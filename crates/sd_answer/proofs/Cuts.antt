@@ -1,11 +1,5 @@
 -- A text that is cut at the first of its separators.
-use Rattle.std.proofs.Common.{◌≡◌, ◌<◌, ◌==◌, ℕ, List, [], ◌∷◌, length, Option, Some, None, arith}
-use Rattle.std.specs.Borrow.{Bor}
-use Rattle.std.specs.List.{position_or_len, before_first, after_first, slice_split}
-use Rattle.std.specs.Prelude.{IfNone, IfSome}
-use Rattle.std.specs.Option.{MatchOption}
-use Rattle.std.proofs.lemmas.List.Splits.{slice_split_first, slice_split_none}
-use Rattle.std.proofs.lemmas.List.Sums.{fails_before_first}
+use Rattle.sd_answer.proofs.Cited.{Bor, IfNone, IfSome, List, MatchOption, None, Option, Some, [], after_first, arith, before_first, fails_before_first, length, position_or_len, slice_split, slice_split_first, slice_split_none, ℕ, ◌<◌, ◌==◌, ◌∷◌, ◌≡◌}
 
 module _ (separator : ℕ) where
   abbrev pub IsCut : List ℕ → Option (Bor (List ℕ) × Bor (List ℕ)) → Type 0

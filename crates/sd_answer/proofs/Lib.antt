@@ -1,3 +1,4 @@
+pub mod Cited
 pub mod Words
 pub mod OneToken
 pub mod NoLines

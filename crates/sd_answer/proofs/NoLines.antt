@@ -1,21 +1,7 @@
 -- Where no line is printed of changes, there are none: a mask with a bit has a lowest one, and its line is printed there.
-use Rattle.std.proofs.Common.{◌≡◌, ℕ, zero, suc, ◌/◌, ◌%◌, ◌<◌, Bool, true, ◌==◌, inl, inr, List, [], ◌∷◌, ◌++◌, map, refl, sym, ◌∙◌, ap, subst, arith}
-use Rattle.std.specs.Prelude.{if◌then◌else◌}
-use Rattle.std.specs.Int.{bit_at, trailing_zeros}
-use Rattle.std.specs.Int.Width.{w32}
-use Rattle.std.specs.List.{All}
-use Rattle.std.proofs.lemmas.Bool.{cases_order, eq-eqb, eqb-true}
-use Rattle.std.proofs.lemmas.List.Elements.{All-head}
-use Rattle.std.proofs.lemmas.Nat.Bits.{bit_at_lowest, bit_at-suc}
-use lib.Count.{count_trailing_zeros, under}
-use Rattle.sd_sid.specs.Mask.{holds}
-use Rattle.sd_analysis.specs.Compare.{HasABit}
-use Rattle.sd_analysis.specs.Sufficient.{Parts}
-use Rattle.sd_analysis.specs.declared.compare_report.Change.{Change}
-use Rattle.sd_answer.specs.VerdictLines.{spelled}
-use Rattle.sd_answer.specs.Compare.{change_line, changes_text, gains_and_losses}
-use Rattle.sd_answer.specs.Lines.{LineValue, bits_line, is_lowest, lines_at, lines_below}
-use Rattle.sd_answer.specs.declared.verdict_lines.Spelling.{Spelling}
+use Rattle.sd_answer.proofs.Cited.{All, All-head, Bool, Change, HasABit, LineValue, List, Parts, Spelling, [], ap, arith, bit_at, bit_at-suc, bit_at_lowest, bits_line, cases_order, change_line, changes_text, eq-eqb, eqb-true, gains_and_losses, holds, if◌then◌else◌, inl, inr, is_lowest, lines_at, map, refl, spelled, subst, suc, sym, trailing_zeros, true, under, w32, zero, ℕ, ◌%◌, ◌++◌, ◌/◌, ◌<◌, ◌==◌, ◌∙◌, ◌∷◌, ◌≡◌}
+use lib.Count.{count_trailing_zeros}
+use Rattle.sd_answer.specs.Lines.{lines_below}
 
 -- ---- the lowest bit
 

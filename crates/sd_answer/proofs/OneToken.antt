@@ -1,15 +1,5 @@
 -- A user and texts make one token, or one of the texts is no word.
-use Rattle.std.proofs.Common.{◌≡◌, ℕ, zero, suc, List, [], ◌∷◌, inl, inr, sym, ◌∙◌, ap, subst}
-use Rattle.std.proofs.lemmas.List.{append_cancel_right}
-use Rattle.sd_sid.specs.Sid.{SidValue}
-use Rattle.sd_text.specs.Grammar.{Spells}
-use Rattle.sd_text.specs.Sid.{sid_text_in}
-use Rattle.sd_text.proofs.Engine.{one_value}
-use Rattle.sd_text.specs.declared.alias.Aliases.{Aliases}
-use Rattle.sd_check.specs.Token.{TokenValue}
-use Rattle.sd_check.specs.declared.token.GroupState.{GroupState}
-use Rattle.sd_answer.specs.Word.{AreEach, AreGroups, Ended, IsFirstNoGroup, IsFirstNoWord, IsFirstNone, IsGroup, IsToken, IsWord, Or, token_of}
-use Rattle.sd_answer.specs.declared.word.Word.TheVariants.{Group}
+use Rattle.sd_answer.proofs.Cited.{Aliases, AreEach, AreGroups, Ended, Group, GroupState, IsFirstNoGroup, IsFirstNoWord, IsFirstNone, IsGroup, IsToken, IsWord, List, Or, SidValue, Spells, TokenValue, [], ap, append_cancel_right, inl, inr, one_value, sid_text_in, subst, suc, sym, token_of, zero, ℕ, ◌∙◌, ◌∷◌, ◌≡◌}
 
 -- at most one thing is read
 abbrev IsOne : {A : Type 0} → (A → Type 0) → Type 0

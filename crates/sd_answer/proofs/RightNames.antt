@@ -1,12 +1,6 @@
 -- The names of a table of named bits, one row after the other.
-use Rattle.std.proofs.Common.{◌≡◌, ℕ, ◌+◌, ◌<◌, ◌&&◌, Bool, true, false, cond, List, ◌∷◌, length, drop, get_or, map, Option, refl, add-one}
-use Rattle.std.specs.Prelude.{bit_or}
-use Rattle.std.proofs.Math.Seq.{drop-cons}
-use Rattle.std.specs.Borrow.{Bor}
-use Rattle.sd_text.specs.Grammar.{Name}
-use Rattle.sd_text.specs.MaskNames.{is_due, named_from, with_word}
-use Rattle.sd_answer.specs.Names.{is_of, named_bits, names_of}
-use Rattle.sd_answer.specs.declared.names.ObjectKind.{ObjectKind}
+use Rattle.sd_answer.proofs.Cited.{Bool, Bor, List, Name, ObjectKind, Option, add-one, bit_or, cond, drop, drop-cons, false, get_or, is_due, is_of, length, map, named_bits, names_of, refl, true, with_word, ℕ, ◌&&◌, ◌+◌, ◌<◌, ◌∷◌, ◌≡◌}
+use Rattle.sd_text.specs.MaskNames.{named_from}
 
 abbrev pub Row : Type 0
 Row = Bor (List ℕ) × ℕ × Option ObjectKind

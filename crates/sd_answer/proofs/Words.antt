@@ -1,18 +1,6 @@
 -- Texts that are no SID and no word, and texts that are groups or words one for one.
-use Rattle.std.proofs.Common.{◌≡◌, ℕ, suc, zero, ◌+◌, ◌<◌, List, [], ◌∷◌, ◌++◌, length, get_or, inl, inr, take, refl, ap, sym, ◌∙◌, arith}
+use Rattle.sd_answer.proofs.Cited.{AreEach, Bor, Fault, Grammar, IsFirstNone, List, Memory, Or, Spells, StandsIn, TextError, [], ap, arith, bytes_decides, bytes_eq, false≢true, get_or, inl, inr, length, list_any, no_fault, refl, suc, sym, take, take_more, texts, zero, ℕ, ◌++◌, ◌+◌, ◌<◌, ◌∙◌, ◌∷◌, ◌≡◌}
 use Rattle.std.specs.Prelude.{Bool, false, ◌||◌}
-use Rattle.std.specs.List.{list_any}
-use Rattle.std.specs.Borrow.{Bor}
-use Rattle.std.specs.Str.{bytes_eq}
-use lib.Pointwise.{bytes_decides}
-use Rattle.std.proofs.lemmas.List.{take_more}
-use Rattle.std.proofs.lemmas.Bool.{false≢true}
-use Rattle.sd_text.specs.Grammar.{Grammar, Spells}
-use Rattle.sd_text.specs.Fault.{StandsIn}
-use Rattle.sd_text.proofs.Engine.{no_fault}
-use Rattle.sd_text.specs.declared.fault.TextError.{TextError}
-use Rattle.sd_text.specs.declared.fault.TextError.TheVariants.{Fault, Memory}
-use Rattle.sd_answer.specs.Word.{AreEach, IsFirstNone, Or, texts}
 
 -- a text whose fault is told spells nothing
 pub not_spelled : {A : Type 0} (grammar : Grammar A) (text : List ℕ) (e : TextError)

@@ -1,13 +1,5 @@
 -- The words of a mask: those that are left after some whose bits are joined, and a text that is one mask at most.
-use Rattle.std.proofs.Common.{◌≡◌, ◌+◌, ◌==◌, ℕ, false, List, [], ◌∷◌, length, Option, Result, Ok, Err, inl, inr, subst, sym, ◌∙◌, ap}
-use Rattle.std.specs.Prelude.{bit_or, IfErr, IfOk, IsErrOf}
-use Rattle.std.specs.Result.{MatchResult}
-use Rattle.sd_text.specs.declared.fault.TextError.{TextError}
-use Rattle.sd_text.specs.declared.fault.TextError.TheVariants.{Fault, Memory}
-use Rattle.sd_text.proofs.Engine.{no_fault, one_value}
-use Rattle.sd_answer.specs.Mask.{AreJoined, IsErrorFrom, IsMaskIn, IsWordErrorAt, IsWordMask, between_pluses, rights_word}
-use Rattle.sd_answer.specs.declared.verdict_lines.Spelling.TheVariants.{Names}
-use Rattle.sd_answer.specs.declared.names.ObjectKind.{ObjectKind}
+use Rattle.sd_answer.proofs.Cited.{AreJoined, Err, Fault, IfErr, IfOk, IsErrOf, IsErrorFrom, IsMaskIn, IsWordErrorAt, IsWordMask, List, MatchResult, Memory, Names, ObjectKind, Ok, Option, Result, TextError, [], ap, between_pluses, bit_or, false, inl, inr, length, no_fault, one_value, rights_word, subst, sym, ℕ, ◌+◌, ◌==◌, ◌∙◌, ◌∷◌, ◌≡◌}
 
 module _ (kind : Option ObjectKind) where
   -- ---- a text is one mask at most

@@ -1,13 +1,7 @@
 -- Hexadecimal with signs between bytes, part by part.
-use Rattle.std.proofs.Common.{◌≡◌, ℕ, ◌+◌, ◌-◌, ◌<◌, ◌≤◌, List, [], ◌∷◌, length, take, drop, Ok, ◌∙◌, ap, append-nil, arith, Some, None, cond, ltb}
-use Rattle.std.specs.List.{slice_split, position_or_len, before_first, after_first}
-use Rattle.std.specs.Option.{unwrap_or}
-use Rattle.std.proofs.lemmas.Bool.Decides.{nat_tests}
-use Rattle.std.proofs.lemmas.List.{take_rest, length-take-le, length-drop}
+use Rattle.sd_commands.proofs.Cited.{BytesRead, List, None, Ok, Some, [], after_first, ap, append-nil, arith, before_first, cond, drop, fails_before_first, is_between, joined, length, length-drop, length-take-le, ltb, nat_tests, part_read, position_or_len, slice_split, slice_split_first, slice_split_none, take, take_rest, unwrap_or, ℕ, ◌+◌, ◌-◌, ◌<◌, ◌∙◌, ◌∷◌, ◌≡◌, ◌≤◌}
 use Rattle.hex.specs.Hex.{decode_pairs}
-use Rattle.std.proofs.lemmas.List.Splits.{slice_split_first, slice_split_none}
-use Rattle.std.proofs.lemmas.List.Sums.{fails_before_first}
-use Rattle.sd_commands.specs.Bytes.{BytesRead, is_between, joined, part_read, parts_read}
+use Rattle.sd_commands.specs.Bytes.{parts_read}
 
 -- the place that a search tells, or the end; the place that it finds, or that it finds none
 pub place_or_end : (n m : ℕ) → n ≤ m → unwrap_or (cond (ltb n m) (Some n) None) m ≡ n

@@ -1,10 +1,5 @@
 -- Where the character begins that a byte is of, and how many characters before it are shown.
-use Rattle.std.proofs.Common.{◌≡◌, ◌-◌, ℕ, List, arith, drop, length, take, ⊎_elim}
-use Rattle.std.proofs.lemmas.List.{length-drop, take_all}
-use Rattle.std.proofs.lemmas.Bool.{cases_lt, le-leb, lt-leb}
-use Rattle.std.proofs.lemmas.Str.{IsCharBoundary-end}
-use Rattle.core.proofs.fmt.Cut.{IsLastBoundary, floor_char_boundary_is}
-use Rattle.sd_commands.specs.Pointer.{start_of}
+use Rattle.sd_commands.proofs.Cited.{IsCharBoundary-end, IsLastBoundary, List, arith, cases_lt, drop, floor_char_boundary_is, le-leb, length, length-drop, lt-leb, start_of, take, take_all, ℕ, ⊎_elim, ◌-◌, ◌≡◌}
 
 -- the last place up to the byte at which the text may be cut
 pub start_is : (text : List ℕ) (place kept : ℕ) → IsLastBoundary text place kept → start_of text place ≡ kept

@@ -1,9 +1,5 @@
 -- Texts that commas part, and four masks.
-use Rattle.std.proofs.Common.{◌≡◌, ◌<◌, ◌==◌, ℕ, List, [], ◌∷◌, length, Option, Some, None, arith}
-use Rattle.std.specs.Prelude.{IfNone}
-use Rattle.std.proofs.lemmas.List.Splits.{length-slice_split}
-use Rattle.sd_sid.specs.Mapping.{MappingValue}
-use Rattle.sd_commands.specs.Mapping.{AreMasks, between_commas}
+use Rattle.sd_commands.proofs.Cited.{AreMasks, IfNone, List, MappingValue, None, Option, Some, [], arith, between_commas, length, length-slice_split, ℕ, ◌<◌, ◌==◌, ◌∷◌, ◌≡◌}
 
 -- five texts or more are no four masks
 pub no_more : (read write execute all : List ℕ) (more : List (List ℕ)) (g : MappingValue) → 0 < length more

@@ -1,3 +1,4 @@
+pub mod Cited
 pub mod CharStart
 pub mod Commas
 pub mod BytesByPart

@@ -1,20 +1,6 @@
 -- A sorted list is in canonical order and takes as many bytes as before, and one that is in that order stays as it is.
-use Rattle.std.proofs.Common.{◌≡◌, ◌∙◌, Bool, false, not, ◌&&◌, List, [], ◌∷◌, ◌++◌, ◌+◌, filter, refl, sym, arith}
-use Rattle.std.specs.Prelude.{◌||◌}
-use Rattle.std.specs.List.{list_any}
-use Rattle.std.proofs.lemmas.Bool.{not-true}
-use Rattle.std.proofs.lemmas.Bool.Decides.{nat_tests}
-use Rattle.std.proofs.lemmas.Map.Views.{any-filter_same}
+use Rattle.sd_commands.proofs.Cited.{Ace, Bool, CanonicalStays, IsPermutation-filter_both, List, SortedIsCanonical, [], ace_size, acl_size_of, allows, any-filter_same, arith, canonical_order, denies, deny_behind_allow, explicit_behind_inherited, false, filter, filter-append, is_explicit, is_inherited, list_any, list_any-IsPermutation, nat_tests, not, not-not, not-true, refl, sorted, sum_by-append, sum_by-filter_both, sym, ◌&&◌, ◌++◌, ◌+◌, ◌||◌, ◌∙◌, ◌∷◌, ◌≡◌}
 use Rattle.std.proofs.lemmas.List.{append-nil}
-use Rattle.std.proofs.lemmas.List.Elements.{filter-append}
-use Rattle.std.proofs.lemmas.List.Filters.{sum_by-filter_both}
-use Rattle.std.proofs.lemmas.List.Sorted.{IsPermutation-filter_both, list_any-IsPermutation}
-use Rattle.std.proofs.Math.Bool.{not-not}
-use Rattle.sd_acl.specs.Canonical.{allows, canonical_order, denies, deny_behind_allow, explicit_behind_inherited, is_explicit, is_inherited}
-use Rattle.sd_acl.specs.declared.ace.Ace.{Ace}
-use Rattle.std.proofs.lemmas.List.Sums.{sum_by-append}
-use Rattle.sd_acl.specs.Ace.{ace_size, acl_size_of}
-use Rattle.sd_commands.specs.Sort.{CanonicalStays, SortedIsCanonical, sorted}
 
 -- in a part by the test none fails it; where none does, all is such a part
 passes : (q : Ace → Bool) (es : List Ace) → list_any (λ e. not (q e)) (filter q es) ≡ false

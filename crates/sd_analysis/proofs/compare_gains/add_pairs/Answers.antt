@@ -1,7 +1,4 @@
-use Rattle.std.proofs.Common.{◌≡◌, ℕ, Some, inl, inr, true}
-use Rattle.std.specs.List.{All}
-use Rattle.sd_sid.specs.Mask.{holds}
-use Rattle.sd_analysis.specs.declared.compare_search.Finding.{Finding}
+use Rattle.sd_analysis.proofs.Cited.{All, Finding, Some, holds, inl, inr, true, ℕ, ◌≡◌}
 use Rattle.sd_analysis.proofs.Gathered.{found_more, still_gone, at_item}
 use Rattle.sd_analysis.proofs.compare_gains.add_pairs.Goals as goal
 

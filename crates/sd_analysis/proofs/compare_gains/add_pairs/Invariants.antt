@@ -1,10 +1,5 @@
 -- The report so far, and that no bit that both passes have shown so far is wanted.
-use Rattle.std.proofs.Common.{◌≡◌, ℕ, ◌<◌, Bool, true, false, Some, take}
-use Rattle.std.specs.List.{All}
-use Rattle.sd_sid.specs.Mask.{holds}
-use Rattle.sd_analysis.specs.Report.{IsReport, IsLess, is_found}
-use Rattle.sd_analysis.specs.declared.compare_search.Finding.{Finding}
-use Rattle.sd_analysis.specs.declared.witness.Witness.{Witness}
+use Rattle.sd_analysis.proofs.Cited.{All, Bool, Finding, IsLess, IsReport, Some, Witness, false, holds, is_found, take, true, ℕ, ◌<◌, ◌≡◌}
 use Rattle.sd_analysis.proofs.compare_gains.add_pairs.Given as goal
 
 abbrev pub invariant-loop-finding : goal.invariant-loop-finding

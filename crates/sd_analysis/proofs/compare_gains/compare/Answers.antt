@@ -1,6 +1,4 @@
-use Rattle.std.proofs.Common.{subst}
-use Rattle.sd_analysis.specs.Sufficient.{parts_of}
-use Rattle.sd_analysis.specs.Compare.{AreGains}
+use Rattle.sd_analysis.proofs.Cited.{AreGains, parts_of, subst}
 use Rattle.sd_analysis.proofs.Gathered.{nothing_gained}
 use Rattle.sd_analysis.proofs.compare_gains.compare.Goals as goal
 

@@ -1,6 +1,4 @@
-use Rattle.std.proofs.Common.{◌≡◌, ℕ, Some, sym, true, ◌∙◌, ap, inl, inr, arith}
-use Rattle.sd_analysis.specs.declared.compare_search.Finding.{Finding}
-use Rattle.sd_sid.specs.Mask.{holds}
+use Rattle.sd_analysis.proofs.Cited.{Finding, Some, ap, arith, holds, inl, inr, sym, true, ℕ, ◌∙◌, ◌≡◌}
 use Rattle.sd_analysis.proofs.Reports.{in_both, both_in}
 use Rattle.sd_analysis.proofs.Gathered.{found_more, still_gone, at_item}
 use Rattle.sd_analysis.proofs.compare_gains.pair.Goals as goal

@@ -1,9 +1,4 @@
-use Rattle.std.proofs.Common.{◌≡◌, ◌<◌, ◌||◌, length, get_or, sym, ◌∙◌, ap, subst, arith}
-use Rattle.std.specs.List.{All}
-use Rattle.std.proofs.lemmas.List.Elements.{All-push}
-use Rattle.sd_sid.specs.Mask.{holds, mask_of}
-use Rattle.sd_analysis.specs.Compare.{HasABit}
-use Rattle.sd_analysis.specs.declared.compare_report.Change.{Change}
+use Rattle.sd_analysis.proofs.Cited.{All, All-push, Change, HasABit, ap, arith, get_or, holds, length, mask_of, subst, sym, ◌<◌, ◌||◌, ◌∙◌, ◌≡◌}
 use Rattle.sd_analysis.proofs.Reports.{reported_set, shown_set, some_set}
 use Rattle.sd_analysis.proofs.compare_report.note.Goals as goal
 

@@ -1,7 +1,4 @@
-use Rattle.std.proofs.Common.{◌≡◌, true, ◌||◌, refl, ap}
-use Rattle.std.proofs.lemmas.Bool.{agree_below_at}
-use Rattle.sd_sid.specs.Mask.{holds}
-use Rattle.sd_analysis.specs.Table.{listed_of, point_at}
+use Rattle.sd_analysis.proofs.Cited.{agree_below_at, ap, holds, listed_of, point_at, refl, true, ◌||◌, ◌≡◌}
 use Rattle.sd_analysis.proofs.Shares.{in_question}
 use Rattle.sd_analysis.proofs.compare_search.in_question.Goals as goal
 use Rattle.sd_analysis.proofs.compare_search.in_question.Goals.{then-demand, else-demand}

@@ -1,5 +1,4 @@
-use Rattle.std.proofs.Common.{◌∙◌, sym, ap, arith, ◌||◌}
-use Rattle.sd_analysis.specs.Sufficient.{is_named, parts_of}
+use Rattle.sd_analysis.proofs.Cited.{ap, arith, is_named, parts_of, sym, ◌||◌, ◌∙◌}
 use Rattle.sd_analysis.proofs.Unnamed.{named_more, one_unnamed}
 use Rattle.sd_analysis.proofs.compare_sides.unnamed.Goals as goal
 

@@ -1,7 +1,5 @@
 -- All SIDs of lesser numbers are named.
-use Rattle.std.proofs.Common.{◌≡◌, ℕ, ◌<◌, ◌||◌, true}
-use Rattle.sd_analysis.specs.Sufficient.{is_named, parts_of}
-use Rattle.sd_analysis.specs.Passes.{numbered}
+use Rattle.sd_analysis.proofs.Cited.{is_named, numbered, parts_of, true, ℕ, ◌<◌, ◌||◌, ◌≡◌}
 use Rattle.sd_analysis.proofs.compare_sides.unnamed.Given as goal
 
 abbrev pub invariant-loop-n : goal.invariant-loop-n

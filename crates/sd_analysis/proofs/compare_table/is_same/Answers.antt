@@ -1,7 +1,4 @@
-use Rattle.std.proofs.Common.{ap, sym, ◌∙◌}
-use Rattle.std.proofs.lemmas.Bool.{false_from_ne_true}
-use Rattle.sd_sid.proofs.Compared.{same_sid-true}
-use Rattle.sd_analysis.specs.Table.{last_sub}
+use Rattle.sd_analysis.proofs.Cited.{ap, false_from_ne_true, last_sub, same_sid-true, sym, ◌∙◌}
 use Rattle.sd_analysis.proofs.compare_table.is_same.Goals as goal
 
 pub returns-then-its_last-last : goal.returns-then-its_last-last

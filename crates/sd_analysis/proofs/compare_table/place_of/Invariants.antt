@@ -1,6 +1,5 @@
 -- None so far is the SID.
-use Rattle.std.proofs.Common.{◌≡◌, ◌≤◌, ◌+◌, length, drop}
-use Rattle.sd_analysis.specs.Table.{place_in}
+use Rattle.sd_analysis.proofs.Cited.{drop, length, place_in, ◌+◌, ◌≡◌, ◌≤◌}
 use Rattle.sd_analysis.proofs.compare_table.place_of.Given as goal
 
 abbrev pub invariant-loop-place : goal.invariant-loop-place

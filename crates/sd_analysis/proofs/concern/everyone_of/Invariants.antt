@@ -1,7 +1,5 @@
 -- The groups so far that are Everyone.
-use Rattle.std.proofs.Common.{◌≡◌, take}
-use Rattle.std.specs.List.{flat_map}
-use Rattle.sd_analysis.specs.Risks.{where_everyone}
+use Rattle.sd_analysis.proofs.Cited.{flat_map, take, where_everyone, ◌≡◌}
 use Rattle.sd_analysis.proofs.concern.everyone_of.Given as goal
 
 abbrev pub invariant-loop-group : goal.invariant-loop-group

@@ -1,7 +1,6 @@
 -- The SIDs with those of the entries so far.
-use Rattle.std.proofs.Common.{◌≡◌, take}
+use Rattle.sd_analysis.proofs.Cited.{take, wide_sids, with_sid_of, ◌≡◌}
 use Rattle.std.specs.Prelude.{fold}
-use Rattle.sd_analysis.specs.Risks.{wide_sids, with_sid_of}
 use Rattle.sd_analysis.proofs.concern.sids_of_concern.Given as goal
 
 abbrev pub invariant-loop-entry : goal.invariant-loop-entry

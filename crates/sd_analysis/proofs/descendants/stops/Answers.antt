@@ -1,6 +1,5 @@
 -- The flag is the third place.
-use Rattle.std.proofs.Common.{◌∙◌}
-use Rattle.sd_sid.proofs.Masks.{flag_test}
+use Rattle.sd_analysis.proofs.Cited.{flag_test, ◌∙◌}
 use Rattle.sd_analysis.proofs.descendants.stops.Goals as goal
 
 pub returns : goal.returns

@@ -1,10 +1,5 @@
 -- One descendant more has its change.
-use Rattle.std.proofs.Common.{[], ◌∷◌, map, sym, ◌∙◌, ap, subst}
-use Rattle.std.specs.List.{All}
-use Rattle.std.proofs.lemmas.List.Elements.{All-append}
-use Rattle.sd_analysis.specs.Descendants.{IsDescendantChange}
-use Rattle.sd_analysis.specs.declared.descendants.Descendant.TheVariants.{Object}
-use Rattle.sd_analysis.specs.declared.descendants_compare.DescendantChange.{DescendantChange}
+use Rattle.sd_analysis.proofs.Cited.{All, All-append, DescendantChange, IsDescendantChange, Object, [], ap, map, subst, sym, ◌∙◌, ◌∷◌}
 use Rattle.sd_analysis.proofs.Each.{each_more, just}
 use Rattle.sd_analysis.proofs.descendants_compare.compare_descendants.Goals as goal
 

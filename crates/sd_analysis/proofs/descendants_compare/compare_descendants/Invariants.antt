@@ -1,8 +1,5 @@
 -- The descendants so far have their changes.
-use Rattle.std.proofs.Common.{◌≡◌, map, take}
-use Rattle.std.specs.List.{All}
-use Rattle.sd_analysis.specs.Descendants.{IsDescendantChange}
-use Rattle.sd_analysis.specs.declared.descendants_compare.DescendantChange.{DescendantChange}
+use Rattle.sd_analysis.proofs.Cited.{All, DescendantChange, IsDescendantChange, map, take, ◌≡◌}
 use Rattle.sd_analysis.proofs.descendants_compare.compare_descendants.Given as goal
 
 abbrev pub invariant-loop-descendant : goal.invariant-loop-descendant

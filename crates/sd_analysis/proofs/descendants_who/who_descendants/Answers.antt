@@ -1,10 +1,5 @@
 -- One descendant more has its accesses.
-use Rattle.std.proofs.Common.{[], ◌∷◌, map, sym, ◌∙◌, ap, subst}
-use Rattle.std.specs.List.{All}
-use Rattle.std.proofs.lemmas.List.Elements.{All-append}
-use Rattle.sd_analysis.specs.Descendants.{IsDescendantAccess}
-use Rattle.sd_analysis.specs.declared.descendants.Descendant.TheVariants.{Object}
-use Rattle.sd_analysis.specs.declared.descendants_who.DescendantAccess.{DescendantAccess}
+use Rattle.sd_analysis.proofs.Cited.{All, All-append, DescendantAccess, IsDescendantAccess, Object, [], ap, map, subst, sym, ◌∙◌, ◌∷◌}
 use Rattle.sd_analysis.proofs.Each.{each_more, just}
 use Rattle.sd_analysis.proofs.descendants_who.who_descendants.Goals as goal
 

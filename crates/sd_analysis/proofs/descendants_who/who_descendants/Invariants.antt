@@ -1,8 +1,5 @@
 -- The descendants so far have their accesses.
-use Rattle.std.proofs.Common.{◌≡◌, map, take}
-use Rattle.std.specs.List.{All}
-use Rattle.sd_analysis.specs.Descendants.{IsDescendantAccess}
-use Rattle.sd_analysis.specs.declared.descendants_who.DescendantAccess.{DescendantAccess}
+use Rattle.sd_analysis.proofs.Cited.{All, DescendantAccess, IsDescendantAccess, map, take, ◌≡◌}
 use Rattle.sd_analysis.proofs.descendants_who.who_descendants.Given as goal
 
 abbrev pub invariant-loop-descendant : goal.invariant-loop-descendant

@@ -1,6 +1,5 @@
 -- The changes between the two lists say whether they differ.
-use Rattle.std.proofs.Common.{◌==◌, sym, ◌∙◌, ap}
-use Rattle.std.proofs.lemmas.Bool.{not-false, not-true}
+use Rattle.sd_analysis.proofs.Cited.{ap, not-false, not-true, sym, ◌==◌, ◌∙◌}
 use Rattle.sd_analysis.proofs.Effects.{alike_by_none, differ_by_gain, differ_by_loss}
 use Rattle.sd_analysis.proofs.effect.differ.Goals as goal
 

@@ -1,7 +1,5 @@
 -- Without a copy of the entry the descendant's list is the same.
-use Rattle.std.proofs.Common.{◌≡◌, ◌+◌, ◌-◌, ◌==◌, length, take, drop, List, sym, ◌∙◌, ap, arith}
-use Rattle.sd_acl.specs.declared.ace.Ace.{Ace}
-use Rattle.sd_analysis.specs.Descendants.{list_of}
+use Rattle.sd_analysis.proofs.Cited.{Ace, List, ap, arith, drop, length, list_of, sym, take, ◌+◌, ◌-◌, ◌==◌, ◌∙◌, ◌≡◌}
 use Rattle.sd_analysis.proofs.Alike.{handed_without, inherit_same}
 use Rattle.sd_analysis.proofs.effect.differs.Goals as goal
 

@@ -1,9 +1,5 @@
 -- The others are the list without the entry.
-use Rattle.std.proofs.Common.{◌≡◌, inr, List, remove, ◌∙◌, ap, subst}
-use Rattle.sd_acl.specs.declared.ace.Ace.{Ace}
-use Rattle.sd_analysis.specs.Descendants.{list_of}
-use Rattle.sd_analysis.specs.Effect.{InheritUnlike}
-use Rattle.sd_analysis.specs.declared.descendants.Descendant.{Descendant}
+use Rattle.sd_analysis.proofs.Cited.{Ace, Descendant, InheritUnlike, List, ap, inr, list_of, remove, subst, ◌∙◌, ◌≡◌}
 use Rattle.sd_analysis.proofs.effect.has_effect.Goals as goal
 
 pub returns-clause-yes : goal.returns-clause-yes

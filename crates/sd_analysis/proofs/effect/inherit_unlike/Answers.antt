@@ -1,7 +1,5 @@
 -- The owner of what is made is S-1-3-0.
-use Rattle.std.proofs.Common.{Some, subst, arith}
-use Rattle.sd_sid.specs.Sid.{SidValue}
-use Rattle.sd_analysis.specs.Effect.{DecideAlike}
+use Rattle.sd_analysis.proofs.Cited.{DecideAlike, SidValue, Some, arith, subst}
 use Rattle.sd_analysis.proofs.effect.inherit_unlike.Goals as goal
 
 pub returns-clause-no : goal.returns-clause-no

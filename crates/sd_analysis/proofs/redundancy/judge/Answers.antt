@@ -1,5 +1,4 @@
-use Rattle.std.proofs.Common.{inl, inr, refl, subst}
-use Rattle.sd_analysis.specs.Effect.{HasEffect, HasNoEffect}
+use Rattle.sd_analysis.proofs.Cited.{HasEffect, HasNoEffect, inl, inr, refl, subst}
 use Rattle.sd_analysis.proofs.redundancy.judge.Goals as goal
 
 pub returns-then-has : goal.returns-then-has

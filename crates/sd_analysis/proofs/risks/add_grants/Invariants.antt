@@ -1,7 +1,5 @@
 -- The grants to the SIDs so far are added.
-use Rattle.std.proofs.Common.{◌≡◌, ◌++◌, take}
-use Rattle.std.specs.List.{flat_map}
-use Rattle.sd_analysis.specs.Risks.{grants_to}
+use Rattle.sd_analysis.proofs.Cited.{flat_map, grants_to, take, ◌++◌, ◌≡◌}
 use Rattle.sd_analysis.proofs.risks.add_grants.Given as goal
 
 abbrev pub invariant-loop-sid : goal.invariant-loop-sid

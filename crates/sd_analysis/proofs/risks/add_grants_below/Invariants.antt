@@ -1,8 +1,5 @@
 -- The grants in the descendants so far are added.
-use Rattle.std.proofs.Common.{◌≡◌, ◌++◌, take}
-use Rattle.std.specs.List.{flat_map}
-use Rattle.sd_analysis.specs.Descendants.{descendants_of, stops_somewhere}
-use Rattle.sd_analysis.specs.Risks.{grants_in}
+use Rattle.sd_analysis.proofs.Cited.{descendants_of, flat_map, grants_in, stops_somewhere, take, ◌++◌, ◌≡◌}
 use Rattle.sd_analysis.proofs.risks.add_grants_below.Given as goal
 
 abbrev pub invariant-loop-descendant : goal.invariant-loop-descendant

@@ -1,7 +1,5 @@
-use Rattle.std.proofs.Common.{◌≡◌, ◌+◌, ◌++◌, Some, not, refl, sym, ◌∙◌, ap, arith, add-one, length, slice_get}
-use Rattle.std.proofs.lemmas.Option.{slice_get_read}
-use Rattle.sd_analysis.specs.Risks.{entry_risks, risk_if, risks_at}
-use Rattle.sd_analysis.specs.declared.risks.Risk.TheVariants.{UnknownEntry}
+use Rattle.sd_analysis.proofs.Cited.{Some, UnknownEntry, add-one, ap, arith, length, not, refl, risk_if, risks_at, slice_get, slice_get_read, sym, ◌++◌, ◌+◌, ◌∙◌, ◌≡◌}
+use Rattle.sd_analysis.specs.Risks.{entry_risks}
 use Rattle.sd_analysis.proofs.risks.entry_risks.Goals as goal
 
 pub loop-place-init : goal.loop-place-init

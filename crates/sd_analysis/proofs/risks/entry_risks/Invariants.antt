@@ -1,6 +1,5 @@
 -- The risks so far are those of the entries so far.
-use Rattle.std.proofs.Common.{◌≡◌}
-use Rattle.sd_analysis.specs.Risks.{entry_risks}
+use Rattle.sd_analysis.proofs.Cited.{entry_risks, ◌≡◌}
 use Rattle.sd_analysis.proofs.risks.entry_risks.Given as goal
 
 abbrev pub invariant-loop-place : goal.invariant-loop-place

@@ -1,9 +1,5 @@
 -- Verdicts that grant different bits are different.
-use Rattle.std.proofs.Common.{◌≡◌, ◌+◌, ◌-◌, ◌++◌, suc, length, take, drop, List, Some, add-one, ap, sym, ◌∙◌, arith}
-use Rattle.std.proofs.lemmas.Bool.{eq-eqb, false≢true, not-true}
-use Rattle.std.proofs.lemmas.List.{take_all, length-drop}
-use Rattle.sd_acl.specs.declared.ace.Ace.{Ace}
-use Rattle.sd_check.specs.Check.{verdict}
+use Rattle.sd_analysis.proofs.Cited.{Ace, List, Some, add-one, ap, arith, drop, eq-eqb, false≢true, length, length-drop, not-true, suc, sym, take, take_all, verdict, ◌++◌, ◌+◌, ◌-◌, ◌∙◌, ◌≡◌}
 use Rattle.sd_analysis.specs.Effect.{granted_by}
 use Rattle.sd_analysis.proofs.trial.differs.Goals as goal
 

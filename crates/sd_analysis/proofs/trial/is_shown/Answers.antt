@@ -1,6 +1,5 @@
 -- The groups are the base, with one more or without.
-use Rattle.std.proofs.Common.{◌∙◌, ap}
-use Rattle.sd_check.specs.Token.{TokenValue}
+use Rattle.sd_analysis.proofs.Cited.{TokenValue, ap, ◌∙◌}
 use Rattle.sd_analysis.proofs.Effects.{has_base_with}
 use Rattle.sd_analysis.proofs.trial.is_shown.Goals as goal
 

@@ -1,7 +1,5 @@
 -- A missing list grants every right to everybody. What is exact says enough of restricted tokens.
-use Rattle.std.proofs.Common.{Some}
-use Rattle.std.proofs.lemmas.Result.{IfOk-weaker}
-use Rattle.sd_check.specs.Check.{entries_of}
+use Rattle.sd_analysis.proofs.Cited.{IfOk-weaker, Some, entries_of}
 use Rattle.sd_analysis.proofs.Rights.{asked_low, each_once, everyone_is_who, list_is_who, who_is_most}
 use Rattle.sd_analysis.proofs.who_has.who.Goals as goal
 

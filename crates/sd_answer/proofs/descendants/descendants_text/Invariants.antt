@@ -1,7 +1,5 @@
 -- The text has the lines of the changes so far.
-use Rattle.std.proofs.Common.{◌≡◌, string_bytes, take}
-use Rattle.std.specs.List.{flat_map}
-use Rattle.sd_answer.specs.Descendants.{descendant_lines}
+use Rattle.sd_answer.proofs.Cited.{descendant_lines, flat_map, string_bytes, take, ◌≡◌}
 use Rattle.sd_answer.proofs.descendants.descendants_text.Given as goal
 
 abbrev pub invariant-loop-change : goal.invariant-loop-change

@@ -1,7 +1,5 @@
 -- The lines of the descendants so far.
-use Rattle.std.proofs.Common.{◌≡◌, string_bytes, take}
-use Rattle.std.specs.List.{flat_map}
-use Rattle.sd_answer.specs.Descendants.{descendant_who_lines}
+use Rattle.sd_answer.proofs.Cited.{descendant_who_lines, flat_map, string_bytes, take, ◌≡◌}
 use Rattle.sd_answer.proofs.descendants.descendants_who_text.Given as goal
 
 abbrev pub invariant-loop-access : goal.invariant-loop-access

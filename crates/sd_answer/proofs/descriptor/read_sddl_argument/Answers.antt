@@ -1,14 +1,5 @@
 -- A text that isn't parsed has a fault, or is valid and memory was refused.
-use Rattle.std.proofs.Common.{List, ℕ, true, Result, Ok, Err, refl}
-use Rattle.std.specs.Prelude.{IfErr, IsErrOf}
-use Rattle.sd_text.specs.Fault.{StandsIn}
-use Rattle.sd_text.specs.Grammar.{SpellsOne}
-use Rattle.sd_text.specs.Sacl.{sddl_without_sacl}
-use Rattle.sd_text.specs.Sddl.{has_entry}
-use Rattle.sd_text.specs.declared.alias.Aliases.{Aliases}
-use Rattle.sd_text.specs.declared.fault.TextError.{TextError}
-use Rattle.sd_text.specs.declared.fault.TextError.TheVariants.{Fault, Memory}
-use Rattle.sd_answer.specs.Descriptor.{IsUnread}
+use Rattle.sd_answer.proofs.Cited.{Aliases, Err, Fault, IfErr, IsErrOf, IsUnread, List, Memory, Ok, Result, SpellsOne, StandsIn, TextError, has_entry, refl, sddl_without_sacl, true, ℕ}
 use Rattle.sd_answer.proofs.descriptor.read_sddl_argument.Goals as goal
 
 unread : {A : Type 0} (known : Aliases) (text : List ℕ) (r : Result A TextError) → IfErr r (StandsIn (sddl_without_sacl known) text)

@@ -1,10 +1,5 @@
-use Rattle.std.proofs.Common.{◌≡◌, ◌∷◌, [], ℕ, Bool, List, map, set, string_bytes, ap, refl, ◌∙◌, sym}
-use Rattle.std.specs.List.{position, position_or_len}
-use Rattle.std.specs.Str.{bytes_eq}
-use Rattle.std.proofs.lemmas.List.{get_or-map, length-map, map-append, map-set}
-use Rattle.std.proofs.lemmas.List.Quantifiers.{position-Some}
-use Rattle.sd_answer.specs.declared.lines.BitsLine.{BitsLine}
-use Rattle.sd_answer.specs.Lines.{LineValue, joined, joined_at, union, value_of, values}
+use Rattle.sd_answer.proofs.Cited.{BitsLine, Bool, LineValue, List, [], ap, bytes_eq, get_or-map, joined_at, length-map, map, map-append, map-set, position, position-Some, position_or_len, refl, set, string_bytes, sym, union, value_of, values, ℕ, ◌∙◌, ◌∷◌, ◌≡◌}
+use Rattle.sd_answer.specs.Lines.{joined}
 use Rattle.sd_answer.proofs.lines.join.Goals as goal
 
 position_or_len-map : {X Y : Type 0} (p : Y → Bool) (f : X → Y) (xs : List X) → position_or_len p (map f xs) ≡ position_or_len (λ x. p (f x)) xs

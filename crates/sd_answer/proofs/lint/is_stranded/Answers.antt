@@ -1,6 +1,5 @@
 -- The flags are the first two places.
-use Rattle.std.proofs.Common.{rules}
-use Rattle.sd_sid.proofs.Masks.{flag_test}
+use Rattle.sd_answer.proofs.Cited.{flag_test, rules}
 use Rattle.sd_answer.proofs.lint.is_stranded.Goals as goal
 
 pub returns-then-not-to_objects : goal.returns-then-not-to_objects

@@ -1,6 +1,5 @@
 -- The lines so far are those of the entries so far.
-use Rattle.std.proofs.Common.{◌≡◌, string_bytes}
-use Rattle.sd_answer.specs.Lint.{list_lines}
+use Rattle.sd_answer.proofs.Cited.{list_lines, string_bytes, ◌≡◌}
 use Rattle.sd_answer.proofs.lint.list_lines.Given as goal
 
 abbrev pub invariant-loop-place : goal.invariant-loop-place

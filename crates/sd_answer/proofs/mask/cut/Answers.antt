@@ -1,5 +1,4 @@
-use Rattle.std.proofs.Common.{rules}
-use Rattle.std.proofs.lemmas.Str.Pattern.{split_once_first}
+use Rattle.sd_answer.proofs.Cited.{rules, split_once_first}
 use Rattle.sd_answer.proofs.Cuts.{none_cut, some_cut}
 use Rattle.sd_answer.proofs.mask.cut.Goals as goal
 

@@ -1,5 +1,4 @@
-use Rattle.std.proofs.Common.{rules, Ok, Err, inl, refl}
-use Rattle.std.proofs.lemmas.Result.{err_from_is_err_and}
+use Rattle.sd_answer.proofs.Cited.{Err, Ok, err_from_is_err_and, inl, refl, rules}
 use Rattle.sd_answer.proofs.WordsLeft.{gives_more}
 use Rattle.sd_answer.proofs.mask.words_mask.Goals as goal
 

@@ -1,7 +1,5 @@
 -- The words so far are joined, and those that are left decide the text.
-use Rattle.std.proofs.Common.{length}
-use denote.Text.{Utf8}
-use denote.Shadow.{shadow}
+use Rattle.sd_answer.proofs.Cited.{Utf8, length, shadow}
 use Rattle.sd_answer.proofs.WordsLeft.{Left}
 use Rattle.sd_answer.proofs.mask.words_mask.Given as goal
 

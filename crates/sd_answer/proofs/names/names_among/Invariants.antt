@@ -1,7 +1,5 @@
 -- The text so far and its bits, and the rows that are left, print what all rows do.
-use Rattle.std.proofs.Common.{◌≡◌, [], drop, map, string_bytes}
-use Rattle.sd_text.specs.MaskNames.{named_from}
-use Rattle.sd_answer.specs.Names.{named_bits, names_of}
+use Rattle.sd_answer.proofs.Cited.{[], drop, map, named_bits, named_from, names_of, string_bytes, ◌≡◌}
 use Rattle.sd_answer.proofs.names.names_among.Given as goal
 
 abbrev pub invariant-loop-name : goal.invariant-loop-name

@@ -1,8 +1,5 @@
 -- The alternatives so far are in the lines.
-use Rattle.std.proofs.Common.{◌≡◌, List, fold, take}
-use Rattle.sd_analysis.specs.declared.who_has.Alternative.{Alternative}
-use Rattle.sd_answer.specs.Lines.{LineValue, joined, values}
-use Rattle.sd_answer.specs.Who.{alternative_text}
+use Rattle.sd_answer.proofs.Cited.{Alternative, LineValue, List, alternative_text, fold, joined, take, values, ◌≡◌}
 use Rattle.sd_answer.proofs.who.join_access.Given as goal
 
 abbrev pub invariant-loop-alternative : goal.invariant-loop-alternative

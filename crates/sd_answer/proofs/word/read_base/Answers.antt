@@ -1,5 +1,4 @@
-use Rattle.std.proofs.Common.{◌≡◌, subst}
-use Rattle.sd_answer.specs.Word.{IsFirstNoGroup, IsGroup, texts}
+use Rattle.sd_answer.proofs.Cited.{IsFirstNoGroup, IsGroup, subst, texts, ◌≡◌}
 use Rattle.sd_answer.proofs.Words.{AreEach-more, first_none_at}
 use Rattle.sd_answer.proofs.word.read_base.Goals as goal
 

@@ -1,6 +1,5 @@
 -- The groups so far are those of the texts so far.
-use Rattle.std.proofs.Common.{take}
-use Rattle.sd_answer.specs.Word.{AreGroups, texts}
+use Rattle.sd_answer.proofs.Cited.{AreGroups, take, texts}
 use Rattle.sd_answer.proofs.word.read_base.Given as goal
 
 abbrev pub invariant-loop-place : goal.invariant-loop-place

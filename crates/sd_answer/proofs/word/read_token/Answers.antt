@@ -1,6 +1,5 @@
-use Rattle.std.proofs.Common.{◌≡◌, ◌∷◌, [], ◌++◌, ◌∙◌, ap, refl, subst, sym}
-use Rattle.std.proofs.lemmas.List.Sums.{fold_push}
-use Rattle.sd_answer.specs.Word.{IsFirstNoWord, IsWord, texts, with_word}
+use Rattle.sd_answer.proofs.Cited.{IsFirstNoWord, IsWord, [], ap, fold_push, refl, subst, sym, texts, ◌++◌, ◌∙◌, ◌∷◌, ◌≡◌}
+use Rattle.sd_answer.specs.Word.{with_word}
 use Rattle.sd_answer.proofs.Words.{AreEach-more, first_none_at}
 use Rattle.sd_answer.proofs.word.read_token.Goals as goal
 

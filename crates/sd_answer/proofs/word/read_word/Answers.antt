@@ -1,5 +1,4 @@
-use Rattle.std.proofs.Common.{inr, refl, ◌∙◌, sym}
-use Rattle.std.specs.Prelude.{codes}
+use Rattle.sd_answer.proofs.Cited.{codes, inr, refl, sym, ◌∙◌}
 use Rattle.sd_answer.proofs.Words.{apart, neither}
 use Rattle.sd_answer.proofs.word.read_word.Goals as goal
 

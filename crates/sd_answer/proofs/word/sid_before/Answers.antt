@@ -1,8 +1,5 @@
 -- What stands before an ending is one text, and that one is no SID.
-use Rattle.std.proofs.Common.{◌≡◌, ◌++◌, sym, ◌∙◌, ap, subst}
-use Rattle.std.proofs.lemmas.List.{append_cancel_right}
-use Rattle.sd_text.specs.Sid.{sid_text_in}
-use Rattle.sd_text.specs.Grammar.{Spells}
+use Rattle.sd_answer.proofs.Cited.{Spells, ap, append_cancel_right, sid_text_in, subst, sym, ◌++◌, ◌∙◌, ◌≡◌}
 use Rattle.sd_answer.proofs.word.sid_before.Goals as goal
 
 pub returns-in-Err-clause-none : goal.returns-in-Err-clause-none

@@ -1,7 +1,4 @@
-use Rattle.std.proofs.Common.{◌≡◌, ◌==◌, length, rules, sym, arith}
-use Rattle.std.specs.List.{position_or_len}
-use Rattle.std.proofs.lemmas.List.{take_all}
-use Rattle.std.proofs.lemmas.Str.Pattern.{split_once_first}
+use Rattle.sd_commands.proofs.Cited.{arith, length, position_or_len, rules, split_once_first, sym, take_all, ◌==◌, ◌≡◌}
 use Rattle.sd_commands.proofs.diagnostic.sid_of.Goals as goal
 
 pub returns-in-Some : goal.returns-in-Some

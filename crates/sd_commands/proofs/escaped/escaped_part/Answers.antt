@@ -1,8 +1,4 @@
-use Rattle.std.proofs.Common.{sym, ap, ◌∙◌, map-id}
-use Rattle.std.proofs.lemmas.Iterator.{YieldsList-from_chars, YieldsList-from_take}
-use Rattle.std.proofs.lemmas.Iterator.Adapters.{YieldsList-from_skip}
-use Rattle.std.proofs.lemmas.Iterator.Consumers.{YieldsList-end}
-use Rattle.sd_commands.specs.Escaped.{escaped_chars}
+use Rattle.sd_commands.proofs.Cited.{YieldsList-end, YieldsList-from_chars, YieldsList-from_skip, YieldsList-from_take, ap, escaped_chars, map-id, sym, ◌∙◌}
 use Rattle.sd_commands.proofs.escaped.escaped_part.Goals as goal
 
 pub returns : goal.returns

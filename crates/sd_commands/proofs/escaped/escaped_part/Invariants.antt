@@ -1,6 +1,5 @@
 -- What came so far is shown.
-use Rattle.std.proofs.Common.{◌≡◌, string_bytes}
-use Rattle.sd_commands.specs.Escaped.{escaped_chars}
+use Rattle.sd_commands.proofs.Cited.{escaped_chars, string_bytes, ◌≡◌}
 use Rattle.sd_commands.proofs.escaped.escaped_part.Given as goal
 
 abbrev pub invariant-loop-c : goal.invariant-loop-c

@@ -1,10 +1,5 @@
 -- A text has no more characters than bytes.
-use Rattle.std.proofs.Common.{◌≡◌, ◌≤◌, length, string_bytes, subst}
-use Rattle.std.specs.Prelude.{IfOk}
-use Rattle.std.specs.Str.{chars}
-use Rattle.std.proofs.lemmas.List.{take_all}
-use Rattle.std.proofs.lemmas.Str.{encodes-chars, length-le-encodes}
-use Rattle.sd_commands.specs.Escaped.{escaped_chars}
+use Rattle.sd_commands.proofs.Cited.{IfOk, chars, encodes-chars, escaped_chars, length, length-le-encodes, string_bytes, subst, take_all, ◌≡◌, ◌≤◌}
 use Rattle.sd_commands.proofs.escaped.escaped_word.Goals as goal
 
 pub returns : goal.returns

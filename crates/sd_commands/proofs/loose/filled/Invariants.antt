@@ -1,6 +1,5 @@
 -- The bytes so far without those that don't count.
-use Rattle.std.proofs.Common.{◌≡◌, filter, not, take}
-use Rattle.sd_commands.specs.Bytes.{is_blank_byte}
+use Rattle.sd_commands.proofs.Cited.{filter, is_blank_byte, not, take, ◌≡◌}
 use Rattle.sd_commands.proofs.loose.filled.Given as goal
 
 abbrev pub invariant-loop-byte : goal.invariant-loop-byte

@@ -1,7 +1,4 @@
-use Rattle.std.proofs.Common.{Some, None, rules, tests}
-use Rattle.std.proofs.lemmas.Iterator.{YieldsList-from_slice}
-use Rattle.std.proofs.lemmas.Iterator.Search.{position_from_yields_List}
-use Rattle.sd_commands.specs.Bytes.{is_between}
+use Rattle.sd_commands.proofs.Cited.{None, Some, YieldsList-from_slice, is_between, position_from_yields_List, rules, tests}
 use Rattle.sd_commands.proofs.BytesByPart.{found, not_found, parts_before, parts_last}
 use Rattle.sd_commands.proofs.loose.first_part.Goals as goal
 

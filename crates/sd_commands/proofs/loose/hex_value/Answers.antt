@@ -1,5 +1,4 @@
-use Rattle.std.proofs.Common.{◌≡◌, length, sym, ◌∙◌, arith}
-use Rattle.std.proofs.lemmas.Bool.Decides.{nat_tests}
+use Rattle.sd_commands.proofs.Cited.{arith, length, nat_tests, sym, ◌∙◌, ◌≡◌}
 use Rattle.sd_commands.proofs.BytesByPart.{all_joined}
 use Rattle.sd_commands.proofs.loose.hex_value.Goals as goal
 

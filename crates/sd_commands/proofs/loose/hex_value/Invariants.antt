@@ -1,7 +1,5 @@
 -- What is left, read behind the bytes so far, is the whole.
-use Rattle.std.proofs.Common.{◌≡◌, ◌-◌, ◌≤◌, Ok, drop, length}
-use Rattle.std.specs.List.{slice_split}
-use Rattle.sd_commands.specs.Bytes.{is_between, joined, parts_read}
+use Rattle.sd_commands.proofs.Cited.{Ok, drop, is_between, joined, length, parts_read, slice_split, ◌-◌, ◌≡◌, ◌≤◌}
 use Rattle.sd_commands.proofs.loose.hex_value.Given as goal
 
 abbrev pub invariant-loop-rest : goal.invariant-loop-rest

@@ -1,6 +1,4 @@
-use Rattle.std.proofs.Common.{rules}
-use Rattle.std.proofs.lemmas.Str.Pattern.{split_once_first}
-use Rattle.sd_answer.proofs.Cuts.{none_cut, some_cut}
+use Rattle.sd_commands.proofs.Cited.{none_cut, rules, some_cut, split_once_first}
 use Rattle.sd_commands.proofs.mapping.cut.Goals as goal
 
 pub returns-clause-cut : goal.returns-clause-cut

@@ -1,5 +1,4 @@
-use Rattle.std.proofs.Common.{ap, ◌∙◌}
-use Rattle.std.specs.Result.{result_ok}
+use Rattle.sd_commands.proofs.Cited.{ap, result_ok, ◌∙◌}
 use Rattle.sd_commands.proofs.mapping.mask_in.Goals as goal
 
 pub returns-clause-spelled : goal.returns-clause-spelled

@@ -1,6 +1,5 @@
 -- A text spells one mask.
-use Rattle.std.proofs.Common.{arith}
-use Rattle.std.proofs.lemmas.Bool.Decides.{nat_tests}
+use Rattle.sd_commands.proofs.Cited.{arith, nat_tests}
 use Rattle.sd_commands.proofs.Commas.{none_of}
 use Rattle.sd_commands.proofs.mapping.of_mask_texts.Goals as goal
 

@@ -1,6 +1,4 @@
-use Rattle.std.proofs.Common.{◌∙◌, ap, length, sym}
-use Rattle.std.specs.Str.{chars}
-use Rattle.std.proofs.lemmas.Str.{Chars-Drains, encodes-chars}
+use Rattle.sd_commands.proofs.Cited.{Chars-Drains, ap, chars, encodes-chars, length, sym, ◌∙◌}
 use Rattle.sd_commands.proofs.pointer.char_count.Goals as goal
 
 pub returns : goal.returns

@@ -1,8 +1,5 @@
 -- The text is cut before the character at the byte.
-use Rattle.std.proofs.Common.{◌≡◌, ◌∙◌, ap, ap₂, drop, sym, take}
-use Rattle.std.proofs.lemmas.Result.{IfOk-weaker}
-use Rattle.std.specs.Str.{chars}
-use Rattle.sd_commands.specs.Pointer.{end_shown, lines_of, start_of, start_shown}
+use Rattle.sd_commands.proofs.Cited.{IfOk-weaker, ap, ap₂, chars, drop, end_shown, lines_of, start_of, start_shown, sym, take, ◌∙◌, ◌≡◌}
 use Rattle.sd_commands.proofs.CharStart.{start_is}
 use Rattle.sd_commands.proofs.pointer.pointer_lines.Goals as goal
 

@@ -1,7 +1,5 @@
 -- The text has the lines of the risks so far.
-use Rattle.std.proofs.Common.{◌≡◌, string_bytes, take}
-use Rattle.std.specs.List.{flat_map}
-use Rattle.sd_commands.specs.Risks.{risk_line}
+use Rattle.sd_commands.proofs.Cited.{flat_map, risk_line, string_bytes, take, ◌≡◌}
 use Rattle.sd_commands.proofs.risks.lines_of.Given as goal
 
 abbrev pub invariant-loop-risk : goal.invariant-loop-risk

@@ -1,6 +1,5 @@
-use Rattle.std.proofs.Common.{◌≡◌, ◌++◌, Some, refl, sym, ◌∙◌, ap, add-one, length, slice_get}
-use Rattle.std.proofs.lemmas.Option.{slice_get_read}
-use Rattle.sd_commands.specs.Sort.{note_at, notes_below}
+use Rattle.sd_commands.proofs.Cited.{Some, add-one, ap, length, note_at, refl, slice_get, slice_get_read, sym, ◌++◌, ◌∙◌, ◌≡◌}
+use Rattle.sd_commands.specs.Sort.{notes_below}
 use Rattle.sd_commands.proofs.sort.list_notes.Goals as goal
 
 pub loop-place-init : goal.loop-place-init

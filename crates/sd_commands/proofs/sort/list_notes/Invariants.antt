@@ -1,6 +1,5 @@
 -- The notes so far are those of the entries so far.
-use Rattle.std.proofs.Common.{◌≡◌, string_bytes}
-use Rattle.sd_commands.specs.Sort.{notes_below}
+use Rattle.sd_commands.proofs.Cited.{notes_below, string_bytes, ◌≡◌}
 use Rattle.sd_commands.proofs.sort.list_notes.Given as goal
 
 abbrev pub invariant-loop-place : goal.invariant-loop-place

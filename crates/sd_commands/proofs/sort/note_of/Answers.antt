@@ -1,10 +1,5 @@
 -- The line is that of the first entry before which this one belongs.
-use Rattle.std.proofs.Common.{◌≡◌, ◌∙◌, ◌+◌, ◌++◌, Some, ap, append_assoc, codes, position, string_bytes, sym, take}
-use Rattle.std.specs.Fmt.{decimal}
-use Rattle.std.proofs.lemmas.Result.{IfOk-weaker}
-use Rattle.sd_answer.specs.Lint.{entry_head, is_misplaced}
-use Rattle.sd_commands.specs.Sort.{move_note}
-use Rattle.sd_commands.specs.Diagnostic.{told_line}
+use Rattle.sd_commands.proofs.Cited.{IfOk-weaker, Some, ap, append_assoc, codes, decimal, entry_head, is_misplaced, move_note, position, string_bytes, sym, take, told_line, ◌++◌, ◌+◌, ◌∙◌, ◌≡◌}
 use Rattle.sd_commands.proofs.sort.note_of.Goals as goal
 
 pub returns-in_ok-what-in-Some : goal.returns-in_ok-what-in-Some

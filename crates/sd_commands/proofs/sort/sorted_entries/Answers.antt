@@ -1,12 +1,5 @@
 -- The explicit entries are put in order, and the inherited ones behind them.
-use Rattle.std.proofs.Common.{◌≡◌, ◌∙◌, ap, rules, tests, arith}
-use Rattle.std.proofs.lemmas.Grind.{common_steps}
-use Rattle.std.proofs.lemmas.Iterator.{YieldsList-from_slice, items_from_collect}
-use Rattle.std.proofs.lemmas.Iterator.Adapters.{items_from_extend}
-use Rattle.std.proofs.lemmas.Iterator.Consumers.{YieldsList-from_filter, YieldsList-from_copied}
-use Rattle.sd_acl.specs.Ace.{acl_size_of}
-use Rattle.sd_acl.specs.Canonical.{canonical_order, is_explicit, is_inherited}
-use Rattle.sd_commands.specs.Sort.{sorted}
+use Rattle.sd_commands.proofs.Cited.{YieldsList-from_copied, YieldsList-from_filter, YieldsList-from_slice, acl_size_of, ap, arith, canonical_order, common_steps, is_explicit, is_inherited, items_from_collect, items_from_extend, rules, sorted, tests, ◌∙◌, ◌≡◌}
 use Rattle.sd_commands.proofs.SortedOrder.{sorted_size}
 use Rattle.sd_commands.proofs.sort.sorted_entries.Goals as goal
 

@@ -1,8 +1,4 @@
-use Rattle.std.proofs.Common.{◌==◌, ◌∙◌, ap, length, rules, tests}
-use Rattle.std.specs.Option.{unwrap_or}
-use Rattle.std.proofs.lemmas.Iterator.{YieldsList-from_slice}
-use Rattle.std.proofs.lemmas.Iterator.Search.{position_from_yields_List}
-use Rattle.std.proofs.lemmas.List.Sums.{prefix_len-le-length}
+use Rattle.sd_commands.proofs.Cited.{YieldsList-from_slice, ap, length, position_from_yields_List, prefix_len-le-length, rules, tests, unwrap_or, ◌==◌, ◌∙◌}
 use Rattle.sd_commands.proofs.BytesByPart.{place_or_end}
 use Rattle.sd_commands.proofs.value.first.Goals as goal
 

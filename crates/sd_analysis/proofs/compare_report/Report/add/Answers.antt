@@ -1,6 +1,4 @@
-use Rattle.std.proofs.Common.{◌==◌, sym, ◌∙◌, ap, subst}
-use Rattle.sd_sid.specs.Mask.{holds}
-use Rattle.sd_analysis.specs.Compare.{HasABit}
+use Rattle.sd_analysis.proofs.Cited.{HasABit, ap, holds, subst, sym, ◌==◌, ◌∙◌}
 use Rattle.sd_analysis.proofs.Reports.{in_both, report_more, wanted_less, wanted_gone, none_wanted, has_a_bit}
 use Rattle.sd_analysis.proofs.compare_report.Report.add.Goals as goal
 

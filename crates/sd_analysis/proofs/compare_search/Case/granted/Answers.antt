@@ -1,5 +1,4 @@
-use Rattle.std.proofs.Common.{ap, ◌∙◌}
-use Rattle.sd_sid.specs.Mask.{holds}
+use Rattle.sd_analysis.proofs.Cited.{ap, holds, ◌∙◌}
 use Rattle.sd_analysis.proofs.compare_search.Case.granted.Goals as goal
 
 pub returns-else-demand : goal.returns-else-demand

@@ -1,6 +1,4 @@
-use Rattle.std.proofs.Common.{subst, sym, ◌∙◌}
-use Rattle.std.proofs.lemmas.Bool.{not-false}
-use Rattle.sd_analysis.specs.Report.{IsNeverMet}
+use Rattle.sd_analysis.proofs.Cited.{IsNeverMet, not-false, subst, sym, ◌∙◌}
 use Rattle.sd_analysis.proofs.Restricted.{of_one_owner, without_owner}
 use Rattle.sd_analysis.proofs.compare_search.Case.may_gain.Goals as goal
 

@@ -1,5 +1,4 @@
-use Rattle.std.proofs.Common.{ap, sym, ◌∙◌}
-use Rattle.sd_sid.specs.Mask.{holds}
+use Rattle.sd_analysis.proofs.Cited.{ap, holds, sym, ◌∙◌}
 use Rattle.sd_analysis.proofs.Reports.{in_difference}
 use Rattle.sd_analysis.proofs.Shares.{low_held, met_held, none_met}
 use Rattle.sd_analysis.proofs.compare_search.Case.met.Goals as goal

@@ -1,10 +1,4 @@
-use Rattle.std.proofs.Common.{◌≡◌, ◌∙◌, ◌+◌, ◌<◌, ◌≤◌, true, false, sym, ap, get_or, inl, inr, length, refl, subst, take}
-use Rattle.std.proofs.lemmas.Bool.{false≢true}
-use Rattle.std.proofs.lemmas.List.{take_all}
-use Rattle.sd_sid.specs.Mask.{holds}
-use Rattle.sd_sid.specs.Sid.{SidValue}
-use Rattle.sd_analysis.specs.Sufficient.{is_among}
-use Rattle.sd_analysis.specs.Report.{IsSought, is_granted_alone, sids_meet}
+use Rattle.sd_analysis.proofs.Cited.{IsSought, SidValue, ap, false, false≢true, get_or, holds, inl, inr, is_among, is_granted_alone, length, refl, sids_meet, subst, sym, take, take_all, true, ◌+◌, ◌<◌, ◌∙◌, ◌≡◌, ◌≤◌}
 use Rattle.sd_analysis.proofs.Searched.{among_more, none_sought, nothing_found, search_done, still_left}
 use Rattle.sd_analysis.proofs.compare_search.Case.search.Goals as goal
 

@@ -1,10 +1,5 @@
 -- What is found so far; and of the SIDs so far nothing is left to find.
-use Rattle.std.proofs.Common.{◌≡◌, ℕ, ◌<◌, true, false, Some, take}
-use Rattle.sd_sid.specs.Mask.{holds}
-use Rattle.sd_sid.specs.Sid.{SidValue}
-use Rattle.sd_analysis.specs.Sufficient.{is_among}
-use Rattle.sd_analysis.specs.Report.{HasRoom, is_granted_alone, IsFound, IsSought, sids_meet}
-use Rattle.sd_analysis.specs.declared.witness.PassSids.{PassSids}
+use Rattle.sd_analysis.proofs.Cited.{HasRoom, IsFound, IsSought, PassSids, SidValue, Some, false, holds, is_among, is_granted_alone, sids_meet, take, true, ℕ, ◌<◌, ◌≡◌}
 use Rattle.sd_analysis.proofs.compare_search.Case.search.Given as goal
 
 abbrev pub invariant-loop-place : goal.invariant-loop-place

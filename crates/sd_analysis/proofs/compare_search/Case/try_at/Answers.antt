@@ -1,5 +1,4 @@
-use Rattle.std.proofs.Common.{inl, inr, sym, ◌∙◌}
-use Rattle.std.proofs.lemmas.List.{get_or_read}
+use Rattle.sd_analysis.proofs.Cited.{get_or_read, inl, inr, sym, ◌∙◌}
 use Rattle.sd_analysis.proofs.Placed.{allowed_before, allowed_inside, allowed_place}
 use Rattle.sd_analysis.proofs.compare_search.Case.try_at.Goals as goal
 

@@ -1,6 +1,4 @@
-use Rattle.std.proofs.Common.{◌∙◌, ◌+◌, Some, ap, arith, inl, inr, sym, take}
-use Rattle.sd_analysis.specs.Report.{new_of, old_of, sids_in, sids_meet}
-use Rattle.sd_analysis.specs.Sufficient.{is_among}
+use Rattle.sd_analysis.proofs.Cited.{Some, ap, arith, inl, inr, is_among, new_of, old_of, sids_in, sids_meet, sym, take, ◌+◌, ◌∙◌}
 use Rattle.sd_analysis.proofs.Placed.{are_placed, both_room, denied_at, is_beside}
 use Rattle.sd_analysis.proofs.Searched.{among_more, still_left}
 use Rattle.sd_analysis.proofs.compare_search.Case.try_pairs.Goals as goal

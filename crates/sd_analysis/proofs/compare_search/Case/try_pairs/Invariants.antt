@@ -1,9 +1,5 @@
 -- What is found so far; and with the SIDs so far nothing is left to find.
-use Rattle.std.proofs.Common.{◌≡◌, ℕ, ◌<◌, true, false, Some, take}
-use Rattle.sd_sid.specs.Mask.{holds}
-use Rattle.sd_sid.specs.Sid.{SidValue}
-use Rattle.sd_analysis.specs.Sufficient.{is_among}
-use Rattle.sd_analysis.specs.Report.{IsFound, IsLessLeft, sids_meet}
+use Rattle.sd_analysis.proofs.Cited.{IsFound, IsLessLeft, SidValue, Some, false, holds, is_among, sids_meet, take, true, ℕ, ◌<◌, ◌≡◌}
 use Rattle.sd_analysis.proofs.compare_search.Case.try_pairs.Given as goal
 
 abbrev pub invariant-loop-number : goal.invariant-loop-number

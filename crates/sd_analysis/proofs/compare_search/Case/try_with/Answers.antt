@@ -1,14 +1,4 @@
-use Rattle.std.proofs.Common.{◌∙◌, ℕ, List, None, Some, arith, sym}
-use Rattle.std.proofs.lemmas.Bool.{eqb-true, false≢true, not-true}
-use Rattle.sd_sid.specs.Mapping.{MappingValue}
-use Rattle.sd_sid.specs.Sid.{SidValue}
-use Rattle.sd_check.specs.declared.grounds.Pass.{Pass}
-use Rattle.sd_check.specs.declared.token.GroupState.{GroupState}
-use Rattle.sd_analysis.specs.Report.{ArePlaced, IsCase, IsPlace, new_of, old_of, sids_in}
-use Rattle.sd_analysis.specs.Sufficient.{Parts}
-use Rattle.sd_analysis.specs.Table.{AreBeforeAndAfter, IsTable}
-use Rattle.sd_analysis.specs.declared.compare_search.Case.{Case}
-use Rattle.sd_analysis.specs.declared.compare_table.BeforeAndAfter.{BeforeAndAfter}
+use Rattle.sd_analysis.proofs.Cited.{AreBeforeAndAfter, ArePlaced, BeforeAndAfter, Case, GroupState, IsCase, IsPlace, IsTable, List, MappingValue, None, Parts, Pass, SidValue, Some, arith, eqb-true, false≢true, new_of, not-true, old_of, sids_in, sym, ℕ, ◌∙◌}
 use Rattle.sd_analysis.proofs.Placed.{among_none, are_placed}
 use Rattle.sd_analysis.proofs.Reports.{none_wanted}
 use Rattle.sd_analysis.proofs.Searched.{still_left, with_each}

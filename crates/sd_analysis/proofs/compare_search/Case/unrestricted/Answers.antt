@@ -1,5 +1,4 @@
-use Rattle.std.proofs.Common.{true}
-use Rattle.sd_check.specs.declared.grounds.Pass.TheVariants.{First}
+use Rattle.sd_analysis.proofs.Cited.{First, true}
 use Rattle.sd_analysis.proofs.Gathered.{gains_of, each_gains, each_refused}
 use Rattle.sd_analysis.proofs.compare_search.Case.unrestricted.Goals as goal
 

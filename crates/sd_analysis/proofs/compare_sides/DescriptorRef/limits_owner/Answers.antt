@@ -1,7 +1,4 @@
-use Rattle.std.proofs.Common.{◌≡◌, List, None, Option, Some, ap, refl, ◌∙◌}
-use Rattle.sd_acl.specs.declared.ace.Ace.{Ace}
-use Rattle.sd_check.specs.Check.{entries_of, limits_owner}
-use Rattle.sd_analysis.specs.Sufficient.{entries_or_none}
+use Rattle.sd_analysis.proofs.Cited.{Ace, List, None, Option, Some, ap, entries_of, entries_or_none, limits_owner, refl, ◌∙◌, ◌≡◌}
 use Rattle.sd_analysis.proofs.compare_sides.DescriptorRef.limits_owner.Goals as goal
 
 -- a missing list limits nobody, nor does an empty one

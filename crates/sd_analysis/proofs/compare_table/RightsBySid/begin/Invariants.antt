@@ -1,6 +1,5 @@
 -- The shares so far are those of nothing.
-use Rattle.std.proofs.Common.{◌≡◌, ℕ, ◌<◌, length, get_or}
-use Rattle.sd_analysis.specs.Table.{nothing_decided}
+use Rattle.sd_analysis.proofs.Cited.{get_or, length, nothing_decided, ℕ, ◌<◌, ◌≡◌}
 use Rattle.sd_analysis.proofs.compare_table.RightsBySid.begin.Given as goal
 
 abbrev pub invariant-loop-place : goal.invariant-loop-place

@@ -1,7 +1,5 @@
 -- Each place has what the rows so far come to.
-use Rattle.std.proofs.Common.{◌≡◌, ℕ, ◌<◌, length, take}
-use Rattle.std.specs.List.{fold}
-use Rattle.sd_analysis.specs.Table.{point_after, point_at}
+use Rattle.sd_analysis.proofs.Cited.{fold, length, point_after, point_at, take, ℕ, ◌<◌, ◌≡◌}
 use Rattle.sd_analysis.proofs.compare_table.RightsBySid.take_rows.Given as goal
 
 abbrev pub invariant-loop-row : goal.invariant-loop-row

@@ -1,5 +1,4 @@
-use Rattle.std.proofs.Common.{None}
-use Rattle.sd_analysis.specs.Sufficient.{parts_of}
+use Rattle.sd_analysis.proofs.Cited.{None, parts_of}
 use Rattle.sd_analysis.proofs.Tables.{nobody_beside}
 use Rattle.sd_analysis.proofs.compare_table.Table.new.Goals as goal
 

@@ -1,12 +1,5 @@
 -- The rights that are no longer left have their alternatives.
-use Rattle.std.proofs.Common.{◌≡◌, ℕ, ◌<◌, true, false, not, ◌&&◌, Some, cond, count_by}
-use Rattle.std.specs.List.{list_any}
-use Rattle.sd_sid.specs.Mask.{holds}
-use Rattle.sd_check.specs.Check.{is_granted}
-use Rattle.sd_check.specs.Token.{TokenValue}
-use Rattle.sd_analysis.specs.Base.{HasBase, IsPlain}
-use Rattle.sd_analysis.specs.Who.{AllBeyond, has_right}
-use Rattle.sd_analysis.specs.declared.who_has.Access.{Access}
+use Rattle.sd_analysis.proofs.Cited.{Access, AllBeyond, HasBase, IsPlain, Some, TokenValue, cond, count_by, false, has_right, holds, is_granted, list_any, not, true, ℕ, ◌&&◌, ◌<◌, ◌≡◌}
 use Rattle.sd_analysis.proofs.who_case.Case.accesses.Given as goal
 
 abbrev pub invariant-loop-place : goal.invariant-loop-place

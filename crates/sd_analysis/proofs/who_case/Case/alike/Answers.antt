@@ -1,7 +1,4 @@
-use Rattle.std.proofs.Common.{◌==◌, ◌||◌}
-use Rattle.std.specs.Bool.{beq}
-use Rattle.std.proofs.lemmas.List.{take_all}
-use Rattle.sd_sid.specs.Mask.{holds}
+use Rattle.sd_analysis.proofs.Cited.{beq, holds, take_all, ◌==◌, ◌||◌}
 use Rattle.sd_analysis.proofs.Rights.{alike_first, alike_next}
 use Rattle.sd_analysis.proofs.who_case.Case.alike.Goals as goal
 

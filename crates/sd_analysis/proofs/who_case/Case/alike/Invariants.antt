@@ -1,8 +1,5 @@
 -- What is left are the rights that the entries so far decide alike.
-use Rattle.std.proofs.Common.{◌≡◌, ℕ, ◌<◌, ◌==◌, ◌&&◌, ◌||◌, take}
-use Rattle.std.specs.Bool.{beq}
-use Rattle.std.specs.List.{list_all}
-use Rattle.sd_sid.specs.Mask.{holds}
+use Rattle.sd_analysis.proofs.Cited.{beq, holds, list_all, take, ℕ, ◌&&◌, ◌<◌, ◌==◌, ◌||◌, ◌≡◌}
 use Rattle.sd_analysis.proofs.Rights.{alike}
 use Rattle.sd_analysis.proofs.who_case.Case.alike.Given as goal
 

@@ -1,8 +1,5 @@
 -- An entry that is passed over applies to nobody.
-use Rattle.std.proofs.Common.{sym, ◌∙◌}
-use Rattle.std.proofs.lemmas.Result.{on_ok_weaker}
-use Rattle.sd_check.specs.Token.{stands_for}
-use Rattle.sd_analysis.specs.WhoWalk.{granted_by, undecided_by}
+use Rattle.sd_analysis.proofs.Cited.{granted_by, on_ok_weaker, stands_for, sym, undecided_by, ◌∙◌}
 use Rattle.sd_analysis.proofs.Walks.{entry_counts, entry_is_passed, names_not, speaks_of, speaks_of_nobody, waits}
 use Rattle.sd_analysis.proofs.who_case.Case.step.Goals as goal
 use Rattle.sd_analysis.proofs.who_case.Case.step.Goals.{then-is_inherit_only-via-then-is_inherit_only, then-is_inherit_only-via-else-is_inherit_only+then-not-holds}

@@ -1,7 +1,5 @@
 -- Each entry takes the walk on.
-use Rattle.std.proofs.lemmas.List.{take_all, take_more}
-use Rattle.std.proofs.Common.{take}
-use Rattle.sd_analysis.specs.WhoWalk.{implied_holder}
+use Rattle.sd_analysis.proofs.Cited.{implied_holder, take, take_all, take_more}
 use Rattle.sd_analysis.proofs.Walks.{walk_starts}
 use Rattle.sd_analysis.proofs.who_case.Case.walk.Goals as goal
 

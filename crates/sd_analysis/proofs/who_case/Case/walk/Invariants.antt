@@ -1,6 +1,5 @@
 -- The walk is over the entries so far.
-use Rattle.std.proofs.Common.{take}
-use Rattle.sd_analysis.specs.WhoWalk.{IsWalk, granted_by, implied_holder, undecided_by}
+use Rattle.sd_analysis.proofs.Cited.{IsWalk, granted_by, implied_holder, take, undecided_by}
 use Rattle.sd_analysis.proofs.who_case.Case.walk.Given as goal
 
 abbrev pub invariant-loop-entry : goal.invariant-loop-entry

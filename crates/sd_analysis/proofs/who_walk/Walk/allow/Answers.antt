@@ -1,6 +1,5 @@
 -- The SID was denied, or has an alternative.
-use Rattle.std.proofs.Common.{sym, ◌∙◌}
-use Rattle.std.proofs.lemmas.Bool.{or_left, or_right}
+use Rattle.sd_analysis.proofs.Cited.{or_left, or_right, sym, ◌∙◌}
 use Rattle.sd_analysis.proofs.Walks.{allow_is_known}
 use Rattle.sd_analysis.proofs.who_walk.Walk.allow.Goals as goal
 use Rattle.sd_analysis.proofs.who_walk.Walk.allow.Goals.{then-is_denied-via-then-is_denied, then-is_denied-via-else-is_denied+then-has_alternative}

@@ -1,9 +1,5 @@
 -- An allow may grant the right, a deny doesn't.
-use Rattle.std.proofs.Common.{sym, ◌∙◌, ◌&&◌, ◌||◌, refl, ap}
-use Rattle.std.proofs.Math.Bool.{and-false, and-true, or-false}
-use Rattle.std.proofs.lemmas.Result.{on_ok_weaker}
-use Rattle.sd_acl.specs.declared.ace.AceKind.TheVariants.{Allow, Deny}
-use Rattle.sd_check.specs.Token.{stands_for}
+use Rattle.sd_analysis.proofs.Cited.{Allow, Deny, and-false, and-true, ap, on_ok_weaker, or-false, refl, stands_for, sym, ◌&&◌, ◌||◌, ◌∙◌}
 use Rattle.sd_analysis.proofs.Walks.{walk_alike}
 use Rattle.sd_analysis.proofs.who_walk.Walk.step.Goals as goal
 

@@ -1,8 +1,5 @@
 -- The lines are those of the changes so far.
-use Rattle.std.proofs.Common.{◌≡◌, map, take}
-use Rattle.sd_analysis.specs.Sufficient.{parts_of}
-use Rattle.sd_answer.specs.Compare.{change_line}
-use Rattle.sd_answer.specs.Lines.{values}
+use Rattle.sd_answer.proofs.Cited.{change_line, map, parts_of, take, values, ◌≡◌}
 use Rattle.sd_answer.proofs.compare.Changed.change_lines.Given as goal
 
 abbrev pub invariant-loop-change : goal.invariant-loop-change

@@ -1,6 +1,5 @@
 -- The lines of the places so far stand behind the text.
-use Rattle.std.proofs.Common.{◌≡◌, ◌++◌, string_bytes}
-use Rattle.sd_answer.specs.Lines.{lines_below, values}
+use Rattle.sd_answer.proofs.Cited.{lines_below, string_bytes, values, ◌++◌, ◌≡◌}
 use Rattle.sd_answer.proofs.lines.Printer.push_lines.Given as goal
 
 abbrev pub invariant-loop-place : goal.invariant-loop-place

@@ -1,6 +1,5 @@
 -- The text is what it was, and after it the lines so far whose lowest bit is at the place.
-use Rattle.std.proofs.Common.{◌≡◌, ◌++◌, string_bytes, take}
-use Rattle.sd_answer.specs.Lines.{lines_at, values}
+use Rattle.sd_answer.proofs.Cited.{lines_at, string_bytes, take, values, ◌++◌, ◌≡◌}
 use Rattle.sd_answer.proofs.lines.Printer.push_lines_at.Given as goal
 
 abbrev pub invariant-loop-line : goal.invariant-loop-line

@@ -1,6 +1,4 @@
-use Rattle.std.proofs.Common.{◌≡◌, Some, slice_get, length, append_assoc, refl, sym}
-use Rattle.std.proofs.lemmas.Bool.{ltb-true}
-use Rattle.std.proofs.lemmas.Option.{slice_get_read}
+use Rattle.sd_answer.proofs.Cited.{Some, append_assoc, length, ltb-true, refl, slice_get, slice_get_read, sym, ◌≡◌}
 use Rattle.sd_answer.proofs.why.Listed.entry_text.Goals as goal
 
 pub returns-in_ok-text-in-Some : goal.returns-in_ok-text-in-Some

@@ -1,7 +1,5 @@
 -- The lines of the places so far stand behind the text.
-use Rattle.std.proofs.Common.{◌≡◌, ◌++◌, string_bytes}
-use Rattle.sd_explain.specs.Parts.{reason_in}
-use Rattle.sd_answer.specs.Why.{part_lines}
+use Rattle.sd_answer.proofs.Cited.{part_lines, reason_in, string_bytes, ◌++◌, ◌≡◌}
 use Rattle.sd_answer.proofs.why.Listed.push_parts.Given as goal
 
 abbrev pub invariant-loop-place : goal.invariant-loop-place

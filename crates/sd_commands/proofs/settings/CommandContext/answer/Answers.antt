@@ -1,6 +1,4 @@
-use Rattle.std.proofs.Common.{inl}
-use Rattle.sd_acl.specs.Descriptor.{descriptor_of}
-use Rattle.sd_commands.specs.CommandAnswer.{answer_of}
+use Rattle.sd_commands.proofs.Cited.{answer_of, descriptor_of, inl}
 use Rattle.sd_commands.proofs.settings.CommandContext.answer.Goals as goal
 
 pub returns : goal.returns

@@ -1,6 +1,4 @@
-use Rattle.std.proofs.Common.{inl, inr}
-use Rattle.sd_acl.specs.Descriptor.{descriptor_of}
-use Rattle.sd_commands.specs.CommandAnswer.{answer_of}
+use Rattle.sd_commands.proofs.Cited.{answer_of, descriptor_of, inl, inr}
 use Rattle.sd_commands.proofs.settings.CommandContext.compare.Goals as goal
 
 pub returns-in-Refused : goal.returns-in-Refused

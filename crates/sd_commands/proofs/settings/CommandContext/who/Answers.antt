@@ -1,5 +1,4 @@
-use Rattle.std.proofs.Common.{inl, inr}
-use Rattle.std.proofs.lemmas.Result.{IfOk-weaker}
+use Rattle.sd_commands.proofs.Cited.{IfOk-weaker, inl, inr}
 use Rattle.sd_commands.proofs.settings.CommandContext.who.Goals as goal
 
 pub returns-in-Err-NoWord : goal.returns-in-Err-NoWord

@@ -1,5 +1,4 @@
-use Rattle.std.proofs.Common.{string_bytes}
-use Rattle.std.proofs.lemmas.Result.{IfOk-weaker}
+use Rattle.sd_commands.proofs.Cited.{IfOk-weaker, string_bytes}
 use Rattle.sd_commands.proofs.settings.CommandContext.word_fault.Goals as goal
 
 pub returns : goal.returns
