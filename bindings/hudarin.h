@@ -428,8 +428,8 @@ typedef enum hudarin_node_kind {
 typedef struct hudarin_review {
     hudarin_written written;
     uint32_t what;   /* HUDARIN_REVIEW_.. */
-    uint32_t gained; /* the bits that some token gains */
-    uint32_t lost;   /* the bits that some token loses */
+    uint32_t gained; /* the bits that some token gains of the node itself */
+    uint32_t lost;   /* the bits that some token loses of the node itself */
     uint64_t path;   /* the bytes of the node's path, at the front of the buffer */
     uint64_t before; /* of HUDARIN_REVIEW_MOVED the bytes of the path that follows it, else 0 */
 } hudarin_review;
@@ -437,9 +437,9 @@ typedef struct hudarin_review {
 /* What a publish does to a node. Of HUDARIN_REVIEW_SAME no check is answered otherwise, of any token, unless
  * HUDARIN_MAXIMUM_ALLOWED is asked for. */
 typedef enum hudarin_review_kind {
-    /* A node is at its path before and after, and no token gains or loses a right. */
+    /* A node is at its path before and after, and no token gains or loses a right, of it or of what is made in it. */
     HUDARIN_REVIEW_SAME = 1,
-    /* A node is at its path before and after, and some token gains or loses a right. */
+    /* A node is at its path before and after, and its lines say what changes. */
     HUDARIN_REVIEW_CHANGED = 2,
     /* No published node is at its path, or was moved to it. */
     HUDARIN_REVIEW_NEW = 3,
@@ -483,8 +483,8 @@ typedef struct hudarin_accesses {
 typedef struct hudarin_comparison {
     hudarin_written written;
     uint32_t argument;
-    uint32_t gained; /* the bits that some token gains */
-    uint32_t lost;   /* the bits that some token loses */
+    uint32_t gained; /* the bits that some token gains of the object itself */
+    uint32_t lost;   /* the bits that some token loses of the object itself */
 } hudarin_comparison;
 
 /* The answer of hudarin_mask_from_text. */
@@ -728,9 +728,10 @@ HUDARIN_ANSWERS hudarin_accesses hudarin_who(hudarin_descriptor *descriptor, con
 
 /*
  * What tokens that have the groups gain and lose if the new descriptor takes the old one's place. The lines of
- * `sdstore compare`: "same", or each token that shows it, as "gained 0x2 by S-1-5-32-545". Of all tokens, restricted
- * ones and those with privileges too, none gains a bit outside `gained`, nor loses one outside `lost`. Both handles are
- * tested first, then the groups are parsed, then the mapping.
+ * `sdstore compare`: "same", or each token that shows it, as "gained 0x2 by S-1-5-32-545"; then as "new objects: gained
+ * 0x2 by S-1-5-32-545" of what is made in it, if it is a container, and whether inheritance is blocked otherwise. Of
+ * all tokens, restricted ones and those with privileges too, none gains a bit outside `gained`, nor loses one outside
+ * `lost`. Both handles are tested first, then the groups are parsed, then the mapping.
  */
 HUDARIN_ANSWERS hudarin_comparison hudarin_compare(hudarin_descriptor *descriptor, hudarin_descriptor *new_descriptor,
                                                    const void *groups, size_t groups_length, const uint32_t *states,
@@ -834,7 +835,8 @@ HUDARIN_ANSWERS hudarin_written hudarin_store_revert(hudarin_store *store, hudar
  * publish or revert left, or beside the root alone. Places from 0 are those of the nodes of the store's tree in path
  * order, and after them of the published nodes in path order; HUDARIN_NO_NODE after the last one. The buffer gets the
  * node's path, of a moved one the path where it was, and the lines of hudarin_compare without groups, but none instead
- * of "same". They are the lines of `review` in `sdstore script`, without a path at the front of each.
+ * of "same", and none of what is made in an object. They are the lines of `review` in `sdstore script`, without a path
+ * at the front of each.
  */
 HUDARIN_ANSWERS hudarin_review hudarin_store_review(hudarin_store *store, uint64_t place, char *room,
                                                     size_t room_length)

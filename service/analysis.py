@@ -147,7 +147,9 @@ def _changes(old: View, new: View, before: str | None, path: str, mapping: Mappi
     was, now = old.descriptor(before), new.descriptor(path)
     if was != now:
         changes = was.compare(now, (), mapping)
-        yield from (f"{name} {change}" for change in (*changes.gained, *changes.lost))
+        below = changes.below if new.own(path).is_container else ()
+        lines = (*changes.gained, *changes.lost, *below, changes.inheritance)
+        yield from (f"{name} {line}" for line in lines if line)
 
 
 @dataclass(slots=True)

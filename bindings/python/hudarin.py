@@ -785,6 +785,8 @@ class Change(NamedTuple):
     restricting: Tuple[Sid, ...]
     #: The groups that all tokens in question have.
     base: Tuple[Group, ...]
+    #: Of what is made in a container, as "new objects", what that is; "" of the descriptor's own object.
+    of: str = ""
 
     @property
     def groups(self) -> Tuple[Group, ...]:
@@ -799,26 +801,33 @@ class Change(NamedTuple):
         user = "everyone" if self.is_everyone else self.user.full
         denied = f" {self.denied.full}=deny" if self.denied else ""
         restricting = "".join(f" {sid.full}=restrict" for sid in self.restricting)
-        return f"{self.kind} {self.mask:#x} by {user}{denied}{restricting}"
+        head = f"{self.of}: " if self.of else ""
+        return f"{head}{self.kind} {self.mask:#x} by {user}{denied}{restricting}"
 
 
 class Comparison(NamedTuple):
-    """What tokens gain and lose by a change of a descriptor. It is true if some token does, and prints as ``sdstore
+    """What tokens gain and lose by a change of a descriptor. It is true if there is a change, and prints as ``sdstore
     compare`` does."""
 
-    #: In the order of their lowest bits. No token gains or loses another bit.
+    #: Of the object itself, in the order of their lowest bits. No token gains or loses another bit.
     gained: Tuple[Change, ...]
     lost: Tuple[Change, ...]
+    #: Of what is made in it, if it is a container.
+    below: Tuple[Change, ...] = ()
+    #: "inheritance: was protected, is not", "inheritance: is protected, was not", or "" where both are the same.
+    inheritance: str = ""
 
     def __bool__(self) -> bool:
-        return bool(self.gained or self.lost)
+        return any(self)
 
     def __str__(self) -> str:
-        return "\n".join(str(change) for change in self.gained + self.lost) or "same"
+        lines = [*map(str, self.gained + self.lost + self.below), self.inheritance]
+        return "\n".join(filter(None, lines)) or "same"
 
 
 _ACCESS = re.compile(r"(0x[0-9a-f]+) to (\S+)( as the owner)?(?: unless (.+))?")
-_CHANGE = re.compile(r"(gained|lost) (0x[0-9a-f]+) by (\S+)(?: (\S+)=deny)?((?: \S+=restrict)*)")
+_CHANGE = re.compile(r"(?:(.+): )?(gained|lost) (0x[0-9a-f]+) by (\S+)(?: (\S+)=deny)?((?: \S+=restrict)*)")
+_INHERITANCE = "inheritance: "
 
 
 def _fields(form: "re.Pattern[str]", line: str) -> Tuple[Any, ...]:
@@ -838,7 +847,7 @@ def _access(line: str) -> Access:
 
 def _change(line: str, everyone: Sid, base: Tuple[Group, ...]) -> Change:
     """A change; ``everyone`` is a user whom neither descriptor names."""
-    kind, bits, user, denied, restricting = _fields(_CHANGE, line)
+    of, kind, bits, user, denied, restricting = _fields(_CHANGE, line)
     return Change(
         kind,
         int(bits, 16),
@@ -847,6 +856,7 @@ def _change(line: str, everyone: Sid, base: Tuple[Group, ...]) -> Change:
         Sid.from_text(denied) if denied else None,
         tuple(Sid.from_text(word.partition("=")[0]) for word in restricting.split()),
         base,
+        of or "",
     )
 
 
@@ -977,17 +987,19 @@ class Descriptor(_Bytes):
         self, new: "Descriptor", base: Iterable[Group] = (), mapping: Iterable[Mask] = FILES
     ) -> Comparison:
         """What tokens that have the groups of the ``base`` gain and lose if ``new`` takes this descriptor's place, each
-        change with a token that shows it. No token gains or loses another right, restricted ones and those with
-        privileges included."""
+        change with a token that shows it; also of what is made in it, if it is a container. No token gains or loses
+        another right, restricted ones and those with privileges included."""
         groups = tuple(base)
         given, masks = _groups(groups), _mapping(mapping)
         with KeptDescriptor(self) as kept, KeptDescriptor(new) as other:
             call = _library.hudarin_compare
             lines, _ = _filled(lambda *buffer: call(kept._kept, other._kept, *given, masks, *buffer))
         everyone = _unnamed(self, new)
-        changes = [_change(line, everyone, groups) for line in lines.decode().splitlines() if line != "same"]
-        gained = tuple(change for change in changes if change.kind == "gained")
-        return Comparison(gained, tuple(changes[len(gained) :]))
+        told = [line for line in lines.decode().splitlines() if line != "same"]
+        inheritance = told.pop() if told and told[-1].startswith(_INHERITANCE) else ""
+        changes = [_change(line, everyone, groups) for line in told]
+        own = [tuple(each for each in changes if (each.of, each.kind) == ("", kind)) for kind in ("gained", "lost")]
+        return Comparison(own[0], own[1], tuple(each for each in changes if each.of), inheritance)
 
 
 def _unnamed(*descriptors: Descriptor) -> Sid:
@@ -1225,10 +1237,10 @@ class Reviewed(NamedTuple):
     path: str
     #: Of a moved node the path where it was, else None.
     before: Optional[str]
-    #: The bits that some token gains, and those that some token loses.
+    #: The bits that some token gains of the node itself, and those that some token loses.
     gained: int
     lost: int
-    #: The lines of ``sdstore compare``, as "gained 0x2 by S-1-5-32-545".
+    #: The lines of ``sdstore compare``, as "gained 0x2 by S-1-5-32-545", of what is made in it only for a container.
     changes: Tuple[str, ...]
 
     def __str__(self) -> str:

@@ -334,7 +334,7 @@ def analysis() -> None:
     keys = (Access(0x20019, "sid", USERS, ()), Access(0x20000, "owner", admins, ()))
     gives("by a mapping", keys, lambda: _users("GR").who("KR", mapping=hudarin.KEYS))
     same, gain = READERS.compare(READERS), READERS.compare(_users("FW"))
-    gives("nothing changed", (False, "same", ((), ())), lambda: (bool(same), str(same), same))
+    gives("nothing changed", (False, "same", ((), (), (), "")), lambda: (bool(same), str(same), same))
     shown = ("gained 0x116 by S-1-5-32-545", "lost 0x89 by S-1-5-32-545")
     gives("a change", (True, "\n".join(shown)), lambda: (bool(gain), str(gain)))
     restricted = _users("FA").compare(READERS, [(USERS, hudarin.DENY_ONLY)])
@@ -342,7 +342,12 @@ def analysis() -> None:
     for nobody, named in (("S-1-0-0", "D:"), ("S-1-0-1", "O:S-1-0-0D:"), ("S-1-0-2", "O:S-1-0-0D:(A;;;;;S-1-0-1)")):
         opened = Descriptor.from_sddl(named).compare(Descriptor.from_sddl("D:NO_ACCESS_CONTROL"))
         gives(f"a user whom {named} doesn't name", (True, nobody), lambda: _user(opened.gained[0]))
-    gives("a comparison as a tuple", True, lambda: Comparison((), ()) == ((), ()))
+    opened = READERS.compare(Descriptor.from_sddl("O:BAG:SYD:P(A;;FR;;;BU)(A;OIIO;0x1;;;WD)"))
+    shown = ("new objects: gained 0x1 by S-1-1-0", "inheritance: is protected, was not")
+    gives("what is made in it", (True, "\n".join(shown), (), ()), lambda: (bool(opened), str(opened), *opened[:2]))
+    gives("what that is", ("new objects", "gained"), lambda: (opened.below[0].of, opened.below[0].kind))
+    gives("protection", "inheritance: is protected, was not", lambda: opened.inheritance)
+    gives("a comparison as a tuple", True, lambda: Comparison((), ()) == ((), (), (), ""))
     wide, state = (0, 0, 0, 0x200000), [USERS, (USERS, 0x1)]
     asks: List[Tuple[str, Callable[..., Any]]] = [
         ("who", lambda **words: READERS.who("FR", **words)),
@@ -365,7 +370,9 @@ def reviews() -> None:
         store.set_dacl("/", Descriptor.from_sddl("D:(A;OICI;0x3;;;BU)"))
         store.move("/a", "/b")
         gained, lost = "gained 0x2 by S-1-5-32-545", "lost 0x120088 by S-1-5-32-545"
-        lines = ["/ " + gained, "/ " + lost, "moved /a /b", "/b " + gained, "/b " + lost, "gone /a"]
+        whose = ("", "new objects: ", "new containers: ")
+        root = [f"/ {each}{change}" for each in whose for change in (gained, lost)]
+        lines = [*root, "moved /a /b", "/b " + gained, "/b " + lost, "gone /a"]
         gives("lines", lines, lambda: "\n".join(map(str, store.review())).split("\n"))
         moved = Reviewed("moved", "/b", "/a", 0x2, 0x120088, (gained, lost))
         gives("nodes", [moved, Reviewed("gone", "/a", None, 0, 0, ())], lambda: list(store.review())[1:])

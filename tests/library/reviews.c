@@ -27,9 +27,26 @@ static const step inherited[] = {
     PUBLISH,
     REVIEW(""),
     { HUDARIN_EDIT_SET_DACL, "/", "D:(A;OICI;FA;;;BU)", NULL },
-    REVIEW("/ gained 0xd0176 by S-1-5-32-545\n/a gained 0xd0176 by S-1-5-32-545\n/a/x gained 0xd0176 by S-1-5-32-545\n"),
+    REVIEW("/ gained 0xd0176 by S-1-5-32-545\n/ new objects: gained 0xd0176 by S-1-5-32-545\n"
+           "/ new containers: gained 0xd0176 by S-1-5-32-545\n/a gained 0xd0176 by S-1-5-32-545\n"
+           "/a new objects: gained 0xd0176 by S-1-5-32-545\n/a new containers: gained 0xd0176 by S-1-5-32-545\n"
+           "/a/x gained 0xd0176 by S-1-5-32-545\n"),
     PUBLISH,
     REVIEW(""),
+    END,
+};
+
+/* Entries for children alone, and protection: the nodes themselves grant the same. */
+static const step below[] = {
+    { HUDARIN_EDIT_ADD_CONTAINER, "/a", NODE "P(A;;FR;;;BU)", NULL },
+    { HUDARIN_EDIT_ADD_OBJECT, "/b", NODE "P(A;;FR;;;BU)", NULL },
+    PUBLISH,
+    { HUDARIN_EDIT_SET_DACL, "/a", "D:P(A;;FR;;;BU)(A;OICIIO;FA;;;WD)", NULL },
+    { HUDARIN_EDIT_SET_DACL, "/b", "D:P(A;;FR;;;BU)(A;OICIIO;FA;;;WD)", NULL },
+    REVIEW("/a new objects: gained 0x1f01ff by S-1-1-0\n/a new containers: gained 0x1f01ff by S-1-1-0\n"),
+    PUBLISH,
+    { HUDARIN_EDIT_SET_DACL, "/b", "D:(A;;FR;;;BU)", NULL },
+    REVIEW("/b inheritance: was protected, is not\n"),
     END,
 };
 
@@ -40,7 +57,8 @@ static const step moved[] = {
     { HUDARIN_EDIT_ADD_CONTAINER, "/c", NODE, NULL },
     PUBLISH,
     { HUDARIN_EDIT_MOVE, "/a/b", "/c/d", NULL },
-    REVIEW("moved /a/b /c/d\n/c/d lost 0x120116 by S-1-5-32-546\nmoved /a/b/x /c/d/x\n"
+    REVIEW("moved /a/b /c/d\n/c/d lost 0x120116 by S-1-5-32-546\n/c/d new objects: lost 0x120116 by S-1-5-32-546\n"
+           "/c/d new containers: lost 0x120116 by S-1-5-32-546\nmoved /a/b/x /c/d/x\n"
            "/c/d/x lost 0x120116 by S-1-5-32-546\ngone /a/b\ngone /a/b/x\n"),
     { HUDARIN_EDIT_MOVE, "/c", "/e", NULL },
     { HUDARIN_EDIT_ADD_OBJECT, "/e/d/y", NODE, NULL },
@@ -139,6 +157,7 @@ static void reviews(hudarin_store *store, const char *wanted)
         HOLDS(review.lost == bits_of(room + lines, (size_t)review.written.length - lines, "lost "));
         HOLDS((review.what == HUDARIN_REVIEW_MOVED) == (review.before > 0));
         HOLDS(review.what != HUDARIN_REVIEW_SAME || review.written.length == review.path);
+        HOLDS(review.what != HUDARIN_REVIEW_CHANGED || review.written.length > review.path);
         length += add_lines(text + length, &review, room);
     }
     HOLDS(strcmp(text, wanted) == 0);
@@ -208,6 +227,7 @@ int main(void)
     script(first_root, inherited);
     script(first_root, moved);
     script(empty_root, exchanged);
+    script(empty_root, below);
     reverts();
     kinds();
     HOLDS(taken == 0 && refusals > 0);

@@ -92,8 +92,9 @@ class Analysis(rig.Case):
             self.assertEqual(client.who("/", "0"), [])
             self.assertEqual(client.compare("/", "O:BAG:SYD:(A;OICI;FR;;;BU)"), [])
             client.edit("move", "/a b/nonode", "/x")
-            client.edit("dacl", "/a b", "D:(A;;0x2;;;BU)")
-            changes = ["/a%20b gained 0x2 by S-1-5-32-545", "moved /a%20b/nonode /x", "gone /a%20b/nonode"]
+            client.edit("dacl", "/a b", "D:(A;OI;0x2;;;BU)")
+            changes = ["/a%20b gained 0x2 by S-1-5-32-545", "/a%20b new objects: gained 0x2 by S-1-5-32-545",
+                       "moved /a%20b/nonode /x", "gone /a%20b/nonode"]
             self.assertEqual(client.review(), [*changes, "reviewed 2 4"])
             self.kill()
             self.start()
@@ -104,8 +105,9 @@ class Analysis(rig.Case):
                 self.assertEqual(await client.review("/x"), ["moved /a%20b/nonode /x", "reviewed 2 4"])
                 self.assertEqual(await client.find("/", rig.USER, "FW", ["BU"]), ["/a b/nonode"])
                 self.assertEqual(await client.who("/a b", "0x1"), ["0x1 to S-1-5-32-545"])
+                whose = ("", "new objects: ", "new containers: ")
                 self.assertEqual(await client.compare("/a b", "O:BAG:SYD:"),
-                                 ["lost 0x120089 by S-1-5-32-545"])
+                                 [f"{each}lost 0x120089 by S-1-5-32-545" for each in whose])
 
         asyncio.run(asked())
 

@@ -209,11 +209,11 @@ class Http(rig.Case):
                          ["0x120089 to S-1-5-32-545", "0x20000 to S-1-5-32-544 as the owner"])
         self.assertEqual(len(self.ask("/v1/who", {"path": "/d"})[1]["accesses"]), 3)
         self.assertEqual(self.ask("/v1/who", {"path": "/d", "mask": "0"})[1]["accesses"], [])
-        change = {"path": "/", "descriptor": "O:BAG:SYD:(A;;FA;;;BU)"}
-        self.assertEqual(self.ask("/v1/compare", change)[1]["changes"], ["gained 0xd0176 by S-1-5-32-545"])
-        self.assertEqual(self.ask("/v1/compare", change | {"groups": ["BU=deny"]})[1]["changes"],
-                         ["gained 0xd0176 by S-1-5-32-545"])
-        self.assertEqual(self.ask("/v1/compare", change | {"descriptor": "O:BAD:(A;;FR;;;BU)"})[1]["changes"], [])
+        change = {"path": "/", "descriptor": "O:BAG:SYD:(A;OICI;FA;;;BU)"}
+        changes = [f"{whose}gained 0xd0176 by S-1-5-32-545" for whose in ("", "new objects: ", "new containers: ")]
+        self.assertEqual(self.ask("/v1/compare", change)[1]["changes"], changes)
+        self.assertEqual(self.ask("/v1/compare", change | {"groups": ["BU=deny"]})[1]["changes"], changes)
+        self.assertEqual(self.ask("/v1/compare", change | {"descriptor": "O:BAD:(A;OICI;FR;;;BU)"})[1]["changes"], [])
 
     def test_faults(self) -> None:
         self.start()

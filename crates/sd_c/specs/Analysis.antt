@@ -1,6 +1,6 @@
 -- What `hudarin_who` and `hudarin_compare` return: who is granted rights, and what a change of a descriptor grants and
 -- takes away, of all tokens that have a base.
-use Rattle.std.specs.Prelude.{◌≡◌, ◌⊎◌, ◌<◌, ℕ, List, [], length, Result, Ok, Err, IsOk}
+use Rattle.std.specs.Prelude.{◌≡◌, ◌⊎◌, ◌<◌, ℕ, List, [], ◌∷◌, ◌++◌, length, codes, Result, Ok, Err, IsOk}
 use Rattle.sd_sid.specs.Mapping.{MappingValue}
 use Rattle.sd_sid.specs.Mask.{mask_of}
 use Rattle.sd_sid.specs.Sid.{SidValue}
@@ -8,11 +8,15 @@ use Rattle.sd_acl.specs.Descriptor.{DescriptorValue}
 use Rattle.sd_check.specs.Check.{dacl_entries}
 use Rattle.sd_check.specs.declared.token.GroupState.{GroupState}
 use Rattle.sd_analysis.specs.Compare.{AreGains, is_reported}
+use Rattle.sd_analysis.specs.Descendants.{AreDescendantChanges}
 use Rattle.sd_analysis.specs.Who.{AllBeyond, HasEachOnce, IsMost, IsWho}
 use Rattle.sd_analysis.specs.declared.compare_report.Change.{Change}
+use Rattle.sd_analysis.specs.declared.descendants_compare.DescendantChange.{DescendantChange}
 use Rattle.sd_analysis.specs.declared.who_has.Access.{Access}
-use Rattle.sd_answer.specs.Parts.{parts_in}
-use Rattle.sd_answer.specs.Compare.{compare_text}
+use Rattle.sd_answer.specs.Compare.{gains_and_losses}
+use Rattle.sd_answer.specs.Descendants.{descendants_text, inheritance_text}
+use Rattle.sd_answer.specs.Parts.{entries_in, parts_in}
+use Rattle.sd_answer.specs.VerdictLines.{line}
 use Rattle.sd_answer.specs.Who.{rights_asked, who_text}
 use Rattle.sd_answer.specs.declared.verdict_lines.Spelling.TheVariants.{Number}
 use Rattle.sd_c.specs.declared.analysis.CompareAnswer.{CompareAnswer}
@@ -106,15 +110,24 @@ AnswersWho kept groups states mapping asked old new answer =
 abbrev pub bits_of : List Change → ℕ
 bits_of changes = mask_of (is_reported changes) 32
 
--- the lines of the changes that tokens with the base gain and lose where the new descriptor takes the place of the old
--- one; none where both are the same to a check. The bits that some token gains, and those that some token loses
+-- `same` where there is no line
+abbrev pub lines_or_same : List ℕ → List ℕ
+lines_or_same [] = line (codes "same")
+lines_or_same (b ∷ bs) = b ∷ bs
+
+-- the lines of what tokens with the base gain and lose where the new descriptor takes the place of the old one, of the
+-- object itself, none where both are the same to a check, and of what is made in it, if it is a container; and whether
+-- its list is protected from inheritance where it was not. The bits that some token gains of the object itself, and
+-- those that some token loses
 abbrev pub IsCompareText : DescriptorValue → DescriptorValue → BaseValue → List ℕ → ℕ → ℕ → Type 0
 IsCompareText old new base printed gained_bits lost_bits =
-    (gained lost : List Change)
+    (gained lost : List Change) × (below : List DescendantChange)
     × AreGains base.mapping base.groups (parts_in old) (parts_in new) gained
     × AreGains base.mapping base.groups (parts_in new) (parts_in old) lost
     × (parts_in old ≡ parts_in new → (gained ≡ []) × (lost ≡ []))
-    × (printed ≡ compare_text Number (parts_in old) (parts_in new) gained lost)
+    × AreDescendantChanges base.mapping base.groups (entries_in old.dacl) (entries_in new.dacl) below
+    × (printed ≡ lines_or_same (gains_and_losses Number [] (parts_in old) (parts_in new) gained lost
+    ++ descendants_text Number [] below ++ inheritance_text old.protected new.protected))
     × (gained_bits ≡ bits_of gained) × (lost_bits ≡ bits_of lost)
 
 abbrev pub IsCompareOf :

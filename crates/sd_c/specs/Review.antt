@@ -1,22 +1,18 @@
 -- What `hudarin_store_review` returns: what a publish would change, one node at a time, for all tokens.
-use Rattle.std.specs.Prelude.{◌≡◌, ◌⊎◌, ℕ, ◌-◌, ◌==◌, ◌&&◌, List, [], ◌++◌, length, Option, Some, None, IsSome}
+use Rattle.std.specs.Prelude.{◌≡◌, ◌⊎◌, ℕ, ◌-◌, ◌==◌, List, [], ◌++◌, length, Option, Some, None, IsSome}
 use Rattle.std.specs.Prelude.{if◌then◌else◌, is_some, slice_get, string_bytes}
 use Rattle.std.specs.FinMap.{entries}
-use Rattle.sd_sid.specs.Mapping.{MappingValue}
-use Rattle.sd_acl.specs.Descriptor.{DescriptorValue}
 use Rattle.sd_path.specs.Names.{Names}
 use Rattle.sd_path.specs.PathText.{text_of}
-use Rattle.sd_edit.specs.Answers.{descriptor_at, kind_at}
+use Rattle.sd_edit.specs.Answers.{kind_at}
 use Rattle.sd_edit.specs.declared.node.NodeRow.{NodeRow}
 use Rattle.sd_versions.specs.Versions.{VersionsValue}
-use Rattle.sd_analysis.specs.Compare.{AreGains}
-use Rattle.sd_analysis.specs.Sufficient.{Parts}
-use Rattle.sd_analysis.specs.declared.compare_report.Change.{Change}
-use Rattle.sd_answer.specs.Parts.{parts_in}
+use Rattle.sd_review.specs.Compared.{IsComparedAt}
+use Rattle.sd_review.specs.Lines.{lines}
 use Rattle.sd_review.specs.Review.{Trees, former, trees_after}
+use Rattle.sd_review.specs.declared.compared.Compared.{Compared}
 use Rattle.sd_review.specs.declared.review.Former.{Former}
 use Rattle.sd_review.specs.declared.review.Former.TheVariants.{Same, Moved, New}
-use Rattle.sd_answer.specs.Compare.{gains_and_losses}
 use Rattle.sd_answer.specs.declared.verdict_lines.Spelling.TheVariants.{Number}
 use Rattle.sd_c.specs.declared.handle.Handle.{Handle}
 use Rattle.sd_c.specs.declared.handle.kept.Kept.{Kept}
@@ -32,32 +28,25 @@ use Rattle.sd_c.specs.Written.{Writes}
 
 -- ---- what tokens gain and lose
 
--- the lines and the bits of what tokens gain and lose where the new descriptor takes the place of the old one; none
--- where both are the same to a check. The base is empty, so these are all tokens
-abbrev pub AreChanges : MappingValue → Parts → Parts → Changes → Type 0
-AreChanges g old new changes =
-    (gained lost : List Change) × AreGains g [] old new gained × AreGains g [] new old lost
-    × (old ≡ new → (gained ≡ []) × (lost ≡ []))
-    × (string_bytes changes.lines ≡ gains_and_losses Number [] old new gained lost)
-    × (changes.gained ≡ bits_of gained) × (changes.lost ≡ bits_of lost)
-
 abbrev pub AreNone : Changes → Type 0
 AreNone changes = (string_bytes changes.lines ≡ []) × (changes.gained ≡ 0) × (changes.lost ≡ 0)
 
-abbrev pub AreChangesOf : MappingValue → Option DescriptorValue → Option DescriptorValue → Changes → Type 0
-AreChangesOf g (Some old) (Some new) changes = AreChanges g (parts_in old) (parts_in new) changes
-AreChangesOf g _ _ changes = AreNone changes
+-- the lines of a comparison, and the bits of its node; none where one of the nodes isn't there
+abbrev pub AreChangesOf : Option Compared → Changes → Type 0
+AreChangesOf None changes = AreNone changes
+AreChangesOf (Some c) changes =
+    (string_bytes changes.lines ≡ lines Number [] c) × (changes.gained ≡ bits_of c.comparison.gained.items)
+    × (changes.lost ≡ bits_of c.comparison.lost.items)
 
--- of the node at a path, beside the node at a path of the published tree
+-- of the node at a path, beside the node at a path of the published tree, for all tokens
 abbrev pub AreChangesAt : Trees → Names → Names → Changes → Type 0
-AreChangesAt ts before path changes =
-    AreChangesOf ts.mapping (descriptor_at ts.mapping ts.old before) (descriptor_at ts.mapping ts.new path) changes
+AreChangesAt ts before path changes = (c : Option Compared) × IsComparedAt ts before path c × AreChangesOf c changes
 
 -- ---- a node
 
--- 1 where no token gains or loses a right, else 2
+-- 1 where there is no line: no token gains or loses a right, of the node or of what is made in it. Else 2
 abbrev pub same_or_changed : Changes → ℕ
-same_or_changed changes = if changes.gained == 0 && changes.lost == 0 then 1 else 2
+same_or_changed changes = if length (string_bytes changes.lines) == 0 then 1 else 2
 
 -- a node of the store's tree: 1 or 2 where a published node is at its path, 4 with the path that it was moved from,
 -- else 3

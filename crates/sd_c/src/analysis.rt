@@ -3,7 +3,8 @@
 ghost use Rattle.std.specs.Prelude.{◌≡◌, IfErr, IfOk, string_bytes};
 ghost use Rattle.sd_acl.specs.Descriptor.{descriptor_of};
 ghost use Rattle.sd_c.specs.Analysis.{AnswersCompare, AnswersWho, IsCompareOf, IsCompareText, IsWhoOf, IsWhoText};
-ghost use Rattle.sd_c.specs.Analysis.{Stops, bits_of, both_kept, descriptors_in, kept_in, no_accesses, no_comparison};
+ghost use Rattle.sd_c.specs.Analysis.{Stops, bits_of, both_kept, descriptors_in, kept_in, lines_or_same, no_accesses};
+ghost use Rattle.sd_c.specs.Analysis.{no_comparison};
 ghost use Rattle.sd_c.specs.Kept.{Stays, descriptor_in};
 
 use crate::call_answer::{CheckAnswer, Written, not_read, unwritten, why_not, write};
@@ -12,8 +13,11 @@ use crate::mapping::Mapping;
 use crate::request::{groups_of, mapping_of};
 use crate::stop::{NotRead, Stop};
 use sd_acl::Descriptor;
-use sd_analysis::{Base, Change, compare, who};
-use sd_answer::{Spelling, compare_text, dacl_ref, descriptor_ref, rights_asked, who_text};
+use sd_analysis::{Base, Change, compare, compare_descendants, who};
+use sd_answer::{
+    Spelling, dacl_ref, descendants_text, descriptor_ref, entries_in, gains_and_losses,
+    inheritance_text, rights_asked, who_text,
+};
 use sd_check::GroupState;
 use sd_sid::{GenericMapping, Mask, Sid};
 use std::alloc::{AllocError, Global};
@@ -34,9 +38,9 @@ pub struct CompareAnswer {
     pub written: Written,
     /// The number of the invalid argument, from 1; 0 where none is.
     pub argument: u32,
-    /// The bits that some token gains; 0 without a comparison.
+    /// The bits that some token gains of the object itself; 0 without a comparison.
     pub gained: u32,
-    /// The bits that some token loses; 0 without a comparison.
+    /// The bits that some token loses of the object itself; 0 without a comparison.
     pub lost: u32,
 }
 
@@ -73,8 +77,9 @@ pub extern "C" fn hudarin_who(
 }
 
 /// Writes what tokens that have the groups gain and lose where the new descriptor takes the place of the old one
-/// ([MS-DTYP] 2.5.3.2), into the buffer: `same`, or a line for each token that shows it, as `gained 0x2 by
-/// S-1-5-32-545`. Refused as `hudarin_who` is.
+/// ([MS-DTYP] 2.5.3.2), also of what is made in it if it is a container (2.5.3.4), into the buffer: `same`, or a line
+/// for each token that shows it, as `gained 0x2 by S-1-5-32-545` and `new objects: lost 0x1 by everyone`. Refused as
+/// `hudarin_who` is.
 #[unsafe(no_mangle)]
 #[tactic(auto, unfolding(crate::specs::Analysis::both_kept))]
 pub extern "C" fn hudarin_compare(
@@ -215,13 +220,32 @@ fn comparison_of(
     ensures { IfOk result (λ made. IsCompareText (descriptor_of old.now) (descriptor_of new.now)
         (record { groups = groups.now; mapping = mapping.now }) (string_bytes made.text) made.gained made.lost) }
 {
-    let (old, new, base) = (descriptor_ref(old), descriptor_ref(new), Base { groups });
+    let (first, second, base) = (
+        entries_in(&old.dacl),
+        entries_in(&new.dacl),
+        Base { groups },
+    );
+    let changes = compare_descendants(alloc, first, second, mapping, &base)?;
+    let below = descendants_text(alloc, Spelling::Number, "", &changes)?;
+    let inheritance = inheritance_text(old.protected, new.protected);
+    let (old, new) = (descriptor_ref(old), descriptor_ref(new));
     let comparison = compare(alloc, &old, &new, mapping, &base)?;
+    let own = gains_and_losses(alloc, Spelling::Number, "", &old, &new, &comparison)?;
+    let lines = format!(in alloc; "{own}{below}{inheritance}")?;
     Ok(Compared {
-        text: compare_text(alloc, Spelling::Number, &old, &new, &comparison)?,
+        text: lines_or_same(alloc, lines)?,
         gained: bits_of(&comparison.gained),
         lost: bits_of(&comparison.lost),
     })
+}
+
+fn lines_or_same(alloc: Global, lines: String) -> Result<String, AllocError>
+    ensures { IfOk result (λ text. string_bytes text ≡ lines_or_same (string_bytes lines)) }
+{
+    if lines.is_empty() {
+        return String::from_str(alloc, "same\n");
+    }
+    Ok(lines)
 }
 
 /// The bits of all changes.

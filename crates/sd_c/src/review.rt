@@ -1,12 +1,9 @@
 //! What a publish would change, one node at a time, for all tokens.
 
-ghost use Rattle.std.specs.Prelude.{◌≡◌, [], IfErr, IfOk, Option, Some, string_bytes};
+ghost use Rattle.std.specs.Prelude.{◌≡◌, [], IfErr, IfOk, Some, string_bytes};
 ghost use Rattle.std.specs.FinMap.{entries};
-ghost use Rattle.sd_acl.specs.Descriptor.{DescriptorValue};
 ghost use Rattle.sd_path.specs.PathText.{text_of};
-ghost use Rattle.sd_review.specs.Compared.{IsOfBoth};
 ghost use Rattle.sd_review.specs.Review.{trees_of};
-ghost use Rattle.sd_sid.specs.Mapping.{MappingValue};
 ghost use Rattle.sd_c.specs.Kept.{Stays};
 ghost use Rattle.sd_c.specs.Review.{AreChangesAt, AreChangesOf, AreNone, IsNoReviewAt, IsNodeReview, IsNotReviewed};
 ghost use Rattle.sd_c.specs.Review.{IsPublishedReview, IsReviewAt, IsReviewed, IsTold, Reviews, same_or_changed};
@@ -44,9 +41,9 @@ pub struct ReviewAnswer {
     pub written: Written,
     /// What happened to the node; 0 without one.
     pub what: u32,
-    /// The bits that some token gains.
+    /// The bits that some token gains of the node itself.
     pub gained: u32,
-    /// The bits that some token loses.
+    /// The bits that some token loses of the node itself.
     pub lost: u32,
     /// The number of bytes of the node's path, at the front of what is written.
     pub path: u64,
@@ -63,7 +60,7 @@ pub(crate) struct NodeReview {
     changes: Changes,
 }
 
-/// What tokens gain and lose: the lines of `compare`, and the bits.
+/// What tokens gain and lose: the lines of `compare`, and the bits of the node itself.
 #[derive(Drop)]
 pub(crate) struct Changes {
     lines: String,
@@ -208,7 +205,7 @@ fn same_review(alloc: Global, review: &Review<'_>, path: &Path) -> Result<NodeRe
 fn same_or_changed(changes: &Changes) -> u32
     ensures { result ≡ same_or_changed changes.now }
 {
-    if changes.gained.bits() == 0 && changes.lost.bits() == 0 {
+    if changes.lines.is_empty() {
         SAME
     } else {
         CHANGED
@@ -292,8 +289,7 @@ fn changes_at(
 }
 
 fn changes_of(alloc: Global, compared: &Compared) -> Result<Changes, AllocError>
-    ensures { (g : MappingValue) (x y : Option DescriptorValue) → IsOfBoth g x y (Some compared.now)
-        → IfOk result (AreChangesOf g x y) }
+    ensures { IfOk result (AreChangesOf (Some compared.now)) }
 {
     let lines = compared.lines(alloc, Spelling::Number, "")?;
     let gained = bits_of(&compared.comparison.gained);

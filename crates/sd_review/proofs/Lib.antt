@@ -1,4 +1,6 @@
+mod GrantedAlike
 mod NoGains
 pub mod OneStore
 mod Origins
 pub mod RightOnes
+pub mod Silence

@@ -1,14 +1,13 @@
--- A comparison of descriptors is right.
-use Rattle.std.proofs.Common.{◌≡◌, List, [], subst, sym}
+-- A comparison of a node is right.
+use Rattle.std.proofs.Common.{Bool, sym, subst}
 use Rattle.sd_sid.specs.Mapping.{MappingValue}
 use Rattle.sd_acl.specs.Descriptor.{descriptor_of}
-use Rattle.sd_analysis.specs.Compare.{AreGains}
-use Rattle.sd_analysis.specs.Sufficient.{Parts}
-use Rattle.sd_analysis.specs.declared.compare_report.Change.{Change}
-use Rattle.sd_review.specs.Compared.{IsOf, IsRight}
-use Rattle.sd_answer.specs.Parts.{parts_in}
+use Rattle.sd_review.specs.Compared.{IsOf, IsRight, ReviewParts, review_parts_in}
 use Rattle.sd_review.specs.declared.compared.Compared.{Compared}
 
-pub right_one : (g : MappingValue) (before after : Parts) (c : Compared) → IsOf g before after c → IsRight g c
-right_one g before after c of =
-    subst (λ (q : Parts). IsOf g (parts_in (descriptor_of c.before)) q c) (sym of.1) (subst (λ (p : Parts). IsOf g p after c) (sym of.0) of)
+pub right_one : (g : MappingValue) (is_container : Bool) (before after : ReviewParts) (c : Compared) → IsOf g is_container before after c → IsRight g c
+right_one g is_container before after c of =
+    let x = review_parts_in (descriptor_of c.before) in
+    let y = review_parts_in (descriptor_of c.after) in
+    subst (λ (b : Bool). IsOf g b x y c) (sym of.container)
+    (subst (λ (q : ReviewParts). IsOf g is_container x q c) (sym of.new) (subst (λ (p : ReviewParts). IsOf g is_container p after c) (sym of.old) of))

@@ -1,4 +1,5 @@
 pub mod Compared
+pub mod Laws
 pub mod Lines
 pub mod Origin
 pub mod Review

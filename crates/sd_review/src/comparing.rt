@@ -1,47 +1,56 @@
 //! What tokens gain and lose by a change of a descriptor.
-ghost use Rattle.std.specs.Prelude.{◌≡◌, [], IfOk, OnOk, Some, string_bytes, true};
+ghost use Rattle.std.specs.Prelude.{◌≡◌, [], IfOk, OnOk, Some, true};
 ghost use Rattle.std.specs.Option.{ForSome};
 ghost use Rattle.sd_acl.specs.Descriptor.{descriptor_of};
 ghost use Rattle.sd_analysis.specs.Compare.{AreGains};
-ghost use Rattle.sd_analysis.specs.Sufficient.{parts_of};
-ghost use Rattle.sd_answer.specs.Compare.{gains_and_losses};
 ghost use Rattle.sd_answer.specs.Parts.{parts_in};
-ghost use Rattle.sd_review.specs.Compared.{HasParts, IsOf, IsOfBoth, IsRight};
-ghost use Rattle.sd_review.specs.Lines.{lines};
+ghost use Rattle.sd_review.specs.Compared.{HasParts, IsOf, IsOfBoth, IsRight, review_parts_in};
 
+use crate::below::changes_below;
 use crate::compared::Compared;
-use crate::equality::is_alike;
+use crate::equality::{is_alike, is_same};
 use sd_acl::Descriptor;
-use sd_analysis::{Base, Comparison, DescriptorRef, compare};
-use sd_answer::{Spelling, descriptor_ref, gains_and_losses};
+use sd_analysis::{Base, Comparison, compare};
+use sd_answer::{descriptor_ref, entries_in};
 use sd_sid::GenericMapping;
 use std::alloc::{AllocError, Global};
 
-/// Leaves the comparison of these descriptors in `last`: nodes that share their lists before and after follow one
-/// another, so the last one often serves again.
+/// Leaves the comparison of these descriptors of a node in `last`: nodes that share their lists before and after follow
+/// one another, so the last one often serves again.
 pub(crate) fn compare_next(
     alloc: Global,
     last: &mut Option<Compared>,
     mapping: &GenericMapping,
+    is_container: bool,
     before: Descriptor,
     after: Descriptor,
 ) -> Result<(), AllocError>
     requires { ForSome last.old (IsRight mapping.now) }
-    ensures { OnOk result (IsOfBoth mapping.now (Some (descriptor_of before)) (Some (descriptor_of after)) last.new) }
+    ensures { OnOk result (IsOfBoth mapping.now is_container (Some (descriptor_of before)) (Some (descriptor_of after))
+        last.new) }
 {
-    if !is_of(last, &before, &after) {
-        *last = Some(compared(alloc, mapping, before, after)?);
+    if !is_of(last, is_container, &before, &after) {
+        *last = Some(compared(alloc, mapping, is_container, before, after)?);
     }
     Ok(())
 }
 
-/// Whether the comparison is of descriptors that are the same to a check.
-fn is_of(last: &Option<Compared>, before: &Descriptor, after: &Descriptor) -> bool
-    ensures { result ≡ true → HasParts (parts_in (descriptor_of before.now)) (parts_in (descriptor_of after.now))
-        last.now }
+/// Whether the comparison is of a node of that kind, and of descriptors that are the same to a review.
+fn is_of(
+    last: &Option<Compared>,
+    is_container: bool,
+    before: &Descriptor,
+    after: &Descriptor,
+) -> bool
+    ensures { result ≡ true → HasParts is_container (review_parts_in (descriptor_of before.now))
+        (review_parts_in (descriptor_of after.now)) last.now }
 {
     match last {
-        Some(compared) => is_alike(&compared.before, before) && is_alike(&compared.after, after),
+        Some(compared) => {
+            compared.is_container == is_container
+                && is_same(&compared.before, before)
+                && is_same(&compared.after, after)
+        }
         None => false,
     }
 }
@@ -50,16 +59,22 @@ fn is_of(last: &Option<Compared>, before: &Descriptor, after: &Descriptor) -> bo
 fn compared(
     alloc: Global,
     mapping: &GenericMapping,
+    is_container: bool,
     before: Descriptor,
     after: Descriptor,
 ) -> Result<Compared, AllocError>
-    ensures { IfOk result (IsOf mapping.now (parts_in (descriptor_of before)) (parts_in (descriptor_of after))) }
+    ensures { IfOk result (IsOf mapping.now is_container (review_parts_in (descriptor_of before))
+        (review_parts_in (descriptor_of after))) }
 {
     let comparison = comparison_of(alloc, mapping, &before, &after)?;
+    let (old, new) = (entries_in(&before.dacl), entries_in(&after.dacl));
+    let below = changes_below(alloc, mapping, is_container, old, new)?;
     Ok(Compared {
         before,
         after,
+        is_container,
         comparison,
+        below,
     })
 }
 
@@ -87,31 +102,4 @@ fn comparison_of(
     let old = descriptor_ref(before);
     let new = descriptor_ref(after);
     compare(alloc, &old, &new, mapping, &base)
-}
-
-impl Compared {
-    /// The lines of `compare` ([MS-DTYP] 2.5.3.2), masks in this spelling, each after a head: none where no token gains
-    /// or loses a right. Fails only out of memory.
-    pub fn lines(&self, alloc: Global, spelling: Spelling, head: &str) -> Result<String, AllocError>
-        ensures { IfOk result (λ text. string_bytes text ≡ lines spelling head.now self.now) }
-    {
-        let old = descriptor_ref(&self.before);
-        let new = descriptor_ref(&self.after);
-        let text = lines_between(alloc, spelling, head, &old, &new, &self.comparison)?;
-        Ok(text)
-    }
-}
-
-fn lines_between<'x>(
-    alloc: Global,
-    spelling: Spelling,
-    head: &str,
-    old: &'x DescriptorRef<'x>,
-    new: &'x DescriptorRef<'x>,
-    comparison: &Comparison,
-) -> Result<String, AllocError>
-    ensures { IfOk result (λ text. string_bytes text ≡ gains_and_losses spelling head.now (parts_of old.now)
-        (parts_of new.now) comparison.now.gained.items comparison.now.lost.items) }
-{
-    gains_and_losses(alloc, spelling, head, old, new, comparison)
 }

@@ -1,12 +1,20 @@
-//! Whether two descriptors are the same to a check.
+//! Whether two descriptors are the same to a review.
 ghost use Rattle.std.specs.Prelude.{◌≡◌, true};
 ghost use Rattle.sd_acl.specs.Descriptor.{descriptor_of};
 ghost use Rattle.sd_answer.specs.Parts.{parts_in};
 ghost use Rattle.sd_check.specs.Check.{dacl_entries};
+ghost use Rattle.sd_review.specs.Compared.{review_parts_in};
 
 use sd_acl::{Dacl, Descriptor};
 use sd_sid::Sid;
 use sd_tree::same_entries;
+
+/// Whether they are alike, and both lists or none protected from inheritance ([MS-DTYP] 2.5.3.4).
+pub(crate) fn is_same(one: &Descriptor, other: &Descriptor) -> bool
+    ensures { result ≡ true → review_parts_in (descriptor_of one.now) ≡ review_parts_in (descriptor_of other.now) }
+{
+    is_alike(one, other) && one.protected == other.protected
+}
 
 /// Whether the owner and the entries are the same, which is all that a check looks at ([MS-DTYP] 2.5.3.2).
 pub(crate) fn is_alike(one: &Descriptor, other: &Descriptor) -> bool

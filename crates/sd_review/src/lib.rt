@@ -1,7 +1,8 @@
 //! What the pending edits of a store change, node by node, for all tokens.
 //!
 //! A node of the tree with all edits is compared with the one at its path in the published tree, or with the one that
-//! the edits moved there. Scripts and the library for C return the same of each node.
+//! the edits moved there; of a container also what is made in it. Scripts and the library for C return the same of each
+//! node.
 //!
 //! ```text
 //! let review = Review::of(published, draft);
@@ -18,13 +19,17 @@
 //! ```
 #![tactic(auto)]
 
+mod below;
 mod compared;
 mod comparing;
 mod equality;
+mod laws;
+mod lines;
 mod origin;
 mod pending;
 mod review;
 
 pub use compared::Compared;
+pub use laws::silent_changes_grant_the_same;
 pub use pending::Review;
 pub use review::Former;

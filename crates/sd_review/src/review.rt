@@ -8,6 +8,7 @@ use crate::compared::Compared;
 use crate::comparing::compare_next;
 use crate::origin::origin;
 use crate::pending::Review;
+use sd_inheritance::NodeKind;
 use sd_path::Path;
 use sd_tree::Tree;
 use std::alloc::{AllocError, Global};
@@ -54,8 +55,9 @@ impl<'a> Review<'a> {
     }
 
     /// Leaves in `last` what tokens gain and lose where the node of a path takes the place of the one of a path of the
-    /// old tree ([MS-DTYP] 2.5.3.2); nothing where one of them isn't there. What `last` has, a comparison by the
-    /// trees' mapping, serves again for the same owners and lists. Fails only out of memory.
+    /// old tree ([MS-DTYP] 2.5.3.2), and of what is made in it if it is a container (2.5.3.4); nothing where one of
+    /// them isn't there. What `last` has, a comparison by the trees' mapping, serves again for the same owners, lists
+    /// and kind. Fails only out of memory.
     pub fn compare(
         &self,
         alloc: Global,
@@ -73,6 +75,7 @@ impl<'a> Review<'a> {
             *last = None;
             return Ok(());
         };
-        compare_next(alloc, last, self.old.mapping(), old, new)
+        let is_container = matches!(self.new.lookup(path), Some(NodeKind::Container));
+        compare_next(alloc, last, self.old.mapping(), is_container, old, new)
     }
 }

@@ -1,7 +1,6 @@
 -- A review without lines: no check is answered otherwise.
 use Rattle.std.proofs.Common.{◌≡◌, ℕ, Bool, true, false, List, [], ◌∷◌, ◌++◌, length, Option, Some, None, inl, inr, refl, sym, ◌∙◌, ap, subst, arith}
 use Rattle.std.specs.Prelude.{is_some, codes}
-use Rattle.std.specs.Bool.{one_answer}
 use Rattle.std.specs.FinMap.{entries, find, get-entries}
 use Rattle.std.specs.List.{flat_map}
 use Rattle.std.specs.Ordering.{eq_by_cmp}
@@ -11,7 +10,7 @@ use Rattle.sd_sid.specs.Mapping.{MappingValue}
 use Rattle.sd_sid.specs.Mask.{holds}
 use Rattle.sd_acl.specs.Descriptor.{DescriptorValue}
 use Rattle.sd_acl.specs.declared.ace.Ace.{Ace}
-use Rattle.sd_check.specs.Check.{is_granted, judged, most, verdict}
+use Rattle.sd_check.specs.Check.{dacl_entries, is_granted, judged, most, verdict}
 use Rattle.sd_check.specs.Token.{TokenValue}
 use Rattle.sd_check.specs.declared.verdict.Verdict.{Verdict as CheckVerdict}
 use Rattle.sd_check.proofs.LawProofs.{one_test}
@@ -23,18 +22,24 @@ use Rattle.sd_edit.specs.declared.node.NodeRow.{NodeRow}
 use Rattle.sd_edit.specs.declared.reply.CheckReply.TheVariants.{Verdict}
 use Rattle.sd_edit.proofs.Rows.{one_path}
 use Rattle.sd_edit.specs.Machine.{accepted}
-use Rattle.sd_analysis.specs.Base.{HasBase}
-use Rattle.sd_analysis.specs.Compare.{AreGains}
-use Rattle.sd_analysis.specs.Sufficient.{Parts}
+use Rattle.sd_inheritance.specs.declared.kind.NodeKind.TheVariants.{Container}
+use Rattle.sd_analysis.specs.Descendants.{descendant_parts, list_of}
+use Rattle.sd_analysis.specs.Sufficient.{Parts, entries_or_none}
+use Rattle.sd_analysis.specs.declared.descendants.Descendant.{Descendant}
 use Rattle.sd_answer.specs.declared.verdict_lines.Spelling.{Spelling}
-use Rattle.sd_answer.proofs.NoLines.{no_gain_no_loss, parts_empty}
-use Rattle.sd_script.specs.Laws.{SilentNodeIsUnchanged, SilentReviewChangesNothing}
+use Rattle.sd_answer.proofs.NoLines.{parts_empty}
+use Rattle.sd_script.specs.Laws.{SilentContainerPassesDownTheSame, SilentNodeIsUnchanged, SilentReviewChangesNothing, made_in}
 use Rattle.sd_script.specs.Paths.{path_word}
 use Rattle.sd_answer.specs.Parts.{parts_in}
+use Rattle.sd_review.proofs.Silence.{silent_container, silent_node}
+use Rattle.sd_review.specs.Compared.{IsOfBoth, review_parts_in}
+use Rattle.sd_review.specs.Laws.{AreGrantedAlike}
+use Rattle.sd_review.specs.Lines.{lines_of}
 use Rattle.sd_review.specs.Review.{Trees, former, stands_in}
+use Rattle.sd_review.specs.declared.compared.Compared.{Compared}
 use Rattle.sd_review.specs.declared.review.Former.{Former}
 use Rattle.sd_review.specs.declared.review.Former.TheVariants.{Same, Moved, New}
-use Rattle.sd_script.specs.Review.{ArePrinted, IsChangeText, IsCompared, IsNodeReview, IsNodeText, IsReviewOf, gone_line, has_no_words, reviewed_line, trees_in}
+use Rattle.sd_script.specs.Review.{ArePrinted, IsCompared, IsNodeReview, IsNodeText, IsReviewOf, gone_line, has_no_words, reviewed_line, trees_in}
 use Rattle.sd_script.specs.declared.script_options.Notation.{Notation}
 
 -- ---- verdicts
@@ -45,13 +50,6 @@ judged_alike g p q all other r plain same = rw (plain, one_test p q same) refl
 
 -- ---- one comparison
 
--- without gains and losses a bit is granted by both or by neither
-grants_alike : (g : MappingValue) (old new : Parts) → AreGains g [] old new [] → AreGains g [] new old [] → (t : TokenValue) (b : ℕ)
-    → is_granted old.owner old.dacl g t b ≡ is_granted new.owner new.dacl g t b
-grants_alike g old new gained lost t b =
-    let base : HasBase [] t = λ kind s stands. absurd (cc (stands)) in
-    one_answer {P = is_granted new.owner new.dacl g t b ≡ true} _ _ (lost.complete t b base refl, gained.complete t b base refl) (λ is. is, λ is. is)
-
 abbrev verdict_by : MappingValue → TokenValue → ℕ → Parts → CheckVerdict
 verdict_by g token asked p = verdict p.owner p.dacl g token asked
 
@@ -61,14 +59,15 @@ verdict_there : (g : MappingValue) (token : TokenValue) (asked : ℕ) (row : Nod
 verdict_there g token asked row None = refl
 verdict_there g token asked row (Some es) = refl
 
-silent_parts : (spelling : Spelling) (g : MappingValue) (head : List ℕ) (old new : DescriptorValue) (token : TokenValue) (asked : ℕ) → holds asked 25 ≡ false
-    → IsChangeText spelling g head (Some old) (Some new) [] → verdict_by g token asked (parts_in old) ≡ verdict_by g token asked (parts_in new)
-silent_parts spelling g head old new token asked plain (gained, lost, gains, losses, is) =
+silent_parts : (spelling : Spelling) (g : MappingValue) (head : List ℕ) (k : Bool) (old new : DescriptorValue) (c : Option Compared) (token : TokenValue) (asked : ℕ)
+    → holds asked 25 ≡ false → IsOfBoth g k (Some old) (Some new) c → [] ≡ lines_of spelling head c
+    → verdict_by g token asked (parts_in old) ≡ verdict_by g token asked (parts_in new)
+silent_parts spelling g head k old new None token asked plain of is = absurd of
+silent_parts spelling g head k old new (Some c) token asked plain of is =
     let p = parts_in old in
     let q = parts_in new in
-    let none = no_gain_no_loss spelling head p q gained lost gains.some losses.some (sym is) in
     judged_alike g (is_granted p.owner p.dacl g token) (is_granted q.owner q.dacl g token) (most p.owner p.dacl g token) (most q.owner q.dacl g token) asked plain
-    (grants_alike g p q (rw none.0 at gains) (rw none.1 at losses) token)
+    (silent_node spelling head g k (review_parts_in old) (review_parts_in new) c of (sym is) token)
 
 -- ---- one node
 
@@ -87,11 +86,11 @@ Alike ts path token asked = reply_in ts.mapping ts.old path token asked ≡ repl
 compared_alike : (notation : Notation) (ts : Trees) (path : Names) (before : Option NodeRow) (s : NodeRow) (token : TokenValue) (asked : ℕ) → holds asked 25 ≡ false
     → row_at ts.old path ≡ before → is_some (kind_at ts.old path) ≡ true → row_at ts.new path ≡ Some s → IsCompared notation ts path path [] → Alike ts path token asked
 compared_alike notation ts path None s token asked plain old there new is = absurd (cc (rw old at there))
-compared_alike notation ts path (Some r) s token asked plain old there new is =
+compared_alike notation ts path (Some r) s token asked plain old there new (c, of, is) =
     let was = dacl_at ts.mapping ts.old path in
     let now = dacl_at ts.mapping ts.new path in
-    let change = rw (old, new) at is in
-    let same = silent_parts notation.spelling ts.mapping (path_word notation.paths path ++ codes " ") (descriptor_of_row r was) (descriptor_of_row s now) token asked plain change in
+    let change = rw (old, new) at of in
+    let same = silent_parts notation.spelling ts.mapping (path_word notation.paths path ++ codes " ") _ (descriptor_of_row r was) (descriptor_of_row s now) c token asked plain change is in
     rw (old, new) (ap Verdict (verdict_there ts.mapping token asked r was ∙ same ∙ sym (verdict_there ts.mapping token asked s now)))
 
 pub silent_node_is_unchanged : SilentNodeIsUnchanged
@@ -99,6 +98,35 @@ silent_node_is_unchanged notation ts top path row token asked is within there pl
     let text = rw within at is in
     let same = at_its_place notation ts path (former ts path) text in
     compared_alike notation ts path (row_at ts.old path) row token asked plain refl (was_there ts path same) there
+    (subst (λ before. IsNodeText notation ts path before []) same text)
+
+-- ---- what is made in a container
+
+row_entries : (row : NodeRow) (dacl : Option (List Ace)) → entries_or_none (dacl_entries (descriptor_of_row row dacl).dacl) ≡ entries_or_none dacl
+row_entries row None = refl
+row_entries row (Some es) = refl
+
+passed_down : (notation : Notation) (ts : Trees) (path : Names) (before : Option NodeRow) (s : NodeRow) (d : Descendant) → s.kind ≡ Container
+    → row_at ts.old path ≡ before → is_some (kind_at ts.old path) ≡ true → row_at ts.new path ≡ Some s → IsCompared notation ts path path []
+    → AreGrantedAlike ts.mapping (made_in ts.mapping ts.old path d) (made_in ts.mapping ts.new path d)
+passed_down notation ts path None s d kind old there new is = absurd (cc (rw old at there))
+passed_down notation ts path (Some r) s d kind old there new (None, of, is) = absurd (rw (old, new) at of)
+passed_down notation ts path (Some r) s d kind old there new (Some c, of, is) =
+    let g = ts.mapping in
+    let was = dacl_at g ts.old path in
+    let now = dacl_at g ts.new path in
+    let change = rw (old, new, kind) at of in
+    let same = silent_container notation.spelling (path_word notation.paths path ++ codes " ") g (review_parts_in (descriptor_of_row r was))
+    (review_parts_in (descriptor_of_row s now)) c d change (sym is) in
+    subst (λ (es : List Ace). AreGrantedAlike g (descendant_parts (list_of g d es)) (made_in g ts.new path d)) (row_entries r was)
+    (subst (λ (es : List Ace). AreGrantedAlike g (descendant_parts (list_of g d (entries_or_none (dacl_entries (descriptor_of_row r was).dacl)))) (descendant_parts (list_of g d es)))
+    (row_entries s now) same)
+
+pub silent_container_passes_down : SilentContainerPassesDownTheSame
+silent_container_passes_down notation ts top path row d is within there kind =
+    let text = rw within at is in
+    let same = at_its_place notation ts path (former ts path) text in
+    passed_down notation ts path (row_at ts.old path) row d kind refl (was_there ts path same) there
     (subst (λ before. IsNodeText notation ts path before []) same text)
 
 -- ---- all nodes
@@ -150,4 +178,4 @@ silent_review_changes_nothing notation m top path token asked is within plain =
     by_case notation (trees_in m) top path token asked within plain (length m.published) (length (accepted m))
     (stands_in (trees_in m) top) (has_no_words notation.paths (trees_in m)) is
 
-pub ruleset silence = (silent_node_is_unchanged, silent_review_changes_nothing)
+pub ruleset silence = (silent_node_is_unchanged, silent_container_passes_down, silent_review_changes_nothing)

@@ -12,10 +12,14 @@ use Rattle.sd_check.specs.Token.{TokenValue, a_group_stands_for, no_privileges, 
 use Rattle.sd_check.specs.declared.token.GroupState.{GroupState}
 use Rattle.sd_edit.specs.Answers.{answer, reply_in}
 use Rattle.sd_path.specs.Names.{Names, is_within}
-use Rattle.sd_edit.specs.Plain.{row_at}
+use Rattle.sd_edit.specs.Plain.{PlainTree, dacl_at, row_at}
 use Rattle.sd_edit.specs.declared.node.NodeRow.{NodeRow}
 use Rattle.sd_edit.specs.Machine.{Machine, accepted}
 use Rattle.sd_edit.specs.declared.request.Request.TheVariants.{Check}
+use Rattle.sd_inheritance.specs.declared.kind.NodeKind.TheVariants.{Container}
+use Rattle.sd_analysis.specs.Descendants.{descendant_parts, list_of}
+use Rattle.sd_analysis.specs.Sufficient.{Parts, entries_or_none}
+use Rattle.sd_analysis.specs.declared.descendants.Descendant.{Descendant}
 use Rattle.sd_answer.specs.VerdictLines.{line, spelled}
 use Rattle.sd_answer.specs.Who.{rights_asked}
 use Rattle.sd_answer.specs.declared.verdict_lines.Spelling.{Spelling}
@@ -23,6 +27,7 @@ use Rattle.sd_script.specs.Command.{line_asks}
 use Rattle.sd_script.specs.Deletion.{delete_right}
 use Rattle.sd_script.specs.Expect.{expect_line}
 use Rattle.sd_script.specs.Output.{IsAnswered, IsDone, Prints}
+use Rattle.sd_review.specs.Laws.{AreGrantedAlike}
 use Rattle.sd_review.specs.Review.{Trees}
 use Rattle.sd_script.specs.Reply.{seen_line}
 use Rattle.sd_script.specs.Review.{IsNodeReview, IsReview, reviewed_line}
@@ -99,6 +104,19 @@ SilentNodeIsUnchanged =
     → IsNodeReview notation ts top (path, row) [] → is_within top path ≡ true → row_at ts.new path ≡ Some row
     → holds asked 25 ≡ false
     → reply_in ts.mapping ts.old path token asked ≡ reply_in ts.mapping ts.new path token asked
+
+-- what is made in the node, with the list that it inherits of the node's; CREATOR OWNER and CREATOR GROUP stand for its
+-- owner and group
+abbrev pub made_in : MappingValue → PlainTree → Names → Descendant → Parts
+made_in g t path d = descendant_parts (list_of g d (entries_or_none (dacl_at g t path)))
+
+-- and if it is a container, no bit of what is made in it is granted otherwise
+abbrev pub SilentContainerPassesDownTheSame : Type 0
+SilentContainerPassesDownTheSame =
+    (notation : Notation) (ts : Trees) (top path : Names) (row : NodeRow) (d : Descendant)
+    → IsNodeReview notation ts top (path, row) [] → is_within top path ≡ true → row_at ts.new path ≡ Some row
+    → row.kind ≡ Container
+    → AreGrantedAlike ts.mapping (made_in ts.mapping ts.old path d) (made_in ts.mapping ts.new path d)
 
 -- a review that prints its last line alone: no check at or below its path is
 abbrev pub SilentReviewChangesNothing : Type 0

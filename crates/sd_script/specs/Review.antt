@@ -1,24 +1,20 @@
 -- What `review` prints: what the pending edits change, node by node, for all tokens.
 use Rattle.std.specs.Prelude.{◌≡◌, ℕ, Bool, true, false, ◌&&◌, ◌||◌, List, [], ◌∷◌, ◌++◌, length, MatchBool}
-use Rattle.std.specs.Prelude.{if◌then◌else◌, Option, Some, is_none, codes}
+use Rattle.std.specs.Prelude.{if◌then◌else◌, Option, is_none, codes}
 use Rattle.std.specs.Fmt.{decimal}
 use Rattle.std.specs.FinMap.{entries}
 use Rattle.std.specs.List.{flat_map}
-use Rattle.sd_sid.specs.Mapping.{MappingValue}
-use Rattle.sd_acl.specs.Descriptor.{DescriptorValue}
-use Rattle.sd_edit.specs.Answers.{descriptor_at, kind_at}
+use Rattle.sd_edit.specs.Answers.{kind_at}
 use Rattle.sd_path.specs.Names.{Names, is_within}
 use Rattle.sd_edit.specs.declared.node.NodeRow.{NodeRow}
 use Rattle.sd_edit.specs.Machine.{Machine, accepted}
-use Rattle.sd_analysis.specs.Compare.{AreGains}
-use Rattle.sd_analysis.specs.declared.compare_report.Change.{Change}
-use Rattle.sd_answer.specs.Parts.{parts_in}
+use Rattle.sd_review.specs.Compared.{IsComparedAt}
+use Rattle.sd_review.specs.Lines.{lines_of}
 use Rattle.sd_review.specs.Review.{Trees, former, stands_in, trees_after}
+use Rattle.sd_review.specs.declared.compared.Compared.{Compared}
 use Rattle.sd_review.specs.declared.review.Former.{Former}
 use Rattle.sd_review.specs.declared.review.Former.TheVariants.{Same, Moved, New}
 use Rattle.sd_answer.specs.VerdictLines.{line, fault_line}
-use Rattle.sd_answer.specs.Compare.{gains_and_losses}
-use Rattle.sd_answer.specs.declared.verdict_lines.Spelling.{Spelling}
 use Rattle.sd_script.specs.Listing.{lacks_words}
 use Rattle.sd_script.specs.Paths.{path_word}
 use Rattle.sd_script.specs.declared.script_options.Notation.{Notation}
@@ -29,21 +25,12 @@ trees_in m = trees_after m.opening m.published m.pending
 
 -- ---- the lines
 
--- what tokens gain and lose if the new descriptor takes the place of the old one: the lines of `compare`, each after a
--- head. The base is empty, so these are all tokens
-abbrev pub IsChangeText : Spelling → MappingValue → List ℕ → Option DescriptorValue → Option DescriptorValue → List ℕ
-    → Type 0
-IsChangeText spelling g head (Some old) (Some new) printed =
-    (gained : List Change) × (lost : List Change)
-    × AreGains g [] (parts_in old) (parts_in new) gained × AreGains g [] (parts_in new) (parts_in old) lost
-    × (printed ≡ gains_and_losses spelling head (parts_in old) (parts_in new) gained lost)
-IsChangeText spelling g head old new printed = printed ≡ []
-
--- of the node at a path, beside the node at a path of the old tree
+-- the lines of the node at a path beside the node at a path of the old tree, each after a head: what tokens gain and
+-- lose of it, and of what is made in it, and whether its list is protected from inheritance where it was not
 abbrev pub IsCompared : Notation → Trees → Names → Names → List ℕ → Type 0
 IsCompared notation ts before path printed =
-    IsChangeText notation.spelling ts.mapping (path_word notation.paths path ++ codes " ")
-    (descriptor_at ts.mapping ts.old before) (descriptor_at ts.mapping ts.new path) printed
+    (c : Option Compared) × IsComparedAt ts before path c
+    × (printed ≡ lines_of notation.spelling (path_word notation.paths path ++ codes " ") c)
 
 abbrev pub new_line : PathSpelling → Names → List ℕ
 new_line paths path = line (codes "new " ++ path_word paths path)

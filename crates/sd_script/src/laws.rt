@@ -1,8 +1,8 @@
 //! What follows from the output of a script. A law is the contract of a function that does nothing.
 ghost use Rattle.sd_script.specs.Ids.{NoCommandWithoutAnId};
 ghost use Rattle.sd_script.specs.Laws.{BeginsAsCheck, DeletesAsChecked, HasOneAnswer, HasOneOutput};
-ghost use Rattle.sd_script.specs.Laws.{OnlyTheseAreGranted};
-ghost use Rattle.sd_script.specs.Laws.{SilentNodeIsUnchanged, SilentReviewChangesNothing};
+ghost use Rattle.sd_script.specs.Laws.{OnlyTheseAreGranted, SilentContainerPassesDownTheSame, SilentNodeIsUnchanged};
+ghost use Rattle.sd_script.specs.Laws.{SilentReviewChangesNothing};
 
 /// A line leaves one store and has one answer, unless it asks who is granted a right, or who is by the pending edits:
 /// those lines are exact in what they say.
@@ -33,10 +33,12 @@ pub fn no_command_without_an_id()
 {}
 
 /// Where a review prints no line for a node, no check of it changes by the pending edits: of no token, for no request
-/// without MAXIMUM_ALLOWED ([MS-DTYP] 2.5.3.2). Where it prints its last line alone, none at or below its path does.
+/// without MAXIMUM_ALLOWED ([MS-DTYP] 2.5.3.2); nor, if it is a container, of what is made in it without entries of its
+/// own (2.5.3.4). Where it prints its last line alone, none at or below its path does.
 #[tactic(auto, using(crate::proofs::Silence::silence))]
 pub fn silent_review_changes_nothing()
     ensures node { SilentNodeIsUnchanged }
+    ensures container { SilentContainerPassesDownTheSame }
     ensures review { SilentReviewChangesNothing }
 {}
 

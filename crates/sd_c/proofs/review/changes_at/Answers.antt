@@ -1,12 +1,18 @@
 use Rattle.std.proofs.Common.{Some, subst}
-use Rattle.sd_edit.specs.Answers.{descriptor_at}
-use Rattle.sd_review.specs.Compared.{IsOfBoth}
+use Rattle.std.proofs.lemmas.Result.{IfOk-weaker}
+use Rattle.sd_edit.specs.Answers.{descriptor_at, kind_at}
+use Rattle.sd_review.specs.Compared.{IsOfBoth, is_container}
 use Rattle.sd_review.specs.Review.{trees_of}
+use Rattle.sd_c.specs.Review.{AreChangesAt, AreChangesOf}
 use Rattle.sd_c.proofs.review.changes_at.Goals as goal
 
 pub returns-in-Some : goal.returns-in-Some
 returns-in-Some c =
     let ts = trees_of c.args.review.now in
-    let x = descriptor_at ts.mapping ts.old c.args.before.now in
-    let y = descriptor_at ts.mapping ts.new c.args.path.now in
-    c.changes_of.ensures ts.mapping x y (subst (IsOfBoth ts.mapping x y) c.in-Some.is c.in_ok-compare.ensures.compared)
+    let before = c.args.before.now in
+    let path = c.args.path.now in
+    let x = descriptor_at ts.mapping ts.old before in
+    let y = descriptor_at ts.mapping ts.new path in
+    let compared = Some c.in-Some.compared in
+    let of = subst (IsOfBoth ts.mapping (is_container (kind_at ts.new path)) x y) c.in-Some.is c.in_ok-compare.ensures.compared in
+    IfOk-weaker c.changes_of.result (AreChangesOf compared) (AreChangesAt ts before path) (λ changes are. (compared, of, are)) c.changes_of.ensures

@@ -1,0 +1,78 @@
+-- Where nothing is printed of the changes, each bit is granted as before.
+use Rattle.std.proofs.Common.{◌≡◌, ℕ, zero, suc, Bool, true, false, List, [], ◌∷◌, map, refl, sym, subst, arith}
+use Rattle.std.specs.Prelude.{◌||◌}
+use Rattle.std.specs.Bool.{one_answer}
+use Rattle.std.specs.List.{All, flat_map}
+use Rattle.std.proofs.lemmas.List.Elements.{All-cons, All-head, All-nil, All-tail}
+use Rattle.sd_acl.specs.declared.ace.Ace.{Ace}
+use Rattle.sd_sid.specs.Mapping.{MappingValue}
+use Rattle.sd_check.specs.Check.{is_granted}
+use Rattle.sd_analysis.specs.Base.{HasBase}
+use Rattle.sd_analysis.specs.Compare.{AreGains}
+use Rattle.sd_analysis.specs.Descendants.{AreDescendantChanges, IsDescendantChange, descendant_parts, descendants_of, list_of, stops_somewhere}
+use Rattle.sd_analysis.specs.Sufficient.{Parts}
+use Rattle.sd_analysis.specs.declared.compare_report.Change.{Change}
+use Rattle.sd_analysis.specs.declared.descendants.Descendant.{Descendant}
+use Rattle.sd_analysis.specs.declared.descendants.Descendant.TheVariants.{Object, Container, ObjectBelow, ContainerBelow}
+use Rattle.sd_analysis.specs.declared.descendants_compare.DescendantChange.{DescendantChange}
+use Rattle.sd_analysis.proofs.Deeper.{below_is_as_in_it}
+use Rattle.sd_answer.proofs.NoLines.{parts_empty}
+use Rattle.sd_review.specs.Laws.{AreGrantedAlike}
+
+-- without gains and losses a bit is granted by both or by neither
+pub alike : (g : MappingValue) (old new : Parts) (gained lost : List Change) → AreGains g [] old new gained → AreGains g [] new old lost
+    → (gained ≡ []) × (lost ≡ []) → AreGrantedAlike g old new
+alike g old new gained lost gains losses none t b =
+    let base : HasBase [] t = λ kind s stands. absurd (cc (stands)) in
+    let more = rw none.0 at gains in
+    let less = rw none.1 at losses in
+    one_answer {P = is_granted new.owner new.dacl g t b ≡ true} _ _ (less.complete t b base refl, more.complete t b base refl) (λ is. is, λ is. is)
+
+-- of one kind of what is made in a container
+abbrev pub IsAlike : MappingValue → List Ace → List Ace → Descendant → Type 0
+IsAlike g old new d = AreGrantedAlike g (descendant_parts (list_of g d old)) (descendant_parts (list_of g d new))
+
+neither : (x y : Bool) → (x || y) ≡ false → (x ≡ false) × (y ≡ false)
+neither true y none = absurd (cc (none))
+neither false y none = (refl, none)
+
+module _ (g : MappingValue) (old new : List Ace) where
+  -- what a list prints of each change is nothing
+  all_alike : (text : DescendantChange → List ℕ)
+      → ((c : DescendantChange) → IsDescendantChange g [] old new c → text c ≡ [] → IsAlike g old new c.descendant)
+      → (changes : List DescendantChange) → All (IsDescendantChange g [] old new) changes → flat_map text changes ≡ []
+      → All (IsAlike g old new) (map (λ (c : DescendantChange). c.descendant) changes)
+  all_alike text silent [] right none = All-nil (IsAlike g old new)
+  all_alike text silent (c ∷ changes) right none =
+      let parts = parts_empty (text c) (flat_map text changes) none in
+      All-cons (IsAlike g old new) c.descendant (map (λ (c : DescendantChange). c.descendant) changes)
+      (silent c (All-head (IsDescendantChange g [] old new) c changes right) parts.0)
+      (all_alike text silent changes (All-tail (IsDescendantChange g [] old new) c changes right) parts.1)
+
+  deeper : (d e : Descendant) → list_of g d old ≡ list_of g e old → list_of g d new ≡ list_of g e new → IsAlike g old new e → IsAlike g old new d
+  deeper d e was is same =
+      subst (λ (es : List Ace). AreGrantedAlike g (descendant_parts es) (descendant_parts (list_of g d new))) (sym was)
+      (subst (λ (es : List Ace). AreGrantedAlike g (descendant_parts (list_of g e old)) (descendant_parts es)) (sym is) same)
+
+  any_alike : (stops : Bool) → (stops_somewhere old || stops_somewhere new) ≡ stops → All (IsAlike g old new) (descendants_of stops) → (d : Descendant) → IsAlike g old new d
+  any_alike true is all Object = all zero Object (omega arith)
+  any_alike true is all Container = all (suc zero) Object (omega arith)
+  any_alike true is all ObjectBelow = all (suc (suc zero)) Object (omega arith)
+  any_alike true is all ContainerBelow = all (suc (suc (suc zero))) Object (omega arith)
+  any_alike false is all Object = all zero Object (omega arith)
+  any_alike false is all Container = all (suc zero) Object (omega arith)
+  any_alike false is all ObjectBelow =
+      let goes = neither (stops_somewhere old) (stops_somewhere new) is in
+      deeper ObjectBelow Object (below_is_as_in_it g old goes.0).0 (below_is_as_in_it g new goes.1).0 (all zero Object (omega arith))
+  any_alike false is all ContainerBelow =
+      let goes = neither (stops_somewhere old) (stops_somewhere new) is in
+      deeper ContainerBelow Container (below_is_as_in_it g old goes.0).1 (below_is_as_in_it g new goes.1).1 (all (suc zero) Object (omega arith))
+
+  -- where nothing is printed of the changes
+  pub each_alike : (text : DescendantChange → List ℕ)
+      → ((c : DescendantChange) → IsDescendantChange g [] old new c → text c ≡ [] → IsAlike g old new c.descendant)
+      → (changes : List DescendantChange) → AreDescendantChanges g [] old new changes → flat_map text changes ≡ []
+      → (d : Descendant) → IsAlike g old new d
+  each_alike text silent changes are none =
+      any_alike (stops_somewhere old || stops_somewhere new) refl
+      (subst (All (IsAlike g old new)) are.each (all_alike text silent changes are.right none))
