@@ -1,12 +1,6 @@
 -- The bits of changes, with one change more.
-use Rattle.std.proofs.Common.{◌≡◌, ℕ, ◌<◌, ◌+◌, Bool, ◌||◌, ◌==◌, List, [], length, get_or, take, sym, ◌∙◌, ap, lit<}
-use Rattle.std.proofs.lemmas.List.Folds.{list_any_more}
-use Rattle.std.proofs.lemmas.Nat.Bits.{bit_at-zero}
-use Rattle.sd_sid.specs.Mask.{holds, mask_of}
-use Rattle.sd_sid.proofs.Masks.{holds_place, is_mask_of, mask_of-alike}
-use Rattle.sd_analysis.specs.Compare.{is_reported}
-use Rattle.sd_analysis.specs.declared.compare_report.Change.{Change}
-use Rattle.sd_c.specs.Analysis.{bits_of}
+use Rattle.sd_c.proofs.Cited.{Bool, Change, [], ap, bit_at-zero, bits_of, get_or, holds, holds_place, is_mask_of, is_reported, length, list_any_more, lit<, mask_of, mask_of-alike, sym, take, ℕ, ◌+◌, ◌<◌, ◌==◌, ◌||◌, ◌∙◌, ◌≡◌}
+use Rattle.std.proofs.Common.{List}
 
 pub no_bits : 0 ≡ bits_of []
 no_bits = is_mask_of (is_reported []) 0 (lit< tt) (λ k small. ap (λ n. n == 1) (bit_at-zero k))

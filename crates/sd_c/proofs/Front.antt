@@ -1,19 +1,7 @@
 -- What the front of the bytes holds, as far as the descriptor's last part.
-use Rattle.std.proofs.Common.{◌≡◌, ℕ, ◌+◌, ◌-◌, ◌≤◌, ◌<◌, Bool, true, false, MatchBool, List, [], ◌∷◌, length, take, drop, slice_index, Option, Some, None, Ok, refl, ap, ◌∙◌, arith}
-use Rattle.std.proofs.lemmas.List.{get_or-take, drop-take, take-take, length-take}
-use Rattle.sd_sid.specs.Sid.{SidValue}
-use Rattle.sd_sid.specs.SidBytes.{u32_at, bytes_of_sid}
-use Rattle.sd_sid.proofs.SidLaws.{length_of_sid}
-use Rattle.sd_acl.specs.Descriptor.{DescriptorValue, IsDescriptor}
-use Rattle.sd_acl.specs.declared.ace.Ace.{Ace}
-use Rattle.sd_acl.specs.Dacl.{Dacl}
-use Rattle.sd_acl.specs.declared.descriptor.DaclOf.TheVariants.{Absent, Null, List as Entries}
-use Rattle.sd_wire.specs.Reading.{u16_at, is_set, descriptor_read}
-use Rattle.sd_wire.specs.Standing.{Stands, TrusteeStands, EntryStands, EntriesStand, ListStands, DaclStands, IsPresent, IsWithout, Holds}
-use Rattle.sd_wire.specs.Writing.{entry_parts}
-use Rattle.sd_wire.proofs.HeldIsRead.{held_is_read}
-use Rattle.sd_wire.proofs.ReadIsHeld.{readings_are_held}
-use Rattle.sd_c.specs.Length.{trustee_end, dacl_end, descriptor_end}
+use Rattle.sd_c.proofs.Cited.{Absent, Ace, Bool, Dacl, DaclStands, DescriptorValue, EntriesStand, EntryStands, Holds, IsDescriptor, IsPresent, IsWithout, ListStands, MatchBool, None, Null, Ok, Option, SidValue, Some, Stands, TrusteeStands, [], ap, arith, bytes_of_sid, dacl_end, descriptor_end, descriptor_read, drop-take, entry_parts, false, get_or-take, held_is_read, is_set, length, length-take, length_of_sid, readings_are_held, refl, slice_index, take, take-take, true, trustee_end, u16_at, u32_at, ℕ, ◌+◌, ◌-◌, ◌<◌, ◌∙◌, ◌≡◌, ◌≤◌}
+use Rattle.std.proofs.Common.{List, ◌∷◌, drop}
+use Rattle.sd_acl.specs.declared.descriptor.DaclOf.TheVariants.{List as Entries}
 
 byte : (bytes : List ℕ) (n i : ℕ) → i < n → slice_index (take n bytes) i ≡ slice_index bytes i
 byte bytes n i h = get_or-take n bytes i 0 h

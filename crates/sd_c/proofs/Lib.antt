@@ -1,3 +1,4 @@
+pub mod Cited
 pub mod Reasons
 pub mod Loop
 mod RestrictingLoop

@@ -1,9 +1,7 @@
 -- Reading groups one after the other, as a loop does.
-use Rattle.std.proofs.Common.{◌≡◌, ℕ, suc, ◌-◌, ◌+◌, ◌<◌, List, [], ◌∷◌, ◌++◌, drop, slice_index, Result, Ok, Err, refl, sym, ap, ◌∙◌, append_assoc, arith}
-use Rattle.sd_sid.specs.Sid.{SidValue}
-use Rattle.sd_check.specs.declared.token.GroupState.{GroupState}
-use Rattle.sd_c.specs.declared.stop.NotRead.{NotRead}
-use Rattle.sd_c.specs.Request.{◌>>=◌, group_read, groups_read}
+use Rattle.sd_c.proofs.Cited.{Err, GroupState, NotRead, Ok, Result, SidValue, [], ap, append_assoc, arith, group_read, refl, slice_index, suc, sym, ℕ, ◌+◌, ◌-◌, ◌<◌, ◌>>=◌, ◌∙◌, ◌≡◌}
+use Rattle.std.proofs.Common.{List, ◌∷◌, ◌++◌, drop}
+use Rattle.sd_c.specs.Request.{groups_read}
 
 -- what was read before, and what is still read
 abbrev pub behind : {A : Type 0} → List A → Result (List A) NotRead → Result (List A) NotRead

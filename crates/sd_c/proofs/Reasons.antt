@@ -1,9 +1,5 @@
 -- Why a tree wasn't opened or changed, and why nothing of a node is written.
-use Rattle.std.proofs.Common.{Option, Some, None, IsSome, option_map, refl}
-use Rattle.sd_edit.specs.Answers.{IsError}
-use Rattle.sd_edit.specs.declared.refusal.EditRefusal.{EditRefusal}
-use Rattle.sd_edit.specs.declared.refusal.TreeError.{TreeError}
-use Rattle.sd_c.specs.Publishing.{IsTreeReason, tree_reason}
+use Rattle.sd_c.proofs.Cited.{EditRefusal, IsError, IsSome, IsTreeReason, None, Option, Some, TreeError, option_map, refl, tree_reason}
 
 -- an error of a tree, as the reason that it is
 pub told_reason : (e : TreeError) (due : Option EditRefusal) → IsError e due → IsTreeReason due (tree_reason e)

@@ -1,10 +1,7 @@
 -- Reading restricting SIDs one after the other, as a loop does.
-use Rattle.std.proofs.Common.{◌≡◌, ℕ, suc, ◌-◌, ◌+◌, ◌<◌, ◌==◌, true, false, List, [], ◌∷◌, ◌++◌, length, drop, Result, Ok, Err, refl, sym, ap, ◌∙◌, arith}
-use Rattle.std.proofs.lemmas.List.{append-nil}
-use Rattle.sd_sid.specs.Sid.{SidValue}
-use Rattle.sd_sid.specs.SidBytes.{sid_reading}
-use Rattle.sd_c.specs.declared.stop.NotRead.{NotRead}
-use Rattle.sd_c.specs.Request.{restricting_sid, sids_read}
+use Rattle.sd_c.proofs.Cited.{Err, NotRead, Ok, Result, SidValue, [], ap, append-nil, arith, false, length, refl, restricting_sid, sid_reading, suc, sym, true, ℕ, ◌+◌, ◌-◌, ◌<◌, ◌==◌, ◌∙◌, ◌≡◌}
+use Rattle.std.proofs.Common.{List, ◌∷◌, ◌++◌, drop}
+use Rattle.sd_c.specs.Request.{sids_read}
 use Rattle.sd_c.proofs.Loop.{behind, regroup}
 
 pub goes_on : (rest : List ℕ) (count k : ℕ) (front : List SidValue) (s : SidValue) (size : ℕ) (total : Result (List SidValue) NotRead)

@@ -1,9 +1,5 @@
 -- Which node is at a place.
-use Rattle.std.proofs.Common.{◌≡◌, ℕ, ◌-◌, length, Option, Some, IsSome, ◌∙◌, ap}
-use Rattle.std.specs.Prelude.{is_some, slice_get}
-use Rattle.std.specs.FinMap.{entries, len, len-entries}
-use Rattle.sd_review.specs.Review.{Trees}
-use Rattle.sd_c.specs.Review.{published_at}
+use Rattle.sd_c.proofs.Cited.{IsSome, Option, Some, Trees, ap, entries, is_some, len, len-entries, length, published_at, slice_get, ℕ, ◌-◌, ◌∙◌, ◌≡◌}
 
 -- the place of a published node counts those of the store's tree
 pub published_place : (ts : Trees) (place count at : ℕ) → count ≡ len ts.new → at ≡ place - count

@@ -1,38 +1,15 @@
 -- A seal of what is there, taken apart into a box's parts and made of them. Assumes `Logic`.
+use Rattle.sd_c.proofs.Cited.{Absent, B, Bx, D, Fits, Goal, Item, List, Logic, P, Ptr, R, RawPtr, Seq, Slot, Step, T, Ura, Val, Valss, WT, block_ptr, box_in, box_owns, dict, dnil, drop, feq_i, feq_l, fjoin, fpack, fpick, fsplit, fst∗, full_share, ghosts, handle, handle_tells, has_ty, impl, in_a_block, lit<, move, nat_tests, never, nothing, null_ptr, of_list, plain, ptr_val, rewrite, rules, sem, shape, step, tnil, to, token, ty_ptr, unless, vptr, vstruct, within, word, τ, ‵, ◌$◌, ◌&&◌, ◌++◌, ◌==◌, ◌∷◌}
 use mathlib.Core.Path.{◌≡◌, refl, sym, ap, subst}
 use Prim.Native.Nat.{ℕ, ◌<◌}
-use mathlib.Core.Bool.{Bool, true, false, ◌&&◌}
-use mathlib.Core.List.{List, [], ◌∷◌, ◌++◌}
-use seplogic.Ra.Ura.{Ura}
-use lib.Dec.{T}
-use mir.Syntax.{impl, tnil, dnil, ty_ptr}
-use mir.Val.{Val, vptr, vstruct, of_list, has_ty, WT}
+use mathlib.Core.Bool.{Bool, true, false}
+use mathlib.Core.List.{[]}
 use mir.Raw.{raw as bare}
-use base.Logic.{fst∗, never}
-use types.Logic.{Logic, sem}
-use types.Kit.{Goal, Step, step, Seq, Item, ‵, ◌$◌, move, drop, rewrite, fsplit, fjoin, fpick, fpack, feq_l, feq_i}
-use denote.Builtin.{RawPtr}
-use base.Fraction.{full_share}
 use denote.Memory.{part_at}
-use denote.RattleType.{Valss}
-use denote.RawPtr.{Ptr, block_ptr, null_ptr, ptr_val, in_a_block}
-use denote.Signature.{Slot, plain}
-use denote.Steps.{nothing}
-use denote.Struct.Struct.{within}
-use denote.Struct.Owning.{shape, to}
-use Rattle.std.proofs.Common.{◌==◌, lit<, rules}
-use Rattle.std.proofs.lemmas.Bool.Decides.{nat_tests}
-use Rattle.core.proofs.alloc.Calls.{token, handle_tells, Fits}
-use Rattle.std_alloc.specs.Box.Ownership.{box_owns}
-use Rattle.std_alloc.proofs.BoxSteps.Form.{Bx, D, τ, R, P, B, word, handle}
-use Rattle.std_alloc.proofs.BoxSteps.Steps.{box_in}
 use Rattle.std_heap.specs.contracts.Global as Heap
-use Rattle.std_heap.specs.contracts.GlobalAllocator.TheImpl.{ghosts, dict}
 use Rattle.std_heap.proofs.Global.TheLaws as heap
 use Rattle.std.specs.Prelude.{None}
-use Rattle.sd_acl.specs.declared.descriptor.DaclOf.TheVariants.{Absent}
 use Rattle.sd_c.specs.declared.handle.kept.Kept.TheVariants as Kinds
-use Rattle.sd_c.specs.Handle.{unless}
 use Rattle.sd_c.specs.contracts.handle.kept.Kept as Kept
 use Rattle.sd_c.proofs.handle.kept.Kept.TheLaws as kept
 use Rattle.sd_c.specs.contracts.handle.parts.Parts as Parts

@@ -1,15 +1,6 @@
 -- The answer of an explanation, from that of each of its parts.
+use Rattle.sd_c.proofs.Cited.{CheckAnswer, Explained, NotRead, PartAnswer, Reason, RequestValue, Verdict, explained, parts_of, reason_in, reasons_on, verdict_given, verdict_of}
 use Rattle.std.specs.Prelude.{◌≡◌, refl, ℕ, List, Option, Result, Ok}
-use Rattle.sd_check.specs.declared.verdict.Verdict.{Verdict}
-use Rattle.sd_explain.specs.Parts.{reason_in}
-use Rattle.sd_explain.specs.declared.reason.Reason.{Reason}
-use Rattle.sd_c.specs.CallAnswer.{verdict_given}
-use Rattle.sd_c.specs.Explaining.{explained, parts_of, reasons_on}
-use Rattle.sd_c.specs.Request.{RequestValue, verdict_of}
-use Rattle.sd_c.specs.declared.call_answer.CheckAnswer.{CheckAnswer}
-use Rattle.sd_c.specs.declared.explaining.Explained.{Explained}
-use Rattle.sd_c.specs.declared.explaining.PartAnswer.{PartAnswer}
-use Rattle.sd_c.specs.declared.stop.NotRead.{NotRead}
 
 pub told :
     (read : Result RequestValue NotRead) (r : RequestValue) (asked : ℕ) (reasons : List (Option Reason)) (v : Verdict)

@@ -1,19 +1,7 @@
 -- An analysis without its descriptors, and one whose base is borrowed.
-use Rattle.std.proofs.Common.{◌≡◌, ℕ, ◌==◌, List, Result, Ok, Err, if◌then◌else◌, inr, refl, ap, ◌∙◌, subst}
-use Rattle.sd_sid.specs.Mapping.{MappingValue}
-use Rattle.sd_sid.specs.Sid.{SidValue}
-use Rattle.sd_acl.specs.Descriptor.{DescriptorValue}
-use Rattle.sd_check.specs.declared.token.GroupState.{GroupState}
-use Rattle.sd_c.specs.Analysis.{AnswersCompare, AnswersWho, IsCompareText, IsWhoText, Stops, asked_over, both_kept, descriptors_in, kept_in, no_accesses, no_comparison}
-use Rattle.sd_c.specs.CallAnswer.{not_read}
-use Rattle.sd_c.specs.Kept.{descriptor_in, is_kept}
-use Rattle.sd_c.specs.Request.{◌>>=◌}
-use Rattle.sd_c.specs.declared.analysis.CompareAnswer.{CompareAnswer}
-use Rattle.sd_c.specs.declared.analysis.WhoAnswer.{WhoAnswer}
-use Rattle.sd_c.specs.declared.handle.Handle.{Handle}
-use Rattle.sd_c.specs.declared.mapping.Mapping.{Mapping}
-use Rattle.sd_c.specs.declared.stop.NotRead.{NotRead}
-use Rattle.sd_c.specs.declared.stop.NotRead.TheVariants.{DescriptorHandle, NewHandle}
+use Rattle.sd_c.proofs.Cited.{AnswersCompare, AnswersWho, CompareAnswer, DescriptorHandle, DescriptorValue, Err, GroupState, Handle, IsCompareText, IsWhoText, Mapping, MappingValue, NewHandle, NotRead, Ok, Result, SidValue, Stops, WhoAnswer, ap, descriptor_in, descriptors_in, if◌then◌else◌, inr, is_kept, no_accesses, no_comparison, not_read, refl, subst, ℕ, ◌==◌, ◌>>=◌, ◌∙◌, ◌≡◌}
+use Rattle.std.proofs.Common.{List}
+use Rattle.sd_c.specs.Analysis.{asked_over, both_kept, kept_in}
 use Rattle.sd_c.specs.declared.stop.Stop.TheVariants as stops
 
 -- ---- handles that keep nothing

@@ -1,23 +1,5 @@
 -- Where nothing is printed of the changes, each bit is granted as before.
-use Rattle.std.proofs.Common.{◌≡◌, ℕ, zero, suc, Bool, true, false, List, [], ◌∷◌, map, refl, sym, subst, arith}
-use Rattle.std.specs.Prelude.{◌||◌}
-use Rattle.std.specs.Bool.{one_answer}
-use Rattle.std.specs.List.{All, flat_map}
-use Rattle.std.proofs.lemmas.List.Elements.{All-cons, All-head, All-nil, All-tail}
-use Rattle.sd_acl.specs.declared.ace.Ace.{Ace}
-use Rattle.sd_sid.specs.Mapping.{MappingValue}
-use Rattle.sd_check.specs.Check.{is_granted}
-use Rattle.sd_analysis.specs.Base.{HasBase}
-use Rattle.sd_analysis.specs.Compare.{AreGains}
-use Rattle.sd_analysis.specs.Descendants.{AreDescendantChanges, IsDescendantChange, descendant_parts, descendants_of, list_of, stops_somewhere}
-use Rattle.sd_analysis.specs.Sufficient.{Parts}
-use Rattle.sd_analysis.specs.declared.compare_report.Change.{Change}
-use Rattle.sd_analysis.specs.declared.descendants.Descendant.{Descendant}
-use Rattle.sd_analysis.specs.declared.descendants.Descendant.TheVariants.{Object, Container, ObjectBelow, ContainerBelow}
-use Rattle.sd_analysis.specs.declared.descendants_compare.DescendantChange.{DescendantChange}
-use Rattle.sd_analysis.proofs.Deeper.{below_is_as_in_it}
-use Rattle.sd_answer.proofs.NoLines.{parts_empty}
-use Rattle.sd_review.specs.Laws.{AreGrantedAlike}
+use Rattle.sd_review.proofs.Cited.{Ace, All, All-cons, All-head, All-nil, All-tail, AreDescendantChanges, AreGains, AreGrantedAlike, Bool, Change, Container, ContainerBelow, Descendant, DescendantChange, HasBase, IsDescendantChange, List, MappingValue, Object, ObjectBelow, Parts, [], arith, below_is_as_in_it, descendant_parts, descendants_of, false, flat_map, is_granted, list_of, map, one_answer, parts_empty, refl, stops_somewhere, subst, suc, sym, true, zero, ℕ, ◌||◌, ◌∷◌, ◌≡◌}
 
 -- without gains and losses a bit is granted by both or by neither
 pub alike : (g : MappingValue) (old new : Parts) (gained lost : List Change) → AreGains g [] old new gained → AreGains g [] new old lost

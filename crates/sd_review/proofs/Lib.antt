@@ -1,3 +1,4 @@
+pub mod Cited
 mod GrantedAlike
 mod NoGains
 pub mod OneStore

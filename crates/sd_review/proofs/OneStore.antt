@@ -1,10 +1,5 @@
 -- A review of two trees of a store is that of the store.
-use Rattle.std.proofs.Common.{◌≡◌, List, ◌++◌, length, drop, ◌∙◌, ap}
-use Rattle.std.proofs.Math.Seq.{drop-append_seam}
-use Rattle.sd_edit.specs.Journal.{TreeValue, replay}
-use Rattle.sd_edit.specs.declared.edit.Edit.{Edit}
-use Rattle.sd_edit.specs.declared.opening.Opening.{Opening}
-use Rattle.sd_review.specs.Review.{Trees, trees_after}
+use Rattle.sd_review.proofs.Cited.{Edit, List, Opening, TreeValue, Trees, ap, drop, drop-append_seam, length, replay, trees_after, ◌++◌, ◌∙◌, ◌≡◌}
 
 abbrev trees : Opening → List Edit → Opening → List Edit → List Edit → Trees
 trees a xs b ys zs = record { mapping = a.mapping; old = replay a xs; new = replay b ys; pending = zs }

@@ -1,11 +1,5 @@
 -- Where a node was, one edit after the other.
-use Rattle.std.proofs.Common.{◌≡◌, ℕ, zero, suc, ◌+◌, ◌-◌, ◌<◌, ◌≤◌, List, [], ◌∷◌, length, get_or, take, drop, Option, Some, None, refl, sym, ◌∙◌, ap, subst, arith}
-use Rattle.std.specs.Prelude.{option_and_then, slice_get}
-use Rattle.std.proofs.Math.Seq.{take-length}
-use Rattle.std.proofs.lemmas.List.{get_or-drop, length-drop}
-use Rattle.sd_path.specs.Names.{Names}
-use Rattle.sd_edit.specs.declared.edit.Edit.{Edit}
-use Rattle.sd_review.specs.Origin.{origin, place_before}
+use Rattle.sd_review.proofs.Cited.{Edit, List, Names, None, Option, Some, [], ap, arith, drop, get_or, get_or-drop, length, length-drop, option_and_then, origin, place_before, refl, slice_get, subst, suc, sym, take, take-length, zero, ℕ, ◌+◌, ◌-◌, ◌<◌, ◌∙◌, ◌∷◌, ◌≡◌, ◌≤◌}
 
 and_then_some : (x : Option Names) → option_and_then (origin []) x ≡ x
 and_then_some None = refl

@@ -1,9 +1,5 @@
 -- A comparison of a node is right.
-use Rattle.std.proofs.Common.{Bool, sym, subst}
-use Rattle.sd_sid.specs.Mapping.{MappingValue}
-use Rattle.sd_acl.specs.Descriptor.{descriptor_of}
-use Rattle.sd_review.specs.Compared.{IsOf, IsRight, ReviewParts, review_parts_in}
-use Rattle.sd_review.specs.declared.compared.Compared.{Compared}
+use Rattle.sd_review.proofs.Cited.{Bool, Compared, IsOf, IsRight, MappingValue, ReviewParts, descriptor_of, review_parts_in, subst, sym}
 
 pub right_one : (g : MappingValue) (is_container : Bool) (before after : ReviewParts) (c : Compared) → IsOf g is_container before after c → IsRight g c
 right_one g is_container before after c of =

@@ -1,16 +1,5 @@
 -- A comparison without a line: no token gains or loses a right.
-use Rattle.std.proofs.Common.{◌≡◌, ℕ, List, [], ◌++◌, inl, inr, refl, subst}
-use Rattle.sd_acl.specs.Descriptor.{descriptor_of}
-use Rattle.sd_acl.specs.declared.ace.Ace.{Ace}
-use Rattle.sd_sid.specs.Mapping.{MappingValue}
-use Rattle.sd_analysis.specs.Descendants.{IsDescendantChange, descendant_parts, list_of}
-use Rattle.sd_analysis.specs.Sufficient.{entries_or_none}
-use Rattle.sd_analysis.specs.declared.descendants_compare.DescendantChange.{DescendantChange}
-use Rattle.sd_answer.specs.Descendants.{descendant_head, descendant_lines}
-use Rattle.sd_answer.specs.Parts.{parts_in}
-use Rattle.sd_answer.specs.declared.verdict_lines.Spelling.{Spelling}
-use Rattle.sd_answer.proofs.NoLines.{no_gain_no_loss, parts_empty}
-use Rattle.sd_review.specs.Laws.{AreGrantedAlike, SilentContainerPassesDownTheSame, SilentNodeGrantsTheSame}
+use Rattle.sd_review.proofs.Cited.{Ace, AreGrantedAlike, DescendantChange, IsDescendantChange, List, MappingValue, SilentContainerPassesDownTheSame, SilentNodeGrantsTheSame, Spelling, [], descendant_head, descendant_lines, descendant_parts, descriptor_of, entries_or_none, inl, inr, list_of, no_gain_no_loss, parts_empty, parts_in, refl, subst, ℕ, ◌++◌, ◌≡◌}
 use Rattle.sd_review.proofs.GrantedAlike.{IsAlike, alike, each_alike}
 
 descendant_alike : (spelling : Spelling) (head : List ℕ) (g : MappingValue) (old new : List Ace) (c : DescendantChange)

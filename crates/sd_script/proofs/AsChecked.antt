@@ -1,32 +1,7 @@
 -- What `why` and `delete` print beside what `check` prints.
-use Rattle.std.proofs.Common.{◌≡◌, ℕ, List, [], ◌++◌, length, Option, Some, None, refl, sym, ◌∙◌, ap, append_assoc, append-nil, Bool, true, false, subst, arith}
-use Rattle.std.specs.Prelude.{codes, option_map, get_or}
-use Rattle.sd_sid.specs.Mapping.{MappingValue}
-use Rattle.sd_acl.specs.declared.ace.Ace.{Ace}
-use Rattle.sd_check.specs.Token.{TokenValue}
-use Rattle.sd_edit.specs.Answers.{reply_for, answer}
-use Rattle.sd_edit.specs.Descriptors.{descriptor_of_row}
-use Rattle.sd_edit.specs.Journal.{replay}
-use Rattle.sd_path.specs.Names.{Names}
-use Rattle.sd_edit.specs.Plain.{dacl_at, row_at}
-use Rattle.sd_edit.specs.declared.node.NodeRow.{NodeRow}
-use Rattle.sd_edit.specs.Machine.{Machine}
+use Rattle.sd_script.proofs.Cited.{Ace, BeginsAsCheck, Bool, CheckReply, Delete, DeletesAsChecked, Granted, IsGranted, List, Machine, MappingValue, Names, NodeRow, None, Notation, Opened, Option, Some, Spelling, TokenValue, Verdict, Why, [], answer, ap, append-nil, append_assoc, append_cancel_left, arith, by_node_line, check_line, codes, dacl_at, decimal, delete_right, deletion_line, descriptor_of_row, false, get_or, length, line, node_why_text, option_map, outcome_of, parent_grants, refl, replay, reply_for, row_at, seen_line, spelled, subst, sym, true, ℕ, ◌++◌, ◌∙◌, ◌≡◌}
 use Rattle.sd_edit.specs.declared.request.Request.TheVariants as requests
-use Rattle.sd_answer.specs.VerdictLines.{line, spelled}
-use Rattle.sd_script.specs.Laws.{BeginsAsCheck, DeletesAsChecked, IsGranted, by_node_line}
-use Rattle.sd_script.specs.Question.{outcome_of}
-use Rattle.sd_script.specs.Reply.{check_line, node_why_text, seen_line}
-use Rattle.sd_answer.specs.declared.verdict_lines.Spelling.{Spelling}
-use Rattle.sd_script.specs.declared.script_options.Notation.{Notation}
-use Rattle.sd_script.specs.declared.question.NodeQuestion.TheVariants.{Why, Delete}
-use Rattle.sd_script.specs.declared.session.Session.TheVariants.{Opened}
 use Rattle.sd_script.proofs.OneOutput.{by_reader, one_step, outcome}
-use Rattle.std.specs.Fmt.{decimal}
-use Rattle.std.proofs.lemmas.List.{append_cancel_left}
-use Rattle.sd_check.specs.declared.verdict.Verdict.TheVariants.{Granted}
-use Rattle.sd_edit.specs.declared.reply.CheckReply.{CheckReply}
-use Rattle.sd_edit.specs.declared.reply.CheckReply.TheVariants.{Verdict}
-use Rattle.sd_script.specs.Deletion.{delete_right, deletion_line, parent_grants}
 
 -- ---- the answer to `why` begins with that to `check`
 

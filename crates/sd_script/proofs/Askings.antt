@@ -1,17 +1,6 @@
 -- What a line asks for, from what its command's arguments ask for.
-use Rattle.std.proofs.Common.{◌≡◌, ℕ, List, Bool, true, false, Option, Some, None, Result, Ok, Err, inl, refl, subst, ap, ◌∙◌}
-use Rattle.std.specs.Prelude.{if◌then◌else◌}
-use Rattle.std.specs.Result.{result_transpose}
-use Rattle.std.specs.Str.{IsUtf8}
-use Rattle.sd_script.specs.Command.{Arguments, Parses, asks, asks_where, command_of, is_untimely, line_asks, reads, reads_where}
-use Rattle.sd_script.specs.Fault.{UnlessMemory}
-use Rattle.sd_script.specs.Lines.{words_of}
-use Rattle.sd_script.specs.declared.line_request.LineRequest.{LineRequest}
-use Rattle.sd_script.specs.declared.command.ScriptCommand.{ScriptCommand}
+use Rattle.sd_script.proofs.Cited.{Arguments, Bool, Err, Fault, IsUtf8, LineRequest, LineStop, List, None, Notation, Ok, Option, Parses, Result, ScriptCommand, Some, UnlessMemory, ap, asks, asks_where, command_of, false, if◌then◌else◌, inl, is_untimely, line_asks, reads, reads_where, refl, result_transpose, subst, true, words_of, ℕ, ◌∙◌, ◌≡◌}
 use Rattle.sd_script.specs.declared.fault.LineFault.TheVariants as faults
-use Rattle.sd_script.specs.declared.fault.LineStop.{LineStop}
-use Rattle.sd_script.specs.declared.fault.LineStop.TheVariants.{Fault}
-use Rattle.sd_script.specs.declared.script_options.Notation.{Notation}
 use Rattle.sd_script.proofs.Readings.{UnlessMemory-weaker}
 
 -- a line of text whose words are this command

@@ -1,28 +1,6 @@
 -- The lines that make a tree, and whether they are read as what makes it.
-use Rattle.std.proofs.Common.{◌≡◌, ℕ, zero, suc, ◌+◌, ◌<◌, ◌≤◌, Bool, true, false, ◌==◌, List, [], ◌∷◌, ◌++◌, length, Option, Some, None, refl, sym, ◌∙◌, ap, subst, inl, inr, add-one, append_assoc, append-nil, arith}
-use Rattle.std.specs.Prelude.{drop, nat_lt, slice_get}
-use Rattle.std.specs.Bool.{Decides}
-use Rattle.std.specs.FinMap.{entries, len, len-entries}
-use Rattle.std.specs.List.{flat_map, join_with_byte, slice_split}
-use Rattle.std.specs.Ordering.{eq_by_cmp}
-use Rattle.std.specs.Str.Lines.{lines, lines_of_parts}
-use Rattle.std.proofs.Math.ListN.{drop_of_length-le, length-map}
-use Rattle.std.proofs.Math.Seq.{drop-cons}
-use Rattle.std.proofs.lemmas.List.{length-append, nil_from_length}
-use Rattle.std.proofs.lemmas.List.Splits.{join_with_byte-slice_split}
-use Rattle.std.proofs.lemmas.Bool.{false≢true, lt-ltb}
-use Rattle.std.proofs.lemmas.Bool.Decides.{nat_tests}
-use Rattle.std.proofs.lemmas.Option.{get_or_from_slice_get, slice_get_cases, slice_get_within}
-use Rattle.sd_path.specs.Names.{Names, names_cmp}
-use Rattle.sd_edit.specs.Plain.{PlainTree, row_at}
-use Rattle.sd_edit.specs.declared.node.NodeRow.{NodeRow}
-use Rattle.sd_edit.proofs.Moved.{entry_there}
-use Rattle.sd_edit.proofs.Rows.{one_path, path_itself}
-use Rattle.sd_script.specs.Dump.{making, makings, wanted, IsAskedBy, AreAskedBy}
-use Rattle.sd_edit.specs.declared.request.Request.TheVariants.{Publish}
-use Rattle.sd_script.specs.declared.line_request.LineRequest.{LineRequest}
-use Rattle.sd_script.specs.declared.line_request.LineRequest.TheVariants.{Asking}
-use Rattle.sd_script.specs.declared.script_options.Notation.{Notation}
+use Rattle.sd_script.proofs.Cited.{AreAskedBy, Asking, Bool, Decides, IsAskedBy, LineRequest, List, Names, NodeRow, None, Notation, Option, PlainTree, Publish, Some, [], add-one, ap, append-nil, append_assoc, arith, drop-cons, drop_of_length-le, entries, entry_there, eq_by_cmp, false, false≢true, flat_map, get_or_from_slice_get, inl, inr, join_with_byte, join_with_byte-slice_split, len, len-entries, length, length-append, length-map, lines, lines_of_parts, lt-ltb, making, makings, names_cmp, nat_lt, nat_tests, nil_from_length, one_path, path_itself, refl, row_at, slice_get, slice_get_cases, slice_get_within, slice_split, subst, suc, sym, true, wanted, zero, ℕ, ◌++◌, ◌+◌, ◌<◌, ◌==◌, ◌∙◌, ◌∷◌, ◌≡◌, ◌≤◌}
+use Rattle.std.specs.Prelude.{drop}
 
 -- the order of paths tells whether they are one
 pub path_decides : (p q : Names) (r : Bool) → r ≡ eq_by_cmp names_cmp p q → Decides r (p ≡ q)

@@ -1,3 +1,4 @@
+pub mod Cited
 pub mod AsChecked
 pub mod Askings
 pub mod Dumping

@@ -1,20 +1,5 @@
 -- A line whose first word is no id is no command, nor is one that expects an answer.
-use Rattle.std.proofs.Common.{◌≡◌, ◌==◌, ℕ, Bool, true, false, List, [], ◌∷◌, length, Option, None, Ok, ap, arith, inl, inr, refl, sym, ◌∙◌}
-use Rattle.std.specs.Prelude.{codes, bytes_eq, if◌then◌else◌, option_map, take}
-use Rattle.std.specs.List.{list_all, list_any}
-use Rattle.std.proofs.lemmas.Bool.{and_parts, cases_Bool, cases_lt, false_from_ne_true}
-use Rattle.std.proofs.lemmas.List.{take_all}
-use Rattle.std.proofs.lemmas.List.Splits.{slice_split_first, slice_split_none}
-use Rattle.std.proofs.lemmas.List.Sums.{fails_before_first}
-use Rattle.std.proofs.lemmas.Slice.Eq.{bytes_eq-Decides}
-use Rattle.sd_script.specs.Command.{value_named, command_named, command_of, is_empty, line_asks, names}
-use Rattle.sd_script.specs.Expect.{expects}
-use Rattle.sd_script.specs.Lines.{is_silent, word_len, words_of}
-use Rattle.sd_script.specs.Output.{IsAnswered, is_open, script_options_of}
-use Rattle.sd_script.specs.declared.line_request.LineRequest.{LineRequest}
-use Rattle.sd_script.specs.declared.script_options.Notation.{Notation}
-use Rattle.sd_script.specs.declared.session.Session.{Session}
-use Rattle.sd_script.specs.Ids.{NoCommandWithoutAnId, asked_of, is_id}
+use Rattle.sd_script.proofs.Cited.{Bool, IsAnswered, LineRequest, List, NoCommandWithoutAnId, None, Notation, Ok, Option, Session, [], and_parts, ap, arith, asked_of, bytes_eq, bytes_eq-Decides, cases_Bool, cases_lt, codes, command_named, command_of, expects, fails_before_first, false, false_from_ne_true, if◌then◌else◌, inl, inr, is_empty, is_id, is_open, is_silent, length, line_asks, list_all, list_any, names, option_map, refl, script_options_of, slice_split_first, slice_split_none, sym, take, take_all, true, value_named, word_len, words_of, ℕ, ◌==◌, ◌∙◌, ◌∷◌, ◌≡◌}
 
 -- a word that is no id is none of a table of ids
 beside_none : {A : Type 0} (word : List ℕ) (rows : List (List ℕ × A)) → list_all (λ (row : List ℕ × A). is_id row.0) rows ≡ true

@@ -1,50 +1,9 @@
 -- A text has one output: a line is read as one thing, and a request has one reply that has a line.
-use Rattle.std.proofs.Common.{◌≡◌, ℕ, Bool, true, false, List, [], ◌∷◌, ◌++◌, length, Option, Some, None, Ok, Err, inl, inr, sym, ◌∙◌, ap, subst, take, arith}
-use Rattle.std.specs.Prelude.{MatchBool, codes, if◌then◌else◌, nat_lt, nat_le}
-use Rattle.std.specs.Bool.{one_answer}
-use Rattle.std.specs.List.{All}
-use Rattle.std.specs.Str.Lines.{lines}
-use Rattle.std.proofs.lemmas.Bool.{cases_Bool}
-use Rattle.std.proofs.lemmas.Bool.Decides.{nat_tests}
-use Rattle.std.proofs.lemmas.List.Elements.{All-head, All-tail}
-use Rattle.sd_acl.specs.declared.ace.Ace.{Ace}
-use Rattle.sd_edit.specs.Answers.{answer, descriptor_at}
-use Rattle.sd_edit.specs.Journal.{replay}
-use Rattle.sd_path.specs.Names.{Names}
-use Rattle.sd_edit.specs.declared.edit.Edit.{Edit}
-use Rattle.sd_edit.specs.declared.opening.RootSpec.{RootSpec}
-use Rattle.sd_edit.specs.declared.refusal.EditRefusal.{EditRefusal}
-use Rattle.sd_edit.specs.Machine.{Machine, Steps, accepted, due, floor_of, with_edit, with_publish, with_floor, with_look}
-use Rattle.sd_edit.specs.Machine.{longer}
-use Rattle.sd_edit.specs.Starts.{IsReaderCount, IsStartError}
-use Rattle.sd_edit.specs.declared.request.Reply.{Reply}
+use Rattle.sd_script.proofs.Cited.{Ace, All, All-head, All-tail, AreAnswered, Asking, AsksNoAnalysis, Bool, Dump, Edit, EditRefusal, Err, HasOneAnswer, HasOneOutput, Importing, IsAnswered, IsDone, IsImported, IsMoved, IsNext, IsOpened, IsReaderCount, IsStartError, IsTold, IsViewed, LineRequest, List, Machine, MatchBool, Moving, Names, None, Notation, Ok, Opened, Opening, Option, Reply, Request, RootSpec, ScriptOptions, ScriptState, Session, Some, Spelling, StartError, Steps, ViewRequest, Viewing, [], accepted, answer, ap, arith, before_first_line, cases_Bool, check_line, closing_of, codes, counted_line, descriptor_at, due, entries_at, expect_line, expects, false, floor_of, for_reader, if◌then◌else◌, imported_line, inl, inr, is_analysis, is_met, is_open, is_silent, last_after, length, line, line_of_fault, lines, longer, moved_line, nat_le, nat_lt, nat_tests, one_answer, refused_line, replay, reply_line, script_options_of, seen_line, shown_line, start_error_line, subst, sym, tallied, true, with_edit, with_floor, with_look, with_publish, ℕ, ◌++◌, ◌∙◌, ◌∷◌, ◌≡◌}
+use Rattle.std.proofs.Common.{take}
 use Rattle.sd_edit.specs.declared.request.Reply.TheVariants as replies
-use Rattle.sd_edit.specs.declared.request.Request.{Request}
 use Rattle.sd_edit.specs.declared.request.Request.TheVariants as requests
-use Rattle.sd_edit.specs.declared.start.StartError.{StartError}
-use Rattle.sd_answer.specs.VerdictLines.{line}
-use Rattle.sd_script.specs.Expect.{expect_line, expects, is_met, last_after}
-use Rattle.sd_script.specs.Fault.{line_of_fault}
-use Rattle.sd_script.specs.Laws.{AsksNoAnalysis, HasOneAnswer, HasOneOutput, is_analysis}
-use Rattle.sd_script.specs.Lines.{is_silent}
-use Rattle.sd_script.specs.Importing.{IsImported, entries_at, imported_line}
-use Rattle.sd_script.specs.Moving.{IsMoved, moved_line}
-use Rattle.sd_lines.specs.Answers.{AreAnswered}
-use Rattle.sd_script.specs.Output.{is_open, script_options_of, IsOpened, IsAnswered, IsDone, IsTold, IsNext, before_first_line, closing_of}
-use Rattle.sd_script.specs.Question.{for_reader}
-use Rattle.sd_script.specs.Reply.{check_line, counted_line, refused_line, reply_line, seen_line, shown_line, start_error_line}
-use Rattle.sd_script.specs.declared.line_request.LineRequest.{LineRequest}
-use Rattle.sd_script.specs.declared.line_request.LineRequest.TheVariants.{Opening, Asking, Viewing, Importing, Moving}
-use Rattle.sd_script.specs.declared.script_state.ScriptState.{ScriptState}
-use Rattle.sd_script.specs.declared.script_options.ScriptOptions.{ScriptOptions}
-use Rattle.sd_script.specs.declared.script_options.Notation.{Notation}
-use Rattle.sd_script.specs.declared.session.Session.{Session}
-use Rattle.sd_script.specs.declared.session.Session.TheVariants.{Opened}
-use Rattle.sd_script.specs.ScriptCounts.{tallied}
-use Rattle.sd_script.specs.View.{IsViewed}
-use Rattle.sd_script.specs.declared.view.ViewRequest.{ViewRequest}
-use Rattle.sd_script.specs.declared.view.ViewRequest.TheVariants.{List as Lists, Dump}
-use Rattle.sd_answer.specs.declared.verdict_lines.Spelling.{Spelling}
+use Rattle.sd_script.specs.declared.view.ViewRequest.TheVariants.{List as Lists}
 use Rattle.sd_script.proofs.OneReading.{line-one}
 
 -- ---- requests

@@ -1,32 +1,7 @@
 -- A line is read as one thing, or has one fault.
-use Rattle.std.proofs.Common.{◌≡◌, ℕ, Bool, true, false, List, [], ◌∷◌, Option, Some, None, Result, Ok, Err, inl, inr, sym, ◌∙◌, ap}
-use Rattle.std.proofs.lemmas.Bool.{cases_Bool}
-use Rattle.sd_acl.specs.Descriptor.{DescriptorValue}
-use Rattle.sd_text.specs.Grammar.{Spells}
-use Rattle.sd_text.specs.Rights.{mask_text}
-use Rattle.sd_text.specs.Sacl.{sddl_without_sacl}
-use Rattle.sd_text.specs.Sddl.{sddl_in}
-use Rattle.sd_text.specs.Sid.{sid_text_in}
-use Rattle.sd_text.proofs.Engine.{one_value, no_fault, one_fault}
-use Rattle.sd_answer.proofs.OneToken.{groups_one, token_one}
-use Rattle.sd_answer.proofs.WordsLeft.{one_joined}
-use Rattle.sd_answer.specs.Mask.{IsMaskIn, between_pluses}
-use Rattle.sd_answer.specs.Word.{AreGroups, IsToken}
-use Rattle.sd_answer.specs.declared.verdict_lines.Spelling.{Spelling}
+use Rattle.sd_script.proofs.Cited.{AreGroups, Argument, Arguments, Asks, Bool, Dacl, DescriptorValue, Err, Groups, Imported, IsMaskIn, IsNumber, IsPath, IsToken, LineFault, List, Mask, Names, Node, None, Notation, Number, Ok, Option, Path, PathSpelling, Percent, Plain, Reading, Result, ScriptCommand, Sid, Some, SomeOr, Spelling, Spells, Then, Token, [], ap, asks, asks_where, between_pluses, cases_Bool, command_of, dacl_of, descriptor, false, groups_one, import_of, inl, inr, is_untimely, line_asks, mask_text, no_fault, node_of, one_fault, one_joined, one_value, reading, reads, reads_where, sddl_in, sddl_without_sacl, sid_text_in, sym, token_one, true, words_of, ℕ, ◌∙◌, ◌∷◌, ◌≡◌, ◌▸◌}
 use Rattle.sd_answer.specs.declared.verdict_lines.Spelling.TheVariants as spellings
-use Rattle.sd_path.specs.Names.{Names}
-use Rattle.sd_script.specs.Argument.{IsNumber, descriptor, node_of, dacl_of, import_of}
-use Rattle.sd_script.specs.Command.{Argument, Number, Path, Sid, Mask, Token, Groups, Node, Dacl, Imported, reading, Arguments, Asks, ◌▸◌}
-use Rattle.sd_script.specs.Command.{asks, asks_where, command_of, is_untimely, line_asks, reads, reads_where}
-use Rattle.sd_script.specs.Fault.{Reading, SomeOr, Then}
-use Rattle.sd_script.specs.Lines.{words_of}
-use Rattle.sd_script.specs.Paths.{IsPath}
-use Rattle.sd_script.specs.declared.command.ScriptCommand.{ScriptCommand}
-use Rattle.sd_script.specs.declared.fault.LineFault.{LineFault}
 use Rattle.sd_script.specs.declared.fault.LineFault.TheVariants as faults
-use Rattle.sd_script.specs.declared.script_options.Notation.{Notation}
-use Rattle.sd_script.specs.declared.paths.PathSpelling.{PathSpelling}
-use Rattle.sd_script.specs.declared.paths.PathSpelling.TheVariants.{Plain, Percent}
 
 -- ---- readings
 

@@ -1,20 +1,7 @@
 -- Where each alternative is for one of the groups, whoever is granted a right has one of them.
-use Rattle.std.proofs.Common.{◌≡◌, ℕ, Bool, true, false, List, [], ◌∷◌, inl, inr, refl}
+use Rattle.sd_script.proofs.Cited.{Access, Alternative, Bool, Everyone, GroupState, HasOneOf, Holder, List, OnlyTheseAreGranted, Owner, SidValue, TokenValue, [], and_parts, are_for, asks_no_right, cases_Bool, expect_line, false, has_right, holds_for, inl, inr, is_for, is_held_by, is_in_base, list_all, list_any, refl, rights_asked, true, ℕ, ◌∷◌, ◌≡◌}
 use Rattle.std.specs.Prelude.{not}
-use Rattle.std.specs.List.{list_all, list_any}
-use Rattle.std.proofs.lemmas.Bool.{and_parts, cases_Bool}
-use Rattle.sd_sid.specs.Sid.{SidValue}
-use Rattle.sd_check.specs.Token.{TokenValue}
-use Rattle.sd_check.specs.declared.token.GroupState.{GroupState}
-use Rattle.sd_analysis.specs.Who.{has_right, holds_for, is_held_by, is_in_base}
-use Rattle.sd_analysis.specs.declared.who_has.Access.{Access}
-use Rattle.sd_analysis.specs.declared.who_has.Alternative.{Alternative}
-use Rattle.sd_analysis.specs.declared.who_has.Holder.{Holder}
-use Rattle.sd_analysis.specs.declared.who_has.Holder.TheVariants.{Everyone, Sid, Owner}
-use Rattle.sd_answer.specs.Who.{rights_asked}
-use Rattle.sd_script.specs.Expect.{expect_line}
-use Rattle.sd_script.specs.Laws.{HasOneOf, OnlyTheseAreGranted}
-use Rattle.sd_script.specs.Who.{are_for, asks_no_right, is_for}
+use Rattle.sd_analysis.specs.declared.who_has.Holder.TheVariants.{Sid}
 
 module _ (groups : List (SidValue × GroupState)) (t : TokenValue) where
   by_holder : (holder : Holder) → is_in_base groups holder ≡ true → is_held_by t holder ≡ true → HasOneOf groups t

@@ -1,13 +1,5 @@
 -- Arguments that are parsed one after another, where memory may be wanted.
-use Rattle.std.proofs.Common.{◌≡◌, Option, Some, None, Result, Ok, Err, inl, inr, refl}
-use Rattle.std.specs.Prelude.{◌⊎◌, IsErrAnd}
-use Rattle.sd_script.specs.Command.{Arguments, Asks, ◌▸◌, Parses, Value, reading}
-use Rattle.sd_script.specs.Fault.{Reading, UnlessMemory}
-use Rattle.sd_script.specs.declared.line_request.LineRequest.{LineRequest}
-use Rattle.sd_script.specs.declared.fault.LineFault.{LineFault}
-use Rattle.sd_script.specs.declared.fault.LineStop.{LineStop}
-use Rattle.sd_script.specs.declared.fault.LineStop.TheVariants.{Fault, Memory}
-use Rattle.sd_script.specs.declared.script_options.Notation.{Notation}
+use Rattle.sd_script.proofs.Cited.{Arguments, Asks, Err, Fault, IsErrAnd, LineFault, LineRequest, LineStop, Memory, None, Notation, Ok, Option, Parses, Reading, Result, Some, UnlessMemory, Value, inl, inr, reading, refl, ◌≡◌, ◌⊎◌, ◌▸◌}
 
 -- each argument is parsed to a value, up to the first that stops
 abbrev pub Takes : Notation → Arguments → Result (Option LineRequest) LineStop → Type 0

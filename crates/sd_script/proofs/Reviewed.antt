@@ -1,7 +1,5 @@
 -- The lines of a review, one step after the other.
-use Rattle.std.proofs.Common.{◌≡◌, ℕ, ◌+◌, List, [], ◌++◌, drop, Some, refl, sym, subst, append_assoc, append-nil}
-use Rattle.std.specs.Prelude.{slice_get}
-use Rattle.sd_script.specs.Review.{ArePrinted}
+use Rattle.sd_script.proofs.Cited.{ArePrinted, List, Some, [], append-nil, append_assoc, drop, refl, slice_get, subst, sym, ℕ, ◌++◌, ◌+◌, ◌≡◌}
 use Rattle.sd_script.proofs.Dumping.{next_left}
 
 -- ---- what is printed of each

@@ -1,46 +1,6 @@
 -- A review without lines: no check is answered otherwise.
-use Rattle.std.proofs.Common.{◌≡◌, ℕ, Bool, true, false, List, [], ◌∷◌, ◌++◌, length, Option, Some, None, inl, inr, refl, sym, ◌∙◌, ap, subst, arith}
-use Rattle.std.specs.Prelude.{is_some, codes}
-use Rattle.std.specs.FinMap.{entries, find, get-entries}
-use Rattle.std.specs.List.{flat_map}
-use Rattle.std.specs.Ordering.{eq_by_cmp}
-use Rattle.std.proofs.lemmas.Bool.{cases_Bool}
-use Rattle.std.proofs.lemmas.List.{append_cancel_right}
-use Rattle.sd_sid.specs.Mapping.{MappingValue}
-use Rattle.sd_sid.specs.Mask.{holds}
-use Rattle.sd_acl.specs.Descriptor.{DescriptorValue}
-use Rattle.sd_acl.specs.declared.ace.Ace.{Ace}
-use Rattle.sd_check.specs.Check.{dacl_entries, is_granted, judged, most, verdict}
-use Rattle.sd_check.specs.Token.{TokenValue}
+use Rattle.sd_script.proofs.Cited.{Ace, AreGrantedAlike, ArePrinted, Bool, Compared, Container, Descendant, DescriptorValue, Former, IsCompared, IsNodeReview, IsNodeText, IsOfBoth, IsReviewOf, List, MappingValue, Moved, Names, New, NodeRow, None, Notation, Option, Parts, Same, SilentContainerPassesDownTheSame, SilentNodeIsUnchanged, SilentReviewChangesNothing, Some, Spelling, TokenValue, Trees, Verdict, [], accepted, ap, append_cancel_right, arith, cases_Bool, codes, dacl_at, dacl_entries, descendant_parts, descriptor_of_row, entries, entries_or_none, eq_by_cmp, false, find, flat_map, former, get-entries, gone_line, has_no_words, holds, inl, inr, is_granted, is_some, is_within, judged, kind_at, length, lines_of, list_of, made_in, most, names_cmp, one_path, one_test, parts_empty, parts_in, path_word, refl, reply_in, review_parts_in, reviewed_line, row_at, silent_container, silent_node, stands_in, subst, sym, trees_in, true, verdict, ℕ, ◌++◌, ◌∙◌, ◌∷◌, ◌≡◌}
 use Rattle.sd_check.specs.declared.verdict.Verdict.{Verdict as CheckVerdict}
-use Rattle.sd_check.proofs.LawProofs.{one_test}
-use Rattle.sd_edit.specs.Answers.{kind_at, reply_in}
-use Rattle.sd_edit.specs.Descriptors.{descriptor_of_row}
-use Rattle.sd_path.specs.Names.{Names, is_within, names_cmp}
-use Rattle.sd_edit.specs.Plain.{dacl_at, row_at}
-use Rattle.sd_edit.specs.declared.node.NodeRow.{NodeRow}
-use Rattle.sd_edit.specs.declared.reply.CheckReply.TheVariants.{Verdict}
-use Rattle.sd_edit.proofs.Rows.{one_path}
-use Rattle.sd_edit.specs.Machine.{accepted}
-use Rattle.sd_inheritance.specs.declared.kind.NodeKind.TheVariants.{Container}
-use Rattle.sd_analysis.specs.Descendants.{descendant_parts, list_of}
-use Rattle.sd_analysis.specs.Sufficient.{Parts, entries_or_none}
-use Rattle.sd_analysis.specs.declared.descendants.Descendant.{Descendant}
-use Rattle.sd_answer.specs.declared.verdict_lines.Spelling.{Spelling}
-use Rattle.sd_answer.proofs.NoLines.{parts_empty}
-use Rattle.sd_script.specs.Laws.{SilentContainerPassesDownTheSame, SilentNodeIsUnchanged, SilentReviewChangesNothing, made_in}
-use Rattle.sd_script.specs.Paths.{path_word}
-use Rattle.sd_answer.specs.Parts.{parts_in}
-use Rattle.sd_review.proofs.Silence.{silent_container, silent_node}
-use Rattle.sd_review.specs.Compared.{IsOfBoth, review_parts_in}
-use Rattle.sd_review.specs.Laws.{AreGrantedAlike}
-use Rattle.sd_review.specs.Lines.{lines_of}
-use Rattle.sd_review.specs.Review.{Trees, former, stands_in}
-use Rattle.sd_review.specs.declared.compared.Compared.{Compared}
-use Rattle.sd_review.specs.declared.review.Former.{Former}
-use Rattle.sd_review.specs.declared.review.Former.TheVariants.{Same, Moved, New}
-use Rattle.sd_script.specs.Review.{ArePrinted, IsCompared, IsNodeReview, IsNodeText, IsReviewOf, gone_line, has_no_words, reviewed_line, trees_in}
-use Rattle.sd_script.specs.declared.script_options.Notation.{Notation}
 
 -- ---- verdicts
 

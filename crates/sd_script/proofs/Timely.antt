@@ -1,14 +1,6 @@
 -- What a line can ask for: an opening where no store is open, and something of a store where one is.
-use Rattle.std.proofs.Common.{◌≡◌, ℕ, List, Bool, true, false, not, Option, Some, None, Ok, inl, inr, arith}
-use Rattle.std.specs.Prelude.{⊤}
-use Rattle.sd_script.specs.Command.{Arguments, Asks, Value, ◌▸◌, asks, asks_groups, asks_where, command_of, deletes, is_untimely, line_asks, posed, reads, reads_where}
-use Rattle.sd_script.specs.Fault.{Reading}
-use Rattle.sd_script.specs.Lines.{words_of}
-use Rattle.sd_script.specs.Output.{opens}
-use Rattle.sd_script.specs.declared.line_request.LineRequest.{LineRequest}
-use Rattle.sd_script.specs.declared.command.ScriptCommand.{ScriptCommand}
-use Rattle.sd_script.specs.declared.command.ScriptCommand.TheVariants.{Open}
-use Rattle.sd_script.specs.declared.script_options.Notation.{Notation}
+use Rattle.sd_script.proofs.Cited.{Arguments, Asks, Bool, LineRequest, List, None, Notation, Ok, Open, Option, Reading, ScriptCommand, Some, Value, arith, asks, asks_where, command_of, false, inl, inr, is_untimely, line_asks, not, opens, reads, reads_where, true, words_of, ℕ, ⊤, ◌≡◌, ◌▸◌}
+use Rattle.sd_script.specs.Command.{asks_groups, deletes, posed}
 
 -- all that a reading can give opens a store, or nothing that it can
 abbrev Gives : Bool → Reading LineRequest → Type 0

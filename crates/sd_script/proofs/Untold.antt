@@ -1,10 +1,5 @@
 -- What is done is made, also where its answer can't be told.
-use Rattle.std.proofs.Common.{ℕ, List, Result, Ok, Err, OnErr, inl, inr}
-use Rattle.sd_script.specs.Output.{IsDone, IsMade, IsTold, IsUntold}
-use Rattle.sd_script.specs.declared.line_request.LineRequest.{LineRequest}
-use Rattle.sd_script.specs.declared.line_request.LineRequest.TheVariants.{Asking, Importing, Moving}
-use Rattle.sd_script.specs.declared.session.Session.{Session}
-use Rattle.sd_script.specs.declared.session.Session.TheVariants.{Opened}
+use Rattle.sd_script.proofs.Cited.{Asking, Err, Importing, IsDone, IsMade, IsTold, IsUntold, LineRequest, List, Moving, Ok, OnErr, Opened, Result, Session, inl, inr, ℕ}
 
 made : (old new : Session) (asked : LineRequest) (printed : List ℕ) → IsDone old asked printed new → IsMade old asked new
 made (Opened notation m) new (Asking request) printed (reply, machine, steps, said, is) = (reply, machine, steps, is)

@@ -1,22 +1,5 @@
 -- What answers a query of an audit.
-use Rattle.std.proofs.Common.{◌≡◌, ℕ, ◌+◌, ◌<◌, List, [], ◌∷◌, ◌++◌, length, take, slice_index_or, Some, sym, ap, ◌∙◌, append_assoc, append-nil, arith}
-use Rattle.std.proofs.Math.Nat.{mod-lt}
-use Rattle.std.proofs.Math.Seq.{take-append_seam}
-use Rattle.std.proofs.lemmas.Grind.{flat_map-append}
-use Rattle.std.proofs.lemmas.List.{take_more}
-use Rattle.std.specs.Prelude.{◌%◌}
-use Rattle.std.specs.List.{flat_map}
-use Rattle.sd_edit.specs.declared.edit.Edit.{Edit}
-use Rattle.sd_edit.specs.declared.opening.Opening.{Opening}
-use Rattle.sd_edit.specs.declared.request.Reply.TheVariants.{Answered}
-use Rattle.sd_edit.specs.declared.reply.Answer.{Answer}
-use Rattle.sd_store.specs.Audits.{AreAnswers, HaveGrown, reply_by}
-use Rattle.sd_store.specs.Sights.{Sight}
-use Rattle.sd_store.specs.declared.query.Query.{Query}
-use Rattle.sd_store.proofs.Dealing.{nobody}
-use Rattle.sd_answer.specs.declared.verdict_lines.Spelling.{Spelling}
-use Rattle.sd_script.specs.Reply.{check_line, reply_line, seen_line}
-use Rattle.sd_script_audit.specs.Audit.{answer_line}
+use Rattle.sd_script_audit.proofs.Cited.{Answer, Answered, AreAnswers, Edit, HaveGrown, List, Opening, Query, Sight, Some, Spelling, [], answer_line, ap, append-nil, append_assoc, arith, check_line, flat_map, flat_map-append, length, mod-lt, nobody, reply_by, reply_line, seen_line, slice_index_or, sym, take, take-append_seam, take_more, ℕ, ◌%◌, ◌++◌, ◌+◌, ◌<◌, ◌∙◌, ◌∷◌, ◌≡◌}
 
 -- an answer that has seen just the journal replies by it
 pub replies_by : (o : Opening) (journal : List Edit) (queries : List Query) (olds news : List Sight) (answers : List Answer) (j : ℕ) (d : Answer) (q : Query)

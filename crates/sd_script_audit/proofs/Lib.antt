@@ -1,3 +1,4 @@
+pub mod Cited
 pub mod Answering
 pub mod Lines
 pub mod Workers

@@ -1,14 +1,5 @@
 -- The answers to the lines of an audit.
-use Rattle.std.proofs.Common.{◌≡◌, ℕ, List, ◌++◌, cond, Option, Some, None, Result, Ok, Err, inl, inr, ◌∙◌, ap, sym, append_assoc}
-use Rattle.std.specs.Prelude.{IfErr, IfOk, IfSome, OnOk}
-use Rattle.std.specs.Result.{is_ok}
-use Rattle.sd_lines.specs.Answers.{AreAnswered}
-use Rattle.sd_lines.proofs.InOrder.{joined}
-use Rattle.sd_script.specs.Output.{is_open, script_options_of}
-use Rattle.sd_script.specs.declared.line_request.LineRequest.{LineRequest}
-use Rattle.sd_script.specs.declared.script_counts.ScriptCounts.{ScriptCounts}
-use Rattle.sd_script_audit.specs.Audit.{AreAnsweredInAudit, AsksInAudit, Audited, IsAnsweredInAudit, IsNextInAudit, IsToldInAudit, Progress, end_of}
-use Rattle.sd_script_audit.specs.Parts.{IsDoneOrTold}
+use Rattle.sd_script_audit.proofs.Cited.{AreAnswered, AreAnsweredInAudit, AsksInAudit, Audited, Err, IfErr, IfOk, IfSome, IsAnsweredInAudit, IsDoneOrTold, IsNextInAudit, IsToldInAudit, LineRequest, List, None, Ok, OnOk, Option, Progress, Result, ScriptCounts, Some, ap, append_assoc, cond, end_of, inl, inr, is_ok, is_open, joined, script_options_of, sym, ℕ, ◌++◌, ◌∙◌, ◌≡◌}
 
 -- a line is answered as what it asks for is done, or by what it is told
 pub answered : {X : Type 0} (bytes : X → List ℕ) (workers : ℕ) (old new : Progress) (line printed : List ℕ) (found : Result LineRequest (Option X))

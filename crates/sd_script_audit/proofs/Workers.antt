@@ -1,40 +1,9 @@
 -- Audits of one text by two numbers of workers: once a store is open, what is printed is the same.
-use Rattle.std.proofs.Common.{◌≡◌, ◌⊎◌, ℕ, Bool, true, false, not, List, [], ◌∷◌, ◌++◌, Option, Some, Ok, Err, inl, inr, refl, sym, ◌∙◌, ap, subst, append_assoc, arith}
-use Rattle.std.specs.Prelude.{codes}
-use Rattle.std.proofs.lemmas.Bool.{cases_Bool}
-use Rattle.std.specs.Str.Lines.{lines}
-use Rattle.sd_acl.specs.declared.ace.Ace.{Ace}
-use Rattle.sd_path.specs.Names.{Names}
-use Rattle.sd_edit.specs.declared.edit.Edit.{Edit}
-use Rattle.sd_edit.specs.declared.opening.RootSpec.{RootSpec}
-use Rattle.sd_edit.specs.declared.refusal.EditRefusal.{EditRefusal}
-use Rattle.sd_edit.specs.Machine.{Machine, Steps, started}
-use Rattle.sd_edit.specs.Starts.{IsReaderCount, IsStartError}
-use Rattle.sd_edit.specs.declared.request.Reply.{Reply}
+use Rattle.sd_script_audit.proofs.Cited.{Ace, AreAnsweredInAudit, Asking, AsksInAudit, Audited, Bool, DifferInOpening, Edit, EditRefusal, Err, Importing, IsAnsweredInAudit, IsDoneInAudit, IsImported, IsMoved, IsNextInAudit, IsOpened, IsReaderCount, IsStartError, IsToldInAudit, LineRequest, List, Machine, Moving, Names, Notation, Ok, Opened, Option, Progress, Query, Reply, RootSpec, ScriptCounts, ScriptOptions, Some, Spelling, StartError, Steps, WorkersShowInTheOpening, [], ap, append_assoc, arith, before_first_line, cases_Bool, codes, counted_line, end_of, entries_at, expects, false, inl, inr, is_silent, line-one, line_of_fault, line_opens, lines, move-one, no_error, not, opening_in, opens, refl, refused_line, requested-one, start_error_line, started, step-one, subst, sym, true, unopened, ℕ, ◌++◌, ◌∙◌, ◌∷◌, ◌≡◌, ◌⊎◌}
 use Rattle.sd_edit.specs.declared.request.Reply.TheVariants as replies
 use Rattle.sd_edit.specs.declared.request.Request.TheVariants as requests
-use Rattle.sd_edit.specs.declared.start.StartError.{StartError}
 use Rattle.sd_edit.specs.declared.start.StartError.TheVariants as starts
-use Rattle.sd_store.specs.declared.query.Query.{Query}
-use Rattle.sd_answer.specs.declared.verdict_lines.Spelling.{Spelling}
-use Rattle.sd_script.specs.Expect.{expects}
-use Rattle.sd_script.specs.Fault.{line_of_fault}
-use Rattle.sd_script.specs.Importing.{IsImported, entries_at}
-use Rattle.sd_script.specs.Moving.{IsMoved}
-use Rattle.sd_script.specs.Lines.{is_silent}
-use Rattle.sd_script.specs.Output.{IsOpened, opening_in, opens}
-use Rattle.sd_script.specs.Reply.{counted_line, refused_line, start_error_line}
-use Rattle.sd_script.specs.declared.line_request.LineRequest.{LineRequest}
-use Rattle.sd_script.specs.declared.line_request.LineRequest.TheVariants.{Opening as Opens, Asking, Importing, Moving}
-use Rattle.sd_script.specs.declared.script_options.ScriptOptions.{ScriptOptions}
-use Rattle.sd_script.specs.declared.script_options.Notation.{Notation}
-use Rattle.sd_script.specs.declared.session.Session.TheVariants.{Opened}
-use Rattle.sd_script.specs.declared.script_counts.ScriptCounts.{ScriptCounts}
-use Rattle.sd_script.proofs.OneOutput.{no_error, requested-one, move-one, step-one}
-use Rattle.sd_script.proofs.OneReading.{line-one}
-use Rattle.sd_script.proofs.Timely.{line_opens}
-use Rattle.sd_script_audit.specs.Audit.{AreAnsweredInAudit, AsksInAudit, Audited, IsAnsweredInAudit, IsDoneInAudit, IsNextInAudit, IsToldInAudit, Progress, before_first_line, end_of, unopened}
-use Rattle.sd_script_audit.specs.Laws.{DifferInOpening, WorkersShowInTheOpening}
+use Rattle.sd_script.specs.declared.line_request.LineRequest.TheVariants.{Opening as Opens}
 
 -- ---- machines that differ in their readers alone
 

@@ -1,6 +1,5 @@
-use Rattle.std.proofs.Common.{◌≡◌, Ok, rules, string_bytes}
-use Rattle.sd_acl.specs.Descriptor.{descriptor_of}
-use Rattle.sd_c.specs.Analysis.{BaseValue, asked_over, base_read, descriptors_in}
+use Rattle.sd_c.proofs.Cited.{BaseValue, Ok, descriptor_of, rules, string_bytes, ◌≡◌}
+use Rattle.sd_c.specs.Analysis.{asked_over, base_read, descriptors_in}
 use Rattle.sd_c.proofs.Unasked.{compare_of_base}
 use Rattle.sd_c.proofs.analysis.compare_of.Goals as goal
 

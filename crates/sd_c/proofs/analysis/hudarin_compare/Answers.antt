@@ -1,7 +1,5 @@
 -- A handle that keeps nothing.
-use Rattle.std.proofs.Common.{◌≡◌, rules, ap, ◌∙◌}
-use Rattle.sd_c.specs.Analysis.{both_kept, no_comparison}
-use Rattle.sd_c.specs.declared.stop.NotRead.TheVariants.{DescriptorHandle, NewHandle}
+use Rattle.sd_c.proofs.Cited.{DescriptorHandle, NewHandle, ap, both_kept, no_comparison, rules, ◌∙◌, ◌≡◌}
 use Rattle.sd_c.proofs.Unasked.{no_compare, no_new, no_old}
 use Rattle.sd_c.proofs.analysis.hudarin_compare.Goals as goal
 

@@ -1,7 +1,5 @@
 -- A handle that keeps nothing.
-use Rattle.std.proofs.Common.{◌≡◌, rules, ap, ◌∙◌}
-use Rattle.sd_c.specs.Analysis.{kept_in, no_accesses}
-use Rattle.sd_c.specs.declared.stop.NotRead.TheVariants.{DescriptorHandle}
+use Rattle.sd_c.proofs.Cited.{DescriptorHandle, ap, kept_in, no_accesses, rules, ◌∙◌, ◌≡◌}
 use Rattle.sd_c.proofs.Unasked.{no_who, nothing_kept}
 use Rattle.sd_c.proofs.analysis.hudarin_who.Goals as goal
 

@@ -1,7 +1,4 @@
-use Rattle.std.proofs.Common.{rules, inr, refl}
-use Rattle.std.proofs.lemmas.Result.{err_from_is_err_and}
-use Rattle.sd_acl.specs.Descriptor.{descriptor_of}
-use Rattle.sd_edit.specs.Descriptors.{own_dacl}
+use Rattle.sd_c.proofs.Cited.{descriptor_of, err_from_is_err_and, inr, own_dacl, refl, rules}
 use Rattle.sd_c.proofs.edits.dacl_of.Goals as goal
 
 pub returns-in_err-of_descriptor-in-None-None-clause-err : goal.returns-in_err-of_descriptor-in-None-None-clause-err

@@ -1,6 +1,4 @@
-use Rattle.std.proofs.Common.{rules}
-use Rattle.std.proofs.lemmas.Result.{err_from_is_err_and}
-use Rattle.sd_acl.specs.Descriptor.{descriptor_of}
+use Rattle.sd_c.proofs.Cited.{descriptor_of, err_from_is_err_and, rules}
 use Rattle.sd_c.proofs.entries.entry_part.Goals as goal
 
 pub returns-in_err-sid_bytes-in-Some-clause-err : goal.returns-in_err-sid_bytes-in-Some-clause-err

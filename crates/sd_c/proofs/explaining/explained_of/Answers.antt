@@ -1,5 +1,4 @@
-use Rattle.std.proofs.Common.{◌∙◌}
-use Rattle.sd_c.specs.Kept.{asked_of}
+use Rattle.sd_c.proofs.Cited.{asked_of, ◌∙◌}
 use Rattle.sd_c.proofs.Told.{told}
 use Rattle.sd_c.proofs.explaining.explained_of.Goals as goal
 

@@ -1,7 +1,5 @@
-use Rattle.std.proofs.Common.{◌≡◌, Ok, rules}
-use Rattle.sd_acl.specs.Descriptor.{descriptor_of}
+use Rattle.sd_c.proofs.Cited.{Ok, RequestValue, descriptor_of, rules, ◌≡◌}
 use Rattle.sd_c.specs.Kept.{asked_of}
-use Rattle.sd_c.specs.Request.{RequestValue}
 use Rattle.sd_c.proofs.explaining.explanation_of.Goals as goal
 
 pub returns-clause-ok : goal.returns-clause-ok

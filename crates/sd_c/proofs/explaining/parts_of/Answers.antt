@@ -1,9 +1,4 @@
-use Rattle.std.proofs.Common.{ℕ, ◌<◌, length, get_or, set, ◌∙◌, ap, arith, length-set}
-use Rattle.std.proofs.lemmas.List.Edits.{fill_by_more}
-use Rattle.std.proofs.lemmas.List.FromFn.{fill_by_all}
-use Rattle.sd_explain.specs.Parts.{part_at, reason_in}
-use Rattle.sd_c.specs.Explaining.{no_part, part_told}
-use Rattle.sd_c.specs.declared.explaining.PartAnswer.{PartAnswer}
+use Rattle.sd_c.proofs.Cited.{PartAnswer, ap, arith, fill_by_all, fill_by_more, get_or, length, length-set, no_part, part_at, part_told, reason_in, set, ℕ, ◌<◌, ◌∙◌}
 use Rattle.sd_c.proofs.explaining.parts_of.Goals as goal
 
 pub loop-place-preserved : goal.loop-place-preserved

@@ -1,7 +1,5 @@
 -- The parts so far stand at their places.
-use Rattle.std.proofs.Common.{◌≡◌, ℕ, ◌<◌, length, get_or}
-use Rattle.sd_explain.specs.Parts.{part_at, reason_in}
-use Rattle.sd_c.specs.Explaining.{no_part, part_told}
+use Rattle.sd_c.proofs.Cited.{get_or, length, no_part, part_at, part_told, reason_in, ℕ, ◌<◌, ◌≡◌}
 use Rattle.sd_c.proofs.explaining.parts_of.Given as goal
 
 abbrev pub invariant-loop-place : goal.invariant-loop-place

@@ -1,6 +1,4 @@
-use Rattle.std.proofs.Common.{◌≡◌}
-use Rattle.sd_text.specs.Domain.{domain_sid}
-use Rattle.sd_text.specs.declared.domain.Domain.{Domain}
+use Rattle.sd_c.proofs.Cited.{Domain, domain_sid, ◌≡◌}
 use Rattle.sd_c.proofs.in_domain.domain_of.Goals as goal
 
 pub returns-in-None-clause-err : goal.returns-in-None-clause-err

@@ -1,9 +1,5 @@
-use Rattle.std.proofs.Common.{◌≡◌, refl}
-use Rattle.sd_edit.specs.Descriptors.{is_protected, own_descriptor_of_row, own_list}
-use Rattle.sd_edit.specs.declared.node.NodeDacl.{NodeDacl}
+use Rattle.sd_c.proofs.Cited.{NodeDacl, descriptors_come_back, is_protected, own_dacl, own_descriptor_of_row, own_list, refl, ◌≡◌}
 use Rattle.sd_edit.specs.declared.node.NodeDacl.TheVariants.{Null, List as Entries}
-use Rattle.sd_wire.proofs.WireIsHeld.{descriptors_come_back}
-use Rattle.sd_edit.specs.Descriptors.{own_dacl}
 use Rattle.sd_c.proofs.nodes.own_forms_come_back.Goals as goal
 
 gives_again : (dacl : NodeDacl) → dacl ≡ own_dacl (is_protected dacl) (own_list dacl)

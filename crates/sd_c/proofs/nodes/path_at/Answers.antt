@@ -1,6 +1,4 @@
-use Rattle.std.proofs.Common.{rules}
-use Rattle.sd_tree.specs.Listing.{listed}
-use Rattle.sd_edit.specs.History.{history_of}
+use Rattle.sd_c.proofs.Cited.{history_of, listed, rules}
 use Rattle.sd_c.proofs.nodes.path_at.Goals as goal
 
 pub returns-in_ok-format-in-Some-clause-ok : goal.returns-in_ok-format-in-Some-clause-ok

@@ -1,8 +1,6 @@
 -- Each turn reads the next group, or ends with its fault.
-use Rattle.std.proofs.Common.{◌≡◌, ◌++◌, ◌∷◌, [], length, sym, rules}
-use Rattle.std.proofs.lemmas.Result.{err_from_is_err_and}
-use Rattle.std.proofs.lemmas.List.{take_rest}
-use Rattle.sd_c.specs.Request.{groups_read}
+use Rattle.sd_c.proofs.Cited.{[], err_from_is_err_and, groups_read, length, rules, sym, take_rest, ◌≡◌}
+use Rattle.std.proofs.Common.{◌++◌, ◌∷◌}
 use Rattle.sd_c.proofs.Loop.{goes_on, ends}
 use Rattle.sd_c.proofs.request.groups_of.Goals as goal
 

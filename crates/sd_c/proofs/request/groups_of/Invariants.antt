@@ -1,6 +1,5 @@
 -- The groups so far and those that are left are all of them.
-use Rattle.std.proofs.Common.{◌≡◌, ◌-◌, length}
-use Rattle.sd_c.specs.Request.{groups_read}
+use Rattle.sd_c.proofs.Cited.{groups_read, length, ◌-◌, ◌≡◌}
 use Rattle.sd_c.proofs.Loop.{behind}
 use Rattle.sd_c.proofs.request.groups_of.Given as goal
 

@@ -1,8 +1,6 @@
 -- Each turn reads the next SID, or ends with its fault, or where nothing is left.
-use Rattle.std.proofs.Common.{◌≡◌, ◌++◌, ◌∷◌, [], length, sym, ◌∙◌, rules}
-use Rattle.std.proofs.lemmas.Result.{err_from_is_err_and}
-use Rattle.std.proofs.lemmas.List.{take_rest}
-use Rattle.sd_c.specs.Request.{sids_read}
+use Rattle.sd_c.proofs.Cited.{[], err_from_is_err_and, length, rules, sids_read, sym, take_rest, ◌∙◌, ◌≡◌}
+use Rattle.std.proofs.Common.{◌++◌, ◌∷◌}
 use Rattle.sd_c.proofs.RestrictingLoop.{goes_on, ends, at_the_end}
 use Rattle.sd_c.proofs.request.restricting_of.Goals as goal
 

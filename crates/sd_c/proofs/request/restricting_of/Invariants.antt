@@ -1,6 +1,5 @@
 -- The SIDs so far and those that are left are all of them.
-use Rattle.std.proofs.Common.{◌≡◌, ◌-◌, length}
-use Rattle.sd_c.specs.Request.{sids_read}
+use Rattle.sd_c.proofs.Cited.{length, sids_read, ◌-◌, ◌≡◌}
 use Rattle.sd_c.proofs.Loop.{behind}
 use Rattle.sd_c.proofs.request.restricting_of.Given as goal
 

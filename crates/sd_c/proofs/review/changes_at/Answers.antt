@@ -1,9 +1,4 @@
-use Rattle.std.proofs.Common.{Some, subst}
-use Rattle.std.proofs.lemmas.Result.{IfOk-weaker}
-use Rattle.sd_edit.specs.Answers.{descriptor_at, kind_at}
-use Rattle.sd_review.specs.Compared.{IsOfBoth, is_container}
-use Rattle.sd_review.specs.Review.{trees_of}
-use Rattle.sd_c.specs.Review.{AreChangesAt, AreChangesOf}
+use Rattle.sd_c.proofs.Cited.{AreChangesAt, AreChangesOf, IfOk-weaker, IsOfBoth, Some, descriptor_at, is_container, kind_at, subst, trees_of}
 use Rattle.sd_c.proofs.review.changes_at.Goals as goal
 
 pub returns-in-Some : goal.returns-in-Some

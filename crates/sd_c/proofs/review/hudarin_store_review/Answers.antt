@@ -1,6 +1,4 @@
-use Rattle.std.proofs.Common.{rules, inl, inr, string_bytes, subst}
-use Rattle.sd_c.specs.Review.{IsNotReviewed, IsReviewed}
-use Rattle.sd_c.specs.declared.handle.kept.Kept.{Kept}
+use Rattle.sd_c.proofs.Cited.{IsNotReviewed, IsReviewed, Kept, inl, inr, rules, string_bytes, subst}
 use Rattle.sd_c.proofs.review.hudarin_store_review.Goals.{in-Ok, in-Err}
 use Rattle.sd_c.proofs.review.hudarin_store_review.Goals as goal
 

@@ -1,11 +1,5 @@
-use Rattle.std.proofs.Common.{◌≡◌, rules, IsSome, None, Some, inl, inr, refl, sym, ◌∙◌, ap, subst}
-use Rattle.std.specs.Prelude.{option_map, slice_get}
-use Rattle.std.specs.FinMap.{entries}
-use Rattle.std.proofs.lemmas.Result.{err_from_is_err_and}
-use Rattle.sd_tree.specs.Listing.{listed}
-use Rattle.sd_review.specs.Review.{trees_of}
-use Rattle.sd_c.specs.Review.{IsPublishedReview, published_at}
-use Rattle.sd_c.specs.declared.review.NodeReview.{NodeReview}
+use Rattle.sd_c.proofs.Cited.{IsPublishedReview, IsSome, NodeReview, None, Some, ap, entries, err_from_is_err_and, inl, inr, listed, published_at, refl, rules, slice_get, subst, sym, trees_of, ◌∙◌, ◌≡◌}
+use Rattle.std.specs.Prelude.{option_map}
 use Rattle.sd_c.proofs.Reviewing.{published_place, some_there}
 use Rattle.sd_c.proofs.review.review_at.Goals as goal
 

@@ -1,7 +1,4 @@
-use Rattle.std.proofs.Common.{rules, inr, sym, subst}
-use Rattle.sd_edit.specs.Journal.{refusal}
-use Rattle.sd_versions.specs.Versions.{accepted}
-use Rattle.sd_c.specs.Publishing.{IsNotEdited}
+use Rattle.sd_c.proofs.Cited.{IsNotEdited, accepted, inr, refusal, rules, subst, sym}
 use Rattle.sd_c.proofs.Reasons.{told_reason}
 use Rattle.sd_c.proofs.stores.edited.Goals as goal
 

@@ -1,6 +1,4 @@
-use Rattle.std.proofs.Common.{rules, inl, inr, subst}
-use Rattle.sd_c.specs.declared.handle.kept.Kept.{Kept}
-use Rattle.sd_c.specs.Publishing.{IsNotEdited}
+use Rattle.sd_c.proofs.Cited.{IsNotEdited, Kept, inl, inr, rules, subst}
 use Rattle.sd_c.proofs.stores.hudarin_store_edit.Goals.{in-Ok, in-Err}
 use Rattle.sd_c.proofs.stores.hudarin_store_edit.Goals as goal
 

@@ -1,5 +1,4 @@
-use Rattle.std.proofs.Common.{subst}
-use Rattle.sd_c.specs.Publishing.{Begins, Limited}
+use Rattle.sd_c.proofs.Cited.{Begins, Limited, subst}
 use Rattle.sd_c.proofs.stores.hudarin_store_open_within.Goals as goal
 
 pub returns : goal.returns

@@ -1,8 +1,4 @@
-use Rattle.std.proofs.Common.{rules, inl, inr, refl, sym, subst}
-use Rattle.std.proofs.lemmas.Result.{err_from_is_err_and}
-use Rattle.sd_edit.specs.Journal.{opening_within, root_refusal}
-use Rattle.sd_c.specs.Edits.{HasNode}
-use Rattle.sd_c.specs.Publishing.{IsNotBegun}
+use Rattle.sd_c.proofs.Cited.{HasNode, IsNotBegun, err_from_is_err_and, inl, inr, opening_within, refl, root_refusal, rules, subst, sym}
 use Rattle.sd_c.proofs.Reasons.{told_reason}
 use Rattle.sd_c.proofs.stores.opened.Goals as goal
 

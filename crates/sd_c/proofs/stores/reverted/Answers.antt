@@ -1,5 +1,4 @@
-use Rattle.std.proofs.Common.{rules}
-use Rattle.sd_edit.specs.History.{history_of}
+use Rattle.sd_c.proofs.Cited.{history_of, rules}
 use Rattle.sd_c.proofs.stores.reverted.Goals as goal
 
 pub returns : goal.returns

@@ -1,6 +1,4 @@
-use Rattle.std.proofs.Common.{rules}
-use Rattle.std.specs.Arc.{arc_value}
-use Rattle.sd_edit.specs.History.{history_of}
+use Rattle.sd_c.proofs.Cited.{arc_value, history_of, rules}
 use Rattle.sd_c.proofs.views.asked_of.Goals as goal
 
 pub returns-clause-ok : goal.returns-clause-ok

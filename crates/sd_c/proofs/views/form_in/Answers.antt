@@ -1,6 +1,4 @@
-use Rattle.std.proofs.Common.{rules, inr, refl}
-use Rattle.std.proofs.lemmas.Result.{err_from_is_err_and}
-use Rattle.sd_acl.specs.Descriptor.{descriptor_of}
+use Rattle.sd_c.proofs.Cited.{descriptor_of, err_from_is_err_and, inr, refl, rules}
 use Rattle.sd_c.proofs.Reasons.{there_too}
 use Rattle.sd_c.proofs.views.form_in.Goals as goal
 

@@ -1,7 +1,4 @@
-use Rattle.std.proofs.Common.{◌∙◌, ◌-◌, ◌≤◌, List, length, None, Some, ap, sym, arith}
-use Rattle.std.specs.Prelude.{slice_get}
-use Rattle.sd_edit.specs.declared.edit.Edit.{Edit}
-use Rattle.sd_review.specs.Origin.{place_before}
+use Rattle.sd_review.proofs.Cited.{Edit, List, None, Some, ap, arith, length, place_before, slice_get, sym, ◌-◌, ◌∙◌, ◌≤◌}
 use Rattle.sd_review.proofs.Origins.{walked_one}
 use Rattle.sd_review.proofs.origin.origin.Goals as goal
 

@@ -1,8 +1,4 @@
-use Rattle.std.proofs.Common.{◌∙◌, rules, tests}
-use Rattle.std.proofs.lemmas.Iterator.{YieldsList-from_slice}
-use Rattle.std.proofs.lemmas.Iterator.Search.{any_from_yields_List}
-use Rattle.sd_script.specs.Command.{is_empty}
-use Rattle.sd_answer.proofs.Words.{list_any-texts}
+use Rattle.sd_script.proofs.Cited.{YieldsList-from_slice, any_from_yields_List, is_empty, list_any-texts, rules, tests, ◌∙◌}
 use Rattle.sd_script.proofs.command.has_empty.Goals as goal
 
 pub returns : goal.returns

@@ -1,10 +1,4 @@
-use Rattle.std.proofs.Common.{◌≡◌, ◌≤◌, ◌∙◌, [], ap, append-nil, arith, drop, length, refl, sym}
-use Rattle.std.proofs.Math.ListN.{drop_of_length-le}
-use Rattle.std.proofs.lemmas.Bool.{le-ltb}
-use Rattle.std.proofs.lemmas.Bool.Decides.{nat_tests}
-use Rattle.sd_path.proofs.PathBytes.{length-up}
-use Rattle.sd_path.proofs.Paths.{within_itself}
-use Rattle.sd_path.specs.Names.{Names, is_root, moved_path, up}
+use Rattle.sd_script.proofs.Cited.{Names, [], ap, append-nil, arith, drop, drop_of_length-le, is_root, le-ltb, length, length-up, moved_path, nat_tests, refl, sym, up, within_itself, ◌∙◌, ◌≡◌, ◌≤◌}
 use Rattle.sd_script.proofs.deletion.parent_of.Goals as goal
 
 -- the path with all of it replaced by the parent's

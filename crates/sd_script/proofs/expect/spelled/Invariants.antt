@@ -1,7 +1,5 @@
 -- What is left of the lines is spelled after what came so far.
-use Rattle.std.proofs.Common.{◌≡◌, ◌++◌, drop}
-use Rattle.std.specs.List.{flat_map}
-use Rattle.sd_script.specs.Expect.{spelled_byte}
+use Rattle.sd_script.proofs.Cited.{drop, flat_map, spelled_byte, ◌++◌, ◌≡◌}
 use Rattle.sd_script.proofs.expect.spelled.Given as goal
 
 abbrev pub invariant-loop-byte : goal.invariant-loop-byte

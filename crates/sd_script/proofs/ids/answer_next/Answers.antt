@@ -1,8 +1,5 @@
 -- With ids what the line asks is answered, with its tag.
-use Rattle.std.proofs.Common.{◌≡◌, ℕ, Bool, true, false, List}
-use Rattle.sd_script.specs.Output.{IsNext}
-use Rattle.sd_script.specs.declared.script_state.ScriptState.{ScriptState}
-use Rattle.sd_script.specs.Ids.{IsNextIn, asked_of, tag_of, tagged}
+use Rattle.sd_script.proofs.Cited.{Bool, IsNext, IsNextIn, List, ScriptState, asked_of, false, tag_of, tagged, true, ℕ, ◌≡◌}
 use Rattle.sd_script.proofs.ids.answer_next.Goals as goal
 
 with_tag : (has_ids : Bool) (old new : ScriptState) (line tag asked answer bytes printed : List ℕ)

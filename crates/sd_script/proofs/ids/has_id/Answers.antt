@@ -1,7 +1,4 @@
-use Rattle.std.proofs.Common.{rules, tests}
-use Rattle.std.specs.Char.{is_ascii_graphic}
-use Rattle.std.proofs.lemmas.Iterator.{YieldsList-from_slice}
-use Rattle.std.proofs.lemmas.Iterator.Search.{all_from_yields_List}
+use Rattle.sd_script.proofs.Cited.{YieldsList-from_slice, all_from_yields_List, is_ascii_graphic, rules, tests}
 use Rattle.sd_script.proofs.ids.has_id.Goals as goal
 
 pub returns-then-not-is_silent : goal.returns-then-not-is_silent

@@ -1,6 +1,5 @@
 -- What is left of the text has its tags behind what was written.
-use Rattle.std.proofs.Common.{◌≡◌, true, ◌++◌, drop}
-use Rattle.sd_script.specs.Ids.{tagged}
+use Rattle.sd_script.proofs.Cited.{drop, tagged, true, ◌++◌, ◌≡◌}
 use Rattle.sd_script.proofs.ids.tagged.Given as goal
 
 abbrev pub invariant-loop-byte : goal.invariant-loop-byte

@@ -1,5 +1,4 @@
-use Rattle.std.proofs.Common.{◌∙◌, false, true, ap, sym}
-use Rattle.sd_answer.specs.Word.{texts}
+use Rattle.sd_script.proofs.Cited.{ap, false, sym, texts, true, ◌∙◌}
 use Rattle.sd_script.proofs.Askings.{line_parsed}
 use Rattle.sd_script.proofs.line.read_line.Goals as goal
 

@@ -1,8 +1,4 @@
-use Rattle.std.proofs.Common.{◌==◌, ℕ, arith, not, rules, tests}
-use Rattle.std.proofs.lemmas.Bool.Decides.{nat_tests}
-use Rattle.std.proofs.lemmas.Iterator.{YieldsList-from_slice}
-use Rattle.std.proofs.lemmas.Iterator.Search.{position_from_yields_List}
-use Rattle.std.proofs.lemmas.List.Sums.{prefix_len-le-length}
+use Rattle.sd_script.proofs.Cited.{YieldsList-from_slice, arith, nat_tests, not, position_from_yields_List, prefix_len-le-length, rules, tests, ℕ, ◌==◌}
 use Rattle.sd_script.proofs.lines.len_before.Goals as goal
 
 pub returns-clause-len : goal.returns-clause-len

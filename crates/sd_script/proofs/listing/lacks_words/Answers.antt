@@ -1,8 +1,4 @@
-use Rattle.std.proofs.Common.{◌≡◌, ◌∙◌, ℕ, ◌+◌, Bool, ◌||◌, List, Some, ap, drop, false, refl, sym, true}
-use Rattle.std.specs.Prelude.{slice_get}
-use Rattle.std.specs.List.{list_any}
-use Rattle.sd_edit.specs.Journal.{replay}
-use Rattle.sd_script.specs.Listing.{is_split_below}
+use Rattle.sd_script.proofs.Cited.{Bool, List, Some, ap, drop, false, is_split_below, list_any, refl, replay, slice_get, sym, true, ℕ, ◌+◌, ◌||◌, ◌∙◌, ◌≡◌}
 use Rattle.sd_script.proofs.Dumping.{next_left, none_past, nothing_left}
 use Rattle.sd_script.proofs.listing.lacks_words.Goals as goal
 

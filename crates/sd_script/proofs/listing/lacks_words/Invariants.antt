@@ -1,9 +1,5 @@
 -- Some path is split just where one of those that are left is.
-use Rattle.std.proofs.Common.{◌≡◌, drop}
-use Rattle.std.specs.FinMap.{entries}
-use Rattle.std.specs.List.{list_any}
-use Rattle.sd_edit.specs.Journal.{replay}
-use Rattle.sd_script.specs.Listing.{is_split_below}
+use Rattle.sd_script.proofs.Cited.{drop, entries, is_split_below, list_any, replay, ◌≡◌}
 use Rattle.sd_script.proofs.listing.lacks_words.Given as goal
 
 abbrev pub invariant-loop-index : goal.invariant-loop-index

@@ -1,6 +1,4 @@
-use Rattle.std.proofs.Common.{◌++◌, ◌∙◌, ap, string_bytes}
-use Rattle.std.specs.FinMap.{entries}
-use Rattle.sd_edit.specs.Journal.{replay}
+use Rattle.sd_script.proofs.Cited.{ap, entries, replay, string_bytes, ◌++◌, ◌∙◌}
 use Rattle.sd_script.proofs.Dumping.{none_left, none_past, piece_more, stands_there}
 use Rattle.sd_script.proofs.listing.push_lines.Goals as goal
 

@@ -1,11 +1,5 @@
 -- The lines so far, and those of the nodes that are left.
-use Rattle.std.proofs.Common.{◌≡◌, ◌++◌, ℕ, List, Ok, drop, string_bytes}
-use Rattle.std.specs.FinMap.{entries}
-use Rattle.std.specs.List.{flat_map}
-use Rattle.sd_edit.specs.Journal.{replay}
-use Rattle.sd_tree.specs.Listing.{listed}
-use Rattle.sd_path.specs.Names.{Names}
-use Rattle.sd_edit.specs.declared.node.NodeRow.{NodeRow}
+use Rattle.sd_script.proofs.Cited.{List, Names, NodeRow, Ok, drop, entries, flat_map, listed, replay, string_bytes, ℕ, ◌++◌, ◌≡◌}
 use Rattle.sd_script.proofs.listing.push_lines.Given as goal
 
 abbrev pub invariant-loop-index : goal.invariant-loop-index

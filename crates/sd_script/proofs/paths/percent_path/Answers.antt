@@ -1,18 +1,5 @@
 -- What `%` spells is read as it is, where it spells no slash.
-use Rattle.std.proofs.Common.{◌≡◌, ℕ, List, Result, Ok, Err, refl, sym, ◌∙◌, ap}
-use Rattle.std.specs.Prelude.{codes}
-use Rattle.std.specs.Str.{IsUtf8}
-use Rattle.std.specs.Str.Iter.{HasSubslice}
-use Rattle.std.proofs.lemmas.Bool.{false≢true}
-use Rattle.std.proofs.lemmas.Str.Pattern.{contains_text}
-use Rattle.percent_encoding.specs.Percent.{percent_decode}
-use Rattle.sd_path.specs.Names.{Names}
-use Rattle.sd_path.specs.PathText.{path_of}
-use Rattle.sd_script.specs.Argument.{path}
-use Rattle.sd_script.specs.Fault.{UnlessMemory}
-use Rattle.sd_script.specs.declared.fault.LineStop.{LineStop}
-use Rattle.sd_script.specs.declared.fault.LineStop.TheVariants.{Fault, Memory}
-use Rattle.sd_script.specs.declared.paths.PathSpelling.TheVariants.{Plain, Percent}
+use Rattle.sd_script.proofs.Cited.{Err, Fault, HasSubslice, IsUtf8, LineStop, List, Memory, Names, Ok, Percent, Plain, Result, UnlessMemory, ap, codes, contains_text, false≢true, path, path_of, percent_decode, refl, sym, ℕ, ◌∙◌, ◌≡◌}
 use Rattle.sd_script.proofs.paths.percent_path.Goals as goal
 
 -- a word that doesn't spell a slash is read as what it spells

@@ -1,9 +1,5 @@
 -- Without ids and JSON, a line is answered as in a script.
-use Rattle.std.proofs.Common.{◌≡◌, ◌++◌, ℕ, List, false, refl, ◌∙◌, ap}
-use Rattle.sd_lines.proofs.InOrder.{seen_as}
-use Rattle.sd_script.specs.Output.{IsNext}
-use Rattle.sd_script.specs.Printed.{IsNextServed}
-use Rattle.sd_script.specs.declared.script_state.ScriptState.{ScriptState}
+use Rattle.sd_script.proofs.Cited.{IsNext, IsNextServed, List, ScriptState, ap, false, refl, seen_as, ℕ, ◌++◌, ◌∙◌, ◌≡◌}
 use Rattle.sd_script.proofs.script.script_output.Goals as goal
 
 plainly : (old new : ScriptState) (line printed : List ℕ) → IsNextServed false false old line printed new → IsNext old line printed new

@@ -1,6 +1,5 @@
 -- A line opens a store just where none is open.
-use Rattle.std.proofs.Common.{not, ◌∙◌, ap}
-use Rattle.sd_script.specs.Output.{is_open}
+use Rattle.sd_script.proofs.Cited.{ap, is_open, not, ◌∙◌}
 use Rattle.sd_script.proofs.Timely.{line_opens}
 use Rattle.sd_script.proofs.script.told.Goals as goal
 

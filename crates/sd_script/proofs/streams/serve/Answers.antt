@@ -1,6 +1,5 @@
 -- What is counted of the lines is what the state after the last one has.
-use Rattle.std.proofs.Common.{refl}
-use Rattle.std.proofs.lemmas.Result.{err_from_is_err_and}
+use Rattle.sd_script.proofs.Cited.{err_from_is_err_and, refl}
 use Rattle.sd_script.proofs.streams.serve.Goals as goal
 
 pub returns-clause-ok : goal.returns-clause-ok

@@ -1,11 +1,4 @@
-use Rattle.std.proofs.Common.{◌≡◌, ◌++◌, [], None, Some, refl, ◌∙◌, ap, append-nil, inl, inr, sym}
-use Rattle.std.specs.Prelude.{is_some}
-use Rattle.std.specs.Str.Lines.{lines}
-use Rattle.sd_lines.specs.Answers.{AreAnswered}
-use Rattle.sd_lines.proofs.InOrder.{seen_as}
-use Rattle.sd_script_audit.specs.Audit.{IsNextInAudit, before_first_line}
-use Rattle.sd_script_audit.specs.Parts.{before_queries}
-use Rattle.sd_script_audit.specs.declared.opening.Unopened.{Unopened}
+use Rattle.sd_script_audit.proofs.Cited.{AreAnswered, IsNextInAudit, None, Some, Unopened, [], ap, append-nil, before_first_line, before_queries, inl, inr, is_some, lines, refl, seen_as, sym, ◌++◌, ◌∙◌, ◌≡◌}
 use Rattle.sd_script_audit.proofs.Lines.{lines_before}
 use Rattle.sd_script_audit.proofs.output.audit_output.Goals as goal
 

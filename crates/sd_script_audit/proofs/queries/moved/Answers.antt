@@ -1,9 +1,5 @@
 -- The node's entries before are those in the tree of all edits that were accepted until then.
-use Rattle.std.proofs.Common.{◌≡◌, ◌∙◌, refl, string_bytes, subst, sym}
-use Rattle.std.proofs.lemmas.Result.{IfOk-weaker}
-use Rattle.sd_script.specs.Importing.{entries_at}
-use Rattle.sd_script.specs.Moving.{IsMoved}
-use Rattle.sd_script_audit.specs.Parts.{machine_of}
+use Rattle.sd_script_audit.proofs.Cited.{IfOk-weaker, IsMoved, entries_at, machine_of, refl, string_bytes, subst, sym, ◌∙◌, ◌≡◌}
 use Rattle.sd_script_audit.proofs.queries.moved.Goals as goal
 
 pub returns : goal.returns

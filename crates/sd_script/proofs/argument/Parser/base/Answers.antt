@@ -1,6 +1,5 @@
 -- Where one of the words is no group, they are no base.
-use Rattle.std.proofs.Common.{Err, ap, refl}
-use Rattle.sd_answer.proofs.OneToken.{groups_or_none}
+use Rattle.sd_script.proofs.Cited.{Err, ap, groups_or_none, refl}
 use Rattle.sd_script.proofs.argument.Parser.base.Goals as goal
 
 pub returns-in-Err-NoWord : goal.returns-in-Err-NoWord

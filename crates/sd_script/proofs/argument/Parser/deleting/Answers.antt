@@ -1,6 +1,5 @@
 -- The arguments are parsed one after another.
-use Rattle.std.proofs.Common.{inl, inr, refl}
-use Rattle.sd_answer.specs.Word.{texts}
+use Rattle.sd_script.proofs.Cited.{inl, inr, refl, texts}
 use Rattle.sd_script.specs.Command.{deletes}
 use Rattle.sd_script.proofs.Readings.{takes}
 use Rattle.sd_script.proofs.argument.Parser.deleting.Goals as goal

@@ -1,8 +1,6 @@
 -- The arguments are parsed one after another.
-use Rattle.std.proofs.Common.{Ok, ap, inl, inr}
-use Rattle.sd_answer.specs.Word.{texts}
+use Rattle.sd_script.proofs.Cited.{Ok, Viewing, ap, inl, inr, texts}
 use Rattle.sd_script.specs.Command.{asks_groups}
-use Rattle.sd_script.specs.declared.line_request.LineRequest.TheVariants.{Viewing}
 use Rattle.sd_script.proofs.Readings.{takes}
 use Rattle.sd_script.proofs.argument.Parser.granted.Goals as goal
 

@@ -1,6 +1,5 @@
 -- The arguments are parsed one after another.
-use Rattle.std.proofs.Common.{Ok, ap, inl, inr}
-use Rattle.sd_answer.specs.Word.{texts}
+use Rattle.sd_script.proofs.Cited.{Ok, ap, inl, inr, texts}
 use Rattle.sd_script.specs.Command.{posed}
 use Rattle.sd_script.proofs.Readings.{takes}
 use Rattle.sd_script.proofs.argument.Parser.posed.Goals as goal

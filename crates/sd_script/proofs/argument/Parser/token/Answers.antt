@@ -1,6 +1,5 @@
 -- Where one of the words is none, they make no token.
-use Rattle.std.proofs.Common.{Err, ap, refl}
-use Rattle.sd_answer.proofs.OneToken.{token_or_none}
+use Rattle.sd_script.proofs.Cited.{Err, ap, refl, token_or_none}
 use Rattle.sd_script.proofs.argument.Parser.token.Goals as goal
 
 pub returns-in-Err-NoWord : goal.returns-in-Err-NoWord

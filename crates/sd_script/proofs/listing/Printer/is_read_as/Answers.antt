@@ -1,9 +1,4 @@
-use Rattle.std.proofs.Common.{◌≡◌, ◌∙◌, Ok, Result, subst, sym}
-use Rattle.std.proofs.lemmas.Bool.{false≢true}
-use Rattle.sd_script.specs.Command.{line_asks}
-use Rattle.sd_script.specs.declared.line_request.LineRequest.{LineRequest}
-use Rattle.sd_script.specs.declared.fault.LineFault.{LineFault}
-use Rattle.sd_script.specs.declared.script_options.Notation.{Notation}
+use Rattle.sd_script.proofs.Cited.{LineFault, LineRequest, Notation, Ok, Result, false≢true, line_asks, subst, sym, ◌∙◌, ◌≡◌}
 use Rattle.sd_script.proofs.OneReading.{line-one}
 use Rattle.sd_script.proofs.listing.Printer.is_read_as.Goals as goal
 

@@ -1,8 +1,4 @@
-use Rattle.std.proofs.Common.{◌≡◌, ◌+◌, [], false, true, arith}
-use Rattle.std.specs.FinMap.{len}
-use Rattle.sd_edit.specs.Journal.{replay}
-use Rattle.std.proofs.lemmas.List.{nil_from_length}
-use Rattle.std.proofs.lemmas.Bool.Decides.{nat_tests}
+use Rattle.sd_script.proofs.Cited.{[], arith, false, len, nat_tests, nil_from_length, replay, true, ◌+◌, ◌≡◌}
 use Rattle.sd_script.proofs.Dumping.{all_asked, asks_otherwise, asks_this, nothing_asks}
 use Rattle.sd_script.proofs.listing.Printer.is_read_back.Goals as goal
 use Rattle.sd_script.proofs.listing.Printer.is_read_back.Goals.{else-loop-index-test, then-loop-index-test+else-is_empty+in_ok-is_read_as+else-not-branch+else-index-index-end}

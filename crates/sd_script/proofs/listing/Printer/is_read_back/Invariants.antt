@@ -1,9 +1,6 @@
 -- Whether the lines that are left ask for what is left decides whether all lines ask for what makes the tree.
+use Rattle.sd_script.proofs.Cited.{Decides, IsReadBack, lines, replay}
 use Rattle.std.specs.Prelude.{Bool}
-use Rattle.std.specs.Bool.{Decides}
-use Rattle.std.specs.Str.Lines.{lines}
-use Rattle.sd_edit.specs.Journal.{replay}
-use Rattle.sd_script.specs.Dump.{IsReadBack}
 use Rattle.sd_script.proofs.Dumping.{AreLeft}
 use Rattle.sd_script.proofs.listing.Printer.is_read_back.Given as goal
 

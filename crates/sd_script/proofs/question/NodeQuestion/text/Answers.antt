@@ -1,6 +1,4 @@
-use Rattle.std.proofs.Common.{◌∙◌, ap, length, sym}
-use Rattle.std.specs.Prelude.{option_map}
-use Rattle.sd_acl.specs.Descriptor.{descriptor_of}
+use Rattle.sd_script.proofs.Cited.{ap, descriptor_of, length, option_map, sym, ◌∙◌}
 use Rattle.sd_script.proofs.question.NodeQuestion.text.Goals as goal
 
 pub returns-in_ok-lines-in-Why : goal.returns-in_ok-lines-in-Why

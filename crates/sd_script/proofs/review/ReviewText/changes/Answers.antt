@@ -1,7 +1,4 @@
-use Rattle.std.proofs.Common.{rules, ◌++◌, ◌∙◌, ap, string_bytes}
-use Rattle.std.specs.FinMap.{entries}
-use Rattle.sd_script.specs.Review.{IsNodeReview}
-use Rattle.sd_review.specs.Review.{trees_of}
+use Rattle.sd_script.proofs.Cited.{IsNodeReview, ap, entries, rules, string_bytes, trees_of, ◌++◌, ◌∙◌}
 use Rattle.sd_script.proofs.Dumping.{none_past, nothing_left}
 use Rattle.sd_script.proofs.Reviewed.{printed_all, printed_next}
 use Rattle.sd_script.proofs.review.ReviewText.changes.Goals as goal

@@ -1,10 +1,5 @@
 -- The lines so far, and those of the nodes that are left; the last comparison.
-use Rattle.std.proofs.Common.{string_bytes}
-use Rattle.std.specs.FinMap.{entries}
-use Rattle.std.specs.Option.{ForSome}
-use Rattle.sd_script.specs.Review.{IsNodeReview}
-use Rattle.sd_review.specs.Compared.{IsRight}
-use Rattle.sd_review.specs.Review.{trees_of}
+use Rattle.sd_script.proofs.Cited.{ForSome, IsNodeReview, IsRight, entries, string_bytes, trees_of}
 use Rattle.sd_script.proofs.Reviewed.{ArePrintedTo}
 use Rattle.sd_script.proofs.review.ReviewText.changes.Given as goal
 

@@ -1,12 +1,6 @@
 -- The lines of a node that was moved.
-use Rattle.std.proofs.Common.{◌≡◌, rules, true, List, ℕ, ◌++◌, sym, ◌∙◌, ap, string_bytes, refl, append_assoc}
-use Rattle.sd_edit.specs.declared.node.NodeRow.{NodeRow}
-use Rattle.sd_path.specs.Names.{Names, is_within}
-use Rattle.sd_tree.specs.Listing.{listed}
-use Rattle.sd_review.specs.Review.{Trees, former, trees_of}
-use Rattle.sd_review.specs.declared.review.Former.TheVariants.{Moved}
-use Rattle.sd_script.specs.Review.{IsCompared, IsNodeReview, moved_line}
-use Rattle.sd_script.specs.declared.script_options.Notation.{Notation}
+use Rattle.sd_script.proofs.Cited.{IsCompared, IsNodeReview, List, Moved, Names, NodeRow, Notation, Trees, ap, append_assoc, former, is_within, listed, refl, rules, string_bytes, sym, trees_of, true, ℕ, ◌++◌, ◌∙◌, ◌≡◌}
+use Rattle.sd_script.specs.Review.{moved_line}
 use Rattle.sd_script.proofs.review.ReviewText.changes_at.Goals as goal
 
 moved_text : (notation : Notation) (ts : Trees) (top path before : Names) (row : NodeRow) (first changes text : List ℕ) → is_within top path ≡ true

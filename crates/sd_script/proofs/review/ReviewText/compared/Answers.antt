@@ -1,7 +1,4 @@
-use Rattle.std.proofs.Common.{Some, subst}
-use Rattle.sd_edit.specs.Answers.{descriptor_at, kind_at}
-use Rattle.sd_review.specs.Compared.{IsOfBoth, is_container}
-use Rattle.sd_review.specs.Review.{trees_of}
+use Rattle.sd_script.proofs.Cited.{IsOfBoth, Some, descriptor_at, is_container, kind_at, subst, trees_of}
 use Rattle.sd_script.proofs.review.ReviewText.compared.Goals as goal
 
 pub returns-clause-text : goal.returns-clause-text

@@ -1,8 +1,4 @@
-use Rattle.std.proofs.Common.{false, string_bytes}
-use Rattle.std.proofs.lemmas.Result.{IfOk-weaker}
-use Rattle.sd_script.proofs.Timely.{line_opens}
-use Rattle.sd_script_audit.specs.Audit.{unopened}
-use Rattle.sd_script_audit.specs.Parts.{without_queries}
+use Rattle.sd_script_audit.proofs.Cited.{IfOk-weaker, false, line_opens, string_bytes, unopened, without_queries}
 use Rattle.sd_script_audit.proofs.Lines.{answered, on_printed}
 use Rattle.sd_script_audit.proofs.opening.OpeningsAnswersLines.answer.Goals as goal
 

@@ -1,9 +1,4 @@
-use Rattle.std.proofs.Common.{◌++◌, refl, ◌∙◌, ap, append_assoc}
-use Rattle.std.proofs.lemmas.Result.{on_ok_weaker}
-use Rattle.sd_lines.proofs.InOrder.{seen_as}
-use Rattle.sd_script.specs.declared.session.Session.TheVariants.{Opened}
-use Rattle.sd_script_audit.specs.Audit.{IsNextInAudit, end_of}
-use Rattle.sd_script_audit.specs.Parts.{audited, machine_of}
+use Rattle.sd_script_audit.proofs.Cited.{IsNextInAudit, Opened, ap, append_assoc, audited, end_of, machine_of, on_ok_weaker, refl, seen_as, ◌++◌, ◌∙◌}
 use Rattle.sd_script_audit.proofs.queries.Queries.answered.Goals as goal
 
 pub returns-clause-audited : goal.returns-clause-audited

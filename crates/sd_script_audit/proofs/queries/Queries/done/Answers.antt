@@ -1,6 +1,4 @@
-use Rattle.std.proofs.Common.{refl, sym}
-use Rattle.std.proofs.lemmas.Result.{IfOk-weaker}
-use Rattle.sd_script_audit.specs.Parts.{machine_of}
+use Rattle.sd_script_audit.proofs.Cited.{IfOk-weaker, machine_of, refl, sym}
 use Rattle.sd_script_audit.proofs.queries.Queries.done.Goals as goal
 
 pub returns-in-Ok-Importing : goal.returns-in-Ok-Importing

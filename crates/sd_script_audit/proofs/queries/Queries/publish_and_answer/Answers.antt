@@ -1,6 +1,4 @@
-use Rattle.std.proofs.Common.{◌++◌, ◌<◌, length, sym, ◌∙◌, ap, arith}
-use Rattle.sd_store.specs.Sights.{Told}
-use Rattle.sd_edit.specs.declared.reply.Answer.{Answer}
+use Rattle.sd_script_audit.proofs.Cited.{Answer, Told, ap, arith, length, sym, ◌++◌, ◌<◌, ◌∙◌}
 use Rattle.sd_script_audit.proofs.Answering.{answered_more, replies_by, some_of}
 use Rattle.sd_script_audit.proofs.queries.Queries.publish_and_answer.Goals as goal
 

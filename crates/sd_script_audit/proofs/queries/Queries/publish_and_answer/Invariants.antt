@@ -1,7 +1,5 @@
 -- The queries so far are answered, by all that was accepted.
-use Rattle.std.proofs.Common.{◌≡◌, ◌++◌, take}
-use Rattle.std.specs.List.{flat_map}
-use Rattle.sd_script_audit.specs.Audit.{answer_line}
+use Rattle.sd_script_audit.proofs.Cited.{answer_line, flat_map, take, ◌++◌, ◌≡◌}
 use Rattle.sd_script_audit.proofs.queries.Queries.publish_and_answer.Given as goal
 
 abbrev pub invariant-loop-answer : goal.invariant-loop-answer

@@ -1,7 +1,4 @@
-use Rattle.std.proofs.Common.{true, string_bytes}
-use Rattle.std.proofs.lemmas.Result.{IfOk-weaker}
-use Rattle.sd_script.proofs.Timely.{line_opens}
-use Rattle.sd_script_audit.specs.Parts.{progress}
+use Rattle.sd_script_audit.proofs.Cited.{IfOk-weaker, line_opens, progress, string_bytes, true}
 use Rattle.sd_script_audit.proofs.Lines.{answered, on_printed}
 use Rattle.sd_script_audit.proofs.queries.QueriesAnswersLines.answer.Goals as goal
 

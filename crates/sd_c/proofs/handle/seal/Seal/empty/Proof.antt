@@ -1,33 +1,8 @@
 -- `empty` makes a seal of nothing, which owns its handle on memory alone.
+use Rattle.sd_c.proofs.Cited.{ !, Fun, Goes-dropped, Item, List, Logic, Memory, RawPtr, Routine, SProp, Slot, Stays, T, Tables, Ura, Val, WT, WpFn, WpFn-mono, agg, alloc_all, and_then, box_ty, by, done, drop, emp, ends_at, ent, enter, entered, feq_l, free_all, fsep, fsplit, ftrue, get, handle_tells, has_ty, join, look_at, move, no_more, nothing, of_list, pass_all, plain, ptr_val, qed, raw, returns, says, sets, split, stay_dropped, suffices, tables, triple_of, ty_ptr, vstruct, walk_Meets, walk_of, yes, α, ‵, ◌$◌, ◌++◌, ◌∵◌, ◌∷◌, ◌⊛◌}
 use mathlib.Core.Path.{refl, sym, subst}
-use mathlib.Core.List.{List, [], ◌∷◌, ◌++◌}
-use seplogic.Ra.Ura.{Ura}
-use mir.Syntax.{ty_ptr}
-use lib.Dec.{T}
-use mir.Val.{Val, vstruct, of_list, has_ty, WT}
-use Rattle.std_alloc.proofs.BoxSteps.Form.{box_ty}
-use denote.Builtin.{RawPtr}
-use denote.RawPtr.{ptr_val}
-use denote.Signature.{Slot, plain}
-use base.Logic.{SProp, ent, emp}
-use base.Fml.{ftrue, fsep}
-use prog.Memory.{Memory}
-use prog.Routine.{Routine}
-use prog.Wp.{WpFn, Tables}
-use types.Logic.{Logic}
-use contract.Monad.{Fun}
-use contract.Running.{tables, tables_of}
-use sound.WpLaws.{WpFn-mono}
-use types.Kit.{Item, ‵, raw, ◌⊛◌, ◌$◌, ◌∵◌, !, qed, by, move, drop, join, split, fsplit, feq_l, suffices, done}
-use types.Part.{agg}
-use types.Run.{no_more, and_then, returns, enter}
-use types.ByLocal.{alloc_all, pass_all, free_all, look_at, get, sets}
-use denote.Exit.{yes}
-use denote.Steps.{nothing}
-use denote.Triple.Spec.{triple_of}
-use denote.Triple.Table.{entered}
-use denote.Triple.Walked.{says, Stays, stay_dropped, walk_of, ends_at, Goes-dropped, walk_Meets}
-use Rattle.core.proofs.alloc.Calls.{handle_tells, α}
+use mathlib.Core.List.{[]}
+use contract.Running.{tables_of}
 use Rattle.std_heap.specs.contracts.Global as Heap
 use Rattle.sd_c.proofs.SealSteps.{E, Sd, seal_empty, ptr_typed, both_tt, some_kept}
 use Rattle.sd_c.specs.contracts.handle.seal.Seal as Seal

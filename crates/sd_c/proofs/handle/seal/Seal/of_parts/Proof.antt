@@ -1,28 +1,8 @@
 -- `of_parts` moves two fields into a seal, and what they own goes with them.
+use Rattle.sd_c.proofs.Cited.{ !, B, D, Fun, Goes-dropped, Item, List, Logic, Memory, Routine, SProp, Stays, Tables, Ura, Val, WpFn, WpFn-mono, agg, alloc_all, and_then, box_out, box_typed, by, done, drop, emp, ends_at, ent, enter, entered, fjoin, fld, free_all, fsep, fsplit, ftrue, get, get_in, join, look_at, move, no_more, nothing, of_opd, pass_all, qed, raw, returns, says, sets, split, stay_dropped, stop, sub, suffices, tables, triple_of, walk_Meets, walk_of, whole, word, yes, ‵, ◌$◌, ◌++◌, ◌∵◌, ◌∷◌, ◌⊛◌}
 use mathlib.Core.Path.{refl, sym, subst}
-use mathlib.Core.List.{List, [], ◌∷◌, ◌++◌}
-use seplogic.Ra.Ura.{Ura}
-use mir.Val.{Val}
-use base.Logic.{SProp, ent, emp}
-use base.Fml.{ftrue, fsep}
-use prog.Memory.{Memory}
-use prog.Routine.{Routine}
-use prog.Wp.{WpFn, Tables}
-use types.Logic.{Logic}
-use contract.Monad.{Fun}
-use contract.Running.{tables, tables_of}
-use sound.WpLaws.{WpFn-mono}
-use types.Kit.{Item, ‵, raw, ◌⊛◌, ◌$◌, ◌∵◌, !, qed, by, move, drop, join, split, fsplit, fjoin, suffices, done}
-use types.Part.{whole, sub, agg}
-use types.Run.{stop, fld, no_more, and_then, of_opd, returns, enter}
-use types.ByLocal.{alloc_all, pass_all, free_all, look_at, get, get_in, sets}
-use denote.Exit.{yes}
-use denote.Steps.{nothing}
-use denote.Triple.Spec.{triple_of}
-use denote.Triple.Table.{entered}
-use denote.Triple.Walked.{says, Stays, stay_dropped, walk_of, ends_at, Goes-dropped, walk_Meets}
-use Rattle.std_alloc.proofs.BoxSteps.Form.{D, B, word, box_typed}
-use Rattle.std_alloc.proofs.BoxSteps.Steps.{box_out}
+use mathlib.Core.List.{[]}
+use contract.Running.{tables_of}
 use Rattle.sd_c.proofs.SealSteps.{E, FromParts as From, Sd, seal_in}
 use Rattle.sd_c.specs.contracts.handle.seal.Seal as Seal
 use Rattle.sd_c.specs.contracts.handle.seal.Seal.of_parts as F
