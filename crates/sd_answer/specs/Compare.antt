@@ -1,5 +1,5 @@
--- What `compare` prints: `same`, or the rights that tokens gain and those that they lose, with a token that shows it.
-use Rattle.std.specs.Prelude.{ℕ, ◌==◌, ◌&&◌, ◌||◌, if◌then◌else◌, List, [], ◌++◌, length, map, codes}
+-- What `compare` prints of the rights that tokens gain and those that they lose, each with a token that shows it.
+use Rattle.std.specs.Prelude.{ℕ, ◌||◌, if◌then◌else◌, List, ◌++◌, map, codes}
 use Rattle.std.specs.List.{flat_map}
 use Rattle.std.specs.Option.{option_to_list}
 use Rattle.sd_sid.specs.Sid.{SidValue}
@@ -7,7 +7,6 @@ use Rattle.sd_text.specs.Canon.{full_canon}
 use Rattle.sd_analysis.specs.Sufficient.{Parts, is_named, restricting_of}
 use Rattle.sd_analysis.specs.declared.compare_report.Change.{Change}
 use Rattle.sd_analysis.specs.declared.witness.Witness.{Witness}
-use Rattle.sd_answer.specs.VerdictLines.{line}
 use Rattle.sd_answer.specs.Lines.{LineValue, lines_text, sid_text}
 use Rattle.sd_answer.specs.declared.verdict_lines.Spelling.{Spelling}
 
@@ -37,8 +36,3 @@ abbrev pub gains_and_losses : Spelling → List ℕ → Parts → Parts → List
 gains_and_losses spelling head old new gained lost =
     changes_text spelling (head ++ codes "gained ") old new gained
     ++ changes_text spelling (head ++ codes "lost ") old new lost
-
-abbrev pub compare_text : Spelling → Parts → Parts → List Change → List Change → List ℕ
-compare_text spelling old new gained lost =
-    if length gained == 0 && length lost == 0 then line (codes "same")
-    else gains_and_losses spelling [] old new gained lost

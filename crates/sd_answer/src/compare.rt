@@ -2,7 +2,7 @@
 ghost use Rattle.std.specs.Prelude.{◌≡◌, ◌++◌, IfOk, OnOk, codes, map, string_bytes};
 ghost use Rattle.std.specs.Option.{option_to_list};
 ghost use Rattle.sd_analysis.specs.Sufficient.{parts_of, restricting_of};
-ghost use Rattle.sd_answer.specs.Compare.{arguments_text, change_line, compare_text, gains_and_losses};
+ghost use Rattle.sd_answer.specs.Compare.{arguments_text, change_line, gains_and_losses};
 ghost use Rattle.sd_answer.specs.Compare.{user_text, witness_text};
 ghost use Rattle.sd_answer.specs.Lines.{values};
 
@@ -13,26 +13,9 @@ use sd_sid::Sid;
 use sd_text::print_full_sid;
 use std::alloc::{AllocError, Global};
 
-/// The lines of a comparison of these descriptors: `same`, or as `gained 0x2 by S-1-5-32-545 S-1-5-32-546=deny` and
-/// `lost ..`, each in the order of the lowest rights. The only error is out of memory.
-pub fn compare_text(
-    alloc: Global,
-    spelling: Spelling,
-    old: &DescriptorRef<'_>,
-    new: &DescriptorRef<'_>,
-    comparison: &Comparison,
-) -> Result<String, AllocError>
-    ensures { IfOk result (λ text. string_bytes text ≡ compare_text spelling (parts_of old.now) (parts_of new.now)
-        comparison.now.gained.items comparison.now.lost.items) }
-{
-    if comparison.gained.is_empty() && comparison.lost.is_empty() {
-        return String::from_str(alloc, "same\n");
-    }
-    gains_and_losses(alloc, spelling, "", old, new, comparison)
-}
-
-/// The lines of a comparison of these descriptors, each after a head: none where nothing changes. The only error is out
-/// of memory.
+/// The lines of a comparison of these descriptors, as `gained 0x2 by S-1-5-32-545 S-1-5-32-546=deny`, each after a
+/// head, the gains first, in the order of the lowest rights: none where nothing changes. The only error is out of
+/// memory.
 pub fn gains_and_losses(
     alloc: Global,
     spelling: Spelling,

@@ -27,7 +27,7 @@ mod who;
 mod why;
 mod word;
 
-pub use compare::{compare_text, gains_and_losses};
+pub use compare::gains_and_losses;
 pub use descendants::{descendant_head, descendants_text, descendants_who_text, inheritance_text};
 pub use descriptor::read_sddl_argument;
 pub use laws::{masks_come_back, names_are_distinct};

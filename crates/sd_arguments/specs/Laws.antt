@@ -8,7 +8,8 @@ use Rattle.sd_usage.specs.declared.row.OptionName.TheVariants.{Domain, Names}
 use Rattle.sd_usage.specs.declared.row.DescriptorCommand.{DescriptorCommand}
 use Rattle.sd_usage.specs.declared.row.DescriptorCommand.TheVariants.{Why}
 use Rattle.sd_usage.specs.declared.row.TextCommand.TheVariants.{Descriptor}
-use Rattle.sd_usage.specs.declared.table.TheConstants.{COMMANDS, OPTIONS}
+use Rattle.sd_usage.specs.declared.option_table.TheConstants.{OPTIONS}
+use Rattle.sd_usage.specs.declared.table.TheConstants.{COMMANDS}
 use Rattle.sd_arguments.specs.CommandLine.{CallValue, CommandLineValue, InvocationValue, RequestValue, Ask, Each}
 use Rattle.sd_arguments.specs.CommandLine.{Runs, reading, request_on, text_request}
 use Rattle.sd_arguments.specs.Options.{no_options, with_value}

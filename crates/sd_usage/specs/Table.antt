@@ -15,7 +15,8 @@ use Rattle.sd_usage.specs.declared.row.Flags.{Flags}
 use Rattle.sd_usage.specs.declared.row.Flags.TheVariants as flags
 use Rattle.sd_usage.specs.declared.row.OptionName.{OptionName}
 use Rattle.sd_usage.specs.declared.row.ProgramOption.{ProgramOption}
-use Rattle.sd_usage.specs.declared.table.TheConstants.{COMMANDS, OPTIONS}
+use Rattle.sd_usage.specs.declared.option_table.TheConstants.{OPTIONS}
+use Rattle.sd_usage.specs.declared.table.TheConstants.{COMMANDS}
 
 -- what the first row has for which the test holds
 abbrev pub first_of : {Row Value : Type 0} → (Row → Bool) → (Row → Value) → List Row → Option Value

@@ -12,6 +12,7 @@
 
 mod names;
 mod notes;
+mod option_table;
 mod options;
 mod row;
 mod table;
@@ -19,10 +20,11 @@ mod texts;
 mod usage;
 
 pub use names::{Commands, argument_name, listed_commands, usage_line};
+pub use option_table::OPTIONS;
 pub use row::{
     Argument, Arguments, Command, CommandName, CommandRow, DescriptorCommand, Flag, Flags,
     OPTION_COUNT, OptionName, OptionRow, ProgramOption, TextCommand, Value, command_named,
     option_named, takes_option,
 };
-pub use table::{COMMANDS, OPTIONS};
+pub use table::COMMANDS;
 pub use usage::help;

@@ -5,7 +5,8 @@ ghost use Rattle.sd_usage.specs.Table.{argument_at, command_named, count_of, fir
 ghost use Rattle.sd_usage.specs.Table.{option_named, place, takes_count, takes_option};
 ghost use Rattle.sd_usage.specs.declared.row.TheConstants.{OPTION_COUNT};
 
-use crate::table::{COMMANDS, OPTIONS};
+use crate::option_table::OPTIONS;
+use crate::table::COMMANDS;
 
 /// The name of a command, the command, the options that may go before it, what it does, and a command line that runs as
 /// it stands.

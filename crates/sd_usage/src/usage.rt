@@ -2,8 +2,9 @@
 
 use crate::names::argument_name;
 use crate::notes::NOTES;
+use crate::option_table::option_rows;
 use crate::row::{Argument, CommandName, CommandRow, Flag, OptionRow, Value};
-use crate::table::{command_rows, option_rows};
+use crate::table::command_rows;
 use crate::texts::{CommandTexts, flag_help, option_help};
 use clap::{Arg, ArgAction, Command};
 use std::alloc::{AllocError, Global};

@@ -1,0 +1,213 @@
+//! The table of options.
+
+use crate::row::{OptionName, OptionRow, ProgramOption, Value};
+
+/// The options before a command, in the order in which help lists them.
+pub const OPTIONS: &[OptionRow] = &[
+    (
+        "--stdin",
+        ProgramOption {
+            name: OptionName::Stdin,
+            value: None,
+            excludes: None,
+        },
+        "\
+standard input takes the place of the first argument: in UTF-8, or in UTF-16 after a byte order
+mark, and without a line end at its end",
+    ),
+    (
+        "--names",
+        ProgramOption {
+            name: OptionName::Names,
+            value: None,
+            excludes: None,
+        },
+        "\
+prints masks by the names of their kind of object, as FR+WD instead of 0x160089, takes such names as
+MASK, and prints entries with names of that kind alone",
+    ),
+    (
+        "--without-sacl",
+        ProgramOption {
+            name: OptionName::WithoutSacl,
+            value: None,
+            excludes: None,
+        },
+        "\
+drops a section S:, whatever its entries, or the SACL in bytes, and reports it on standard error,
+but not of a script's lines",
+    ),
+    (
+        "--require-dacl",
+        ProgramOption {
+            name: OptionName::RequireDacl,
+            value: None,
+            excludes: None,
+        },
+        "a descriptor without a DACL, or with a null one, is a fault: either grants everything",
+    ),
+    (
+        "--below",
+        ProgramOption {
+            name: OptionName::Below,
+            value: None,
+            excludes: None,
+        },
+        "also prints to whom the rights of what is made in the object are granted, if it is a container",
+    ),
+    (
+        "--risks",
+        ProgramOption {
+            name: OptionName::Risks,
+            value: None,
+            excludes: None,
+        },
+        "\
+also reports risks: what Everyone and SIDs of nearly everybody, as Domain Users, are granted to
+change of the object and of what is made in it, an empty list, an owner without a way to read, and
+SIDs of no known kind",
+    ),
+    (
+        "--base64",
+        ProgramOption {
+            name: OptionName::Base64,
+            value: None,
+            excludes: Some(OptionName::Loose),
+        },
+        "the bytes are in base64",
+    ),
+    (
+        "--loose",
+        ProgramOption {
+            name: OptionName::Loose,
+            value: None,
+            excludes: Some(OptionName::Base64),
+        },
+        "\
+the bytes are as other tools write them: in hexadecimal, in parts that tabs, spaces, commas,
+backslashes and line ends separate, each with or without '0x'; or a whole value of a .reg file, of
+LDIF, or of getfattr, also Samba's security.NTACL",
+    ),
+    (
+        "--percent",
+        ProgramOption {
+            name: OptionName::Percent,
+            value: None,
+            excludes: None,
+        },
+        "\
+paths are percent-encoded, in the input and in the output: '%' and two hexadecimal digits are a
+byte",
+    ),
+    (
+        "--strict",
+        ProgramOption {
+            name: OptionName::Strict,
+            value: None,
+            excludes: None,
+        },
+        "\
+the status is 1 if a line has a fault or is refused, or an import isn't answered 'ok', and standard
+error reports the first line of each kind",
+    ),
+    (
+        "--nodes",
+        ProgramOption {
+            name: OptionName::Nodes,
+            value: Some(Value::Number),
+            excludes: None,
+        },
+        "the most nodes of the tree, the root counted: 1 to 16777216, by default 65536",
+    ),
+    (
+        "--edits",
+        ProgramOption {
+            name: OptionName::Edits,
+            value: Some(Value::Number),
+            excludes: None,
+        },
+        "the most edits of its journal: 0 to 4294967296, by default 1048576",
+    ),
+    (
+        "--domain",
+        ProgramOption {
+            name: OptionName::Domain,
+            value: Some(Value::Sid),
+            excludes: None,
+        },
+        "\
+the aliases of a domain's accounts and groups, as DA, are SIDs of the domain with this SID:
+S-1-5-21 and three numbers, as S-1-5-21-1-2-3",
+    ),
+    (
+        "--aliases",
+        ProgramOption {
+            name: OptionName::Aliases,
+            value: None,
+            excludes: None,
+        },
+        "\
+the aliases of newer versions of Windows are aliases too: AA, ES, HA, MS, RA, RM and UD, and of a
+domain AP, CN, KA and RO",
+    ),
+    (
+        "--mapping",
+        ProgramOption {
+            name: OptionName::Mapping,
+            value: Some(Value::Kind),
+            excludes: None,
+        },
+        "\
+the generic mapping, that of a 'file' (the default), of a registry 'key', of a 'service' or of a
+'process', or R,W,X,A, the four masks of GR, GW, GX and GA",
+    ),
+    (
+        "--logon",
+        ProgramOption {
+            name: OptionName::Logon,
+            value: Some(Value::Logon),
+            excludes: None,
+        },
+        "\
+adds the groups that Windows gives to a user who logs on so, 'interactive', 'network', 'batch',
+'service' or 'anonymous', as Everyone, Authenticated Users and NETWORK",
+    ),
+    (
+        "--json",
+        ProgramOption {
+            name: OptionName::Json,
+            value: None,
+            excludes: None,
+        },
+        "\
+prints each line of the answer as an object of JSON in a line, with what kind of line it is and its
+words by their names",
+    ),
+    (
+        "--caret",
+        ProgramOption {
+            name: OptionName::Caret,
+            value: None,
+            excludes: None,
+        },
+        "\
+a message that names a byte of an argument shows the text, with a caret under that byte, as it does
+in any case where standard error is a terminal",
+    ),
+    (
+        "--strict-status",
+        ProgramOption {
+            name: OptionName::StrictStatus,
+            value: None,
+            excludes: None,
+        },
+        "\
+the status of a fault is 4 instead of 1, so that 1 says no more than denied, different or found; of
+a script as with --strict",
+    ),
+];
+
+/// The options, for texts: no contract speaks of these, so their proofs don't carry the table along.
+pub(crate) fn option_rows() -> &'static [OptionRow] {
+    OPTIONS
+}
