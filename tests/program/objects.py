@@ -59,7 +59,7 @@ def line_of(object_, table):
             words += value
         else:
             assert type(value) is str
-            words.append(value + ("," if word[0] == "," else ""))
+            words.append(value + (word[0] if word[0] in ",:" else ""))
     return tag + " ".join(words)
 
 
