@@ -995,9 +995,9 @@ class Descriptor(_Bytes):
             call = _library.hudarin_compare
             lines, _ = _filled(lambda *buffer: call(kept._kept, other._kept, *given, masks, *buffer))
         everyone = _unnamed(self, new)
-        told = [line for line in lines.decode().splitlines() if line != "same"]
-        inheritance = told.pop() if told and told[-1].startswith(_INHERITANCE) else ""
-        changes = [_change(line, everyone, groups) for line in told]
+        found = [line for line in lines.decode().splitlines() if line != "same"]
+        inheritance = found.pop() if found and found[-1].startswith(_INHERITANCE) else ""
+        changes = [_change(line, everyone, groups) for line in found]
         own = [tuple(each for each in changes if (each.of, each.kind) == ("", kind)) for kind in ("gained", "lost")]
         return Comparison(own[0], own[1], tuple(each for each in changes if each.of), inheritance)
 
