@@ -18,8 +18,8 @@ use Rattle.sd_answer.specs.declared.verdict_lines.Spelling.TheVariants.{Number, 
 use Rattle.sd_usage.specs.Table.{option_named, place, takes_option}
 use Rattle.sd_usage.specs.declared.row.OptionName.{OptionName}
 use Rattle.sd_usage.specs.declared.row.OptionName.TheVariants.{Aliases, Base64, Below, Caret, Domain, Edits, Json}
-use Rattle.sd_usage.specs.declared.row.OptionName.TheVariants.{Logon, Loose, Mapping, Names, Nodes, Percent}
-use Rattle.sd_usage.specs.declared.row.OptionName.TheVariants.{RequireDacl, Risks, WithoutSacl}
+use Rattle.sd_usage.specs.declared.row.OptionName.TheVariants.{Logon, Loose, Mapping, Names, Nodes, Object}
+use Rattle.sd_usage.specs.declared.row.OptionName.TheVariants.{Percent, RequireDacl, Risks, WithoutSacl}
 use Rattle.sd_usage.specs.declared.row.ProgramOption.{ProgramOption}
 use Rattle.sd_usage.specs.declared.row.TheConstants.{OPTION_COUNT}
 use Rattle.sd_commands.specs.Logon.{GivesLogon, GivesNoLogon}
@@ -119,6 +119,7 @@ pub record AreSettings (options : OptionsValue) (settings : Settings) : Type 0 w
   pub without_sacl : settings.without_sacl ≡ has options WithoutSacl
   pub require_dacl : settings.require_dacl ≡ has options RequireDacl
   pub below : settings.below ≡ has options Below
+  pub object : settings.object ≡ has options Object
   pub risks : settings.risks ≡ has options Risks
   pub bytes : settings.bytes ≡ (if has options Base64 then forms.Base64
       else (if has options Loose then forms.Loose else forms.Hex))

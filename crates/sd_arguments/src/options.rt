@@ -103,6 +103,7 @@ impl<'a> Options<'a> {
             without_sacl: self.has(OptionName::WithoutSacl),
             require_dacl: self.has(OptionName::RequireDacl),
             below: self.has(OptionName::Below),
+            object: self.has(OptionName::Object),
             risks: self.has(OptionName::Risks),
             points: self.has(OptionName::Caret),
             spelling: if self.has(OptionName::Names) {

@@ -1,5 +1,6 @@
 pub mod Cited
 pub mod CharStart
 pub mod Commas
+pub mod ObjectList
 pub mod BytesByPart
 pub mod SortedOrder

@@ -43,6 +43,7 @@ use Rattle.sd_answer.specs.Word.{AreGroups, IsFirstNoGroup, IsFirstNoWord, IsTok
 use Rattle.sd_commands.specs.Analysis.{AreAccesses, AreBelowLines, with_below}
 use Rattle.sd_commands.specs.Logon.{fits_logon, words_for}
 use Rattle.sd_commands.specs.Bytes.{BytesRead, bytes_read, form_name, has_sacl, without_sacl}
+use Rattle.sd_commands.specs.Object.{looked_at}
 use Rattle.sd_usage.specs.declared.row.TextCommand.{TextCommand}
 use Rattle.sd_usage.specs.declared.row.TextCommand.TheVariants as questions
 use Rattle.sd_commands.specs.Pointer.{pointed}
@@ -179,10 +180,11 @@ IsRefusedArgument argument settings written answer =
     × (missing_dacl settings.require_dacl d.dacl ≡ Some missing)
     × Noting argument left_out (IsMissingDacl argument missing) answer)
 
--- the argument is this descriptor, and it is taken
+-- the argument is taken for this descriptor
 abbrev pub IsTaken : Settings → List ℕ → DescriptorValue → Bool → Type 0
-IsTaken settings written d left_out = IsRead settings.aliases settings.without_sacl written d left_out
-    × (missing_dacl settings.require_dacl d.dacl ≡ None)
+IsTaken settings written d left_out = (given : DescriptorValue)
+    × IsRead settings.aliases settings.without_sacl written given left_out
+    × (missing_dacl settings.require_dacl given.dacl ≡ None) × (d ≡ looked_at settings.object given)
 
 -- what the argument of this name is
 abbrev pub IsGiven : List ℕ → Settings → List ℕ → Given → Type 0

@@ -6,6 +6,7 @@ pub mod Escaped
 pub mod Kinds
 pub mod Logon
 pub mod Mapping
+pub mod Object
 pub mod Pointer
 pub mod Risks
 pub mod Sort

@@ -4,6 +4,7 @@ ghost use Rattle.sd_commands.specs.CommandAnswer.{IsGiven, IsNoted, answer_of, m
 
 use crate::command_answer::{Answer, Answered};
 use crate::diagnostic::told_line;
+use crate::object::looked_at;
 use crate::settings::{CommandContext, Settings};
 use sd_acl::Dacl;
 use sd_answer::read_sddl_argument;
@@ -19,7 +20,7 @@ pub(crate) enum Given {
 }
 
 impl CommandContext {
-    /// What the argument of this name is ([MS-DTYP] 2.5.1.1).
+    /// What the argument of this name is ([MS-DTYP] 2.5.1.1), as an object's where that is said.
     pub(crate) fn read_argument(self, name: &str, sddl: &str) -> Result<Given, AllocError>
         ensures { IfOk result (IsGiven name.now self.settings sddl.now) }
     {
@@ -32,7 +33,10 @@ impl CommandContext {
             Err(TextError::Memory) => return Err(AllocError),
         };
         match missing_dacl(self.settings, &read.descriptor.dacl) {
-            None => Ok(Given::Descriptor(read)),
+            None => Ok(Given::Descriptor(WithoutSacl {
+                descriptor: looked_at(self.alloc, self.settings.object, read.descriptor)?,
+                left_out: read.left_out,
+            })),
             Some(missing) => {
                 let answer = self.fault("nodacl", name, missing)?;
                 let answer = note_left_out_sacl(self.alloc, name, read.left_out, answer)?;

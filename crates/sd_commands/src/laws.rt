@@ -1,4 +1,5 @@
-//! What holds of canonical order. Each law is the contract of a function that does nothing.
+//! What holds of canonical order, and of objects. Each law is the contract of a function that does nothing.
+ghost use Rattle.sd_commands.specs.Object.{ObjectDecidesAlike, ObjectHandsNothingOn};
 ghost use Rattle.sd_commands.specs.Sort.{CanonicalStays, SortedIsCanonical};
 
 /// What `sort` prints is in canonical order, and a list that is in it stays as it is ([MS-DTYP] 2.4.5).
@@ -6,4 +7,11 @@ ghost use Rattle.sd_commands.specs.Sort.{CanonicalStays, SortedIsCanonical};
 pub fn sorted_is_canonical()
     ensures canonical { SortedIsCanonical }
     ensures stays { CanonicalStays }
+{}
+
+/// After `--object` each check has the verdict that it has without, and nothing is inherited ([MS-DTYP] 2.4.4.1).
+#[tactic(auto, using(crate::proofs::ObjectList::object_decides_alike, crate::proofs::ObjectList::object_hands_nothing_on))]
+pub fn object_decides_alike()
+    ensures verdicts { ObjectDecidesAlike }
+    ensures nothing { ObjectHandsNothingOn }
 {}

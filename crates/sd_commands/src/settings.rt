@@ -36,6 +36,8 @@ pub struct Settings {
     pub require_dacl: bool,
     /// Whether `who` also looks at what is made in a container.
     pub below: bool,
+    /// Whether descriptors are those of objects and of no containers, and OI and CI of entries are left out.
+    pub object: bool,
     /// Whether `lint` reports risks too.
     pub risks: bool,
     /// How bytes are spelled.

@@ -113,6 +113,8 @@ Prints 'same', or a line for each part of the rights that some user gains or los
 user, as arguments of 'sdstore verdict' after the descriptor and the mask:
   gained 0x1 by S-1-5-32-545 S-1-5-32-546=deny
   lost 0x60000 by S-1-5-32-544
+  new objects: gained 0x1 by S-1-1-0
+The last is about what is made in it, if it is a container, and left out with '--object'.
 'everyone' is any user that neither descriptor names.
 
 Statuses:
@@ -143,6 +145,7 @@ After '--risks' also:
   the owner SID is of no known kind
   the group SID is of no known kind
 Without all entries that have no effect, each check has the same verdict, of what is made in it too.
+With '--object' nothing is made in it: entries are printed without OI and CI.
 
 Statuses:
   0  clean

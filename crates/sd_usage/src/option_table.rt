@@ -56,6 +56,17 @@ but not of a script's lines",
         "also prints to whom the rights of what is made in the object are granted, if it is a container",
     ),
     (
+        "--object",
+        ProgramOption {
+            name: OptionName::Object,
+            value: None,
+            excludes: None,
+        },
+        "\
+the descriptor is that of an object and of no container, as of a file: the flags OI and CI of its
+entries say nothing, and are left out, also where entries are printed",
+    ),
+    (
         "--risks",
         ProgramOption {
             name: OptionName::Risks,

@@ -57,11 +57,26 @@ pub(crate) const WHO_OPTIONS: &[OptionName] = &[
     OptionName::StrictStatus,
 ];
 
+pub(crate) const COMPARE_OPTIONS: &[OptionName] = &[
+    OptionName::Stdin,
+    OptionName::Names,
+    OptionName::WithoutSacl,
+    OptionName::RequireDacl,
+    OptionName::Object,
+    OptionName::Domain,
+    OptionName::Aliases,
+    OptionName::Mapping,
+    OptionName::Json,
+    OptionName::Caret,
+    OptionName::StrictStatus,
+];
+
 pub(crate) const LINT_OPTIONS: &[OptionName] = &[
     OptionName::Stdin,
     OptionName::Names,
     OptionName::WithoutSacl,
     OptionName::RequireDacl,
+    OptionName::Object,
     OptionName::Risks,
     OptionName::Domain,
     OptionName::Aliases,

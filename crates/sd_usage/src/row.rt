@@ -83,6 +83,8 @@ pub enum OptionName {
     RequireDacl,
     /// `--below`.
     Below,
+    /// `--object`.
+    Object,
     /// `--risks`.
     Risks,
     /// `--base64`.
@@ -114,7 +116,7 @@ pub enum OptionName {
 }
 
 /// How many options there are.
-pub const OPTION_COUNT: usize = 19;
+pub const OPTION_COUNT: usize = 20;
 
 /// A command, and what follows it.
 #[derive(Clone, Copy)]

@@ -1,8 +1,8 @@
 //! The table of commands. It and that of options alone say which arguments are a command line.
 
 use crate::options::{
-    BYTES_OPTIONS, LINT_OPTIONS, NAMED_TEXT_OPTIONS, RIGHTS_OPTIONS, SCRIPT_OPTIONS, SID_OPTIONS,
-    TEXT_OPTIONS, VERDICT_OPTIONS, WHO_OPTIONS,
+    BYTES_OPTIONS, COMPARE_OPTIONS, LINT_OPTIONS, NAMED_TEXT_OPTIONS, RIGHTS_OPTIONS,
+    SCRIPT_OPTIONS, SID_OPTIONS, TEXT_OPTIONS, VERDICT_OPTIONS, WHO_OPTIONS,
 };
 use crate::row::{
     Argument, Arguments, Command, CommandName, CommandRow, DescriptorCommand, Flag, Flags,
@@ -56,7 +56,7 @@ sdstore verdict 'D:(D;;0x2;;;S-1-5-21-1-2-3-1001)(A;;0x1f01ff;;;S-1-5-21-1-2-3-1
             arguments: Arguments::Two(Argument::Old, Argument::New),
             repeated: Some(Argument::Group),
         },
-        NAMED_TEXT_OPTIONS,
+        COMPARE_OPTIONS,
         "Prints which rights users gain and lose where one descriptor takes the place of another",
         "sdstore compare 'O:BAG:SYD:(A;;FA;;;BU)' 'O:BAG:SYD:(D;;FW;;;BG)(A;;FA;;;BU)'",
     ),
