@@ -11,7 +11,7 @@ pub use Rattle.sd_analysis.specs.Effect.{ActAlike, ActUnlike, DecideAlike, Diffe
 pub use Rattle.sd_analysis.specs.Passes.{about, lists, meets, numbered, owns, sids_stand, stands_in}
 pub use Rattle.sd_analysis.specs.Redundant.{AreRedundant, Goes, Stays, is_marked, judged_in, unmarked}
 pub use Rattle.sd_analysis.specs.Report.{AreFindings, ArePlaced, HasRoom, IsCase, IsFound, IsLess, IsLessLeft, IsNeverMet, IsNotGained, IsPlace, IsRefused, IsRefusedAgain, IsReport, IsReportOf, IsSought, is_found, is_granted_alone, is_rest, new_of, old_of, rest_of, sids_in, sids_meet, token_meets}
-pub use Rattle.sd_analysis.specs.Risks.{entry_risks, grants_in, grants_to, risk_if, risks_at, where_everyone, wide_sids, with_sid_of}
+pub use Rattle.sd_analysis.specs.Risks.{common_sids, entry_risks, grants_in, grants_to, risk_if, risks_at, where_everyone, wide_sids, with_sid, with_sid_of}
 pub use Rattle.sd_analysis.specs.Sufficient.{MayDecide, Parts, TwoSidsPerPassSuffice, allowed_sids, denied_sids, entries_or_none, gains, has_sid, is_among, is_named, is_of_kind, parts_of, parts_with, subject_if, token_of, with_denied}
 pub use Rattle.sd_analysis.specs.Table.{AreBeforeAndAfter, AreRightsBySid, IsListing, IsOtherSid, IsTable, Point, applies_in, common_of, counts_in, first_point, last_sub, listed_of, nothing_decided, place_in, point_after, point_at, point_moved, row_for, row_of, share_after, sids_of}
 pub use Rattle.sd_analysis.specs.Who.{AllBeyond, HasEachOnce, IsBeyond, IsMost, IsWho, has_right, holds_for, is_held_by, is_in_base}

@@ -72,14 +72,21 @@ abbrev pub is_wide_in_domain : List ℕ → Bool
 is_wide_in_domain (kind ∷ x ∷ y ∷ z ∷ rid ∷ []) = kind == 21 && (nat_le 513 rid && nat_le rid 515)
 is_wide_in_domain subs = false
 
--- of these those that the entries name, each once
+-- one more, unless it is among them
+abbrev pub with_sid : List SidValue → SidValue → List SidValue
+with_sid sids s = if is_among sids s then sids else sids ++ s ∷ []
+
+-- of those of any domain the one that an entry names
 abbrev pub with_sid_of : List SidValue → Ace → List SidValue
 with_sid_of sids e =
-    if (e.sid.authority == 5 && is_wide_in_domain e.sid.subs) && not (is_among sids e.sid) then sids ++ e.sid ∷ []
-    else sids
+    if e.sid.authority == 5 && is_wide_in_domain e.sid.subs then with_sid sids e.sid else sids
 
-abbrev pub sids_of_concern : List Ace → List SidValue
-sids_of_concern es = fold with_sid_of wide_sids es
+abbrev pub common_sids : List Ace → List SidValue
+common_sids es = fold with_sid_of wide_sids es
+
+-- with those that are given, each once
+abbrev pub sids_of_concern : List SidValue → List Ace → List SidValue
+sids_of_concern given es = fold with_sid (common_sids es) given
 
 -- ---- what a list grants
 
@@ -110,9 +117,12 @@ abbrev pub grants_to : Option Descendant → Option SidValue → List Ace → Ma
     → SidValue → List Risk
 grants_to whose owner es g base s = grants g whose s (rights_of owner es g base s)
 
--- of a descendant, which S-1-3-0 owns, to each of the SIDs
+-- of a descendant, which S-1-3-0 owns, to each of the SIDs; nothing where it inherits no entry, since whoever makes it
+-- gives it another list then ([MS-DTYP] 2.5.3.4)
 abbrev pub grants_in : List Ace → MappingValue → List (SidValue × GroupState) → List SidValue → Descendant → List Risk
-grants_in es g base sids d = flat_map (grants_to (Some d) (Some creator_owner) (list_of g d es) g base) sids
+grants_in es g base sids d =
+    if length (list_of g d es) == 0 then []
+    else flat_map (grants_to (Some d) (Some creator_owner) (list_of g d es) g base) sids
 
 -- neither all that GENERIC_READ stands for nor WRITE_DAC, by which the list could be made to grant it
 abbrev pub cannot_read : MappingValue → ℕ → Bool
@@ -155,22 +165,24 @@ entry_risks es (suc k) = entry_risks es k ++ risks_at k (slice_get es k)
 
 -- ---- all of them
 
-unfoldable pub list_risks : Option SidValue → List Ace → MappingValue → List (SidValue × GroupState) → List Risk
-list_risks owner es g base =
+unfoldable pub list_risks : Option SidValue → List Ace → MappingValue → List (SidValue × GroupState) → List SidValue
+    → List Risk
+list_risks owner es g base given =
     risk_if (length es == 0) EmptyList
     ++ owner_risks owner es g base
-    ++ flat_map (grants_to None owner es g base) (sids_of_concern es)
-    ++ flat_map (grants_in es g base (sids_of_concern es)) (descendants_of (stops_somewhere es))
+    ++ flat_map (grants_to None owner es g base) (sids_of_concern given es)
+    ++ flat_map (grants_in es g base (sids_of_concern given es)) (descendants_of (stops_somewhere es))
     ++ entry_risks es (length es)
 
 -- an absent or a null DACL grants everything to everybody, which is a finding of its own
-abbrev pub dacl_risks : Option SidValue → Dacl → MappingValue → List (SidValue × GroupState) → List Risk
-dacl_risks owner Absent g base = []
-dacl_risks owner Null g base = []
-dacl_risks owner (Entries es) g base = list_risks owner es g base
+abbrev pub dacl_risks : Option SidValue → Dacl → MappingValue → List (SidValue × GroupState) → List SidValue → List Risk
+dacl_risks owner Absent g base given = []
+dacl_risks owner Null g base given = []
+dacl_risks owner (Entries es) g base given = list_risks owner es g base given
 
-abbrev pub risks_of : MappingValue → List (SidValue × GroupState) → DescriptorValue → List Risk
-risks_of g base d =
-    dacl_risks d.owner d.dacl g base
+-- where these SIDs are of concern too
+abbrev pub risks_of : MappingValue → List (SidValue × GroupState) → List SidValue → DescriptorValue → List Risk
+risks_of g base given d =
+    dacl_risks d.owner d.dacl g base given
     ++ unknown_if_any UnknownOwner d.owner
     ++ unknown_if_any UnknownGroup d.group

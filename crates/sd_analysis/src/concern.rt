@@ -1,10 +1,10 @@
 //! SIDs of concern, to which a list should grant little: tokens of anybody have them, or of nearly everybody.
 
-ghost use Rattle.std.specs.Prelude.{◌≡◌, ◌++◌, ◌&&◌, ◌==◌, IfOk, OnOk};
+ghost use Rattle.std.specs.Prelude.{◌≡◌, ◌++◌, ◌&&◌, ◌==◌, IfOk, OnOk, fold};
 ghost use Rattle.std.specs.List.{flat_map};
 ghost use Rattle.sd_sid.specs.Sid.{same_sid};
-ghost use Rattle.sd_analysis.specs.Risks.{groups_beside, is_wide_in_domain, sids_of_concern, where_everyone};
-ghost use Rattle.sd_analysis.specs.Risks.{wide_sids, with_sid_of};
+ghost use Rattle.sd_analysis.specs.Risks.{common_sids, groups_beside, is_wide_in_domain, sids_of_concern};
+ghost use Rattle.sd_analysis.specs.Risks.{where_everyone, wide_sids, with_sid, with_sid_of};
 ghost use Rattle.sd_analysis.specs.Sufficient.{is_among};
 
 use crate::base::Base;
@@ -14,9 +14,25 @@ use sd_check::GroupState;
 use sd_sid::Sid;
 use std::alloc::{AllocError, Global};
 
-/// The SIDs of concern ([MS-DTYP] 2.4.2.4): of every list, and of any domain those that the entries name, each once.
-pub(crate) fn sids_of_concern(alloc: Global, entries: &[Ace]) -> Result<Vec<Sid>, AllocError>
-    ensures { IfOk result (λ sids. sids.items ≡ sids_of_concern entries.now) }
+/// The SIDs of concern ([MS-DTYP] 2.4.2.4): of every list, of any domain those that the entries name, and those that
+/// are given, each once.
+pub(crate) fn sids_of_concern(
+    alloc: Global,
+    given: &[Sid],
+    entries: &[Ace],
+) -> Result<Vec<Sid>, AllocError>
+    ensures { IfOk result (λ sids. sids.items ≡ sids_of_concern given.now entries.now) }
+{
+    let mut sids = common_sids(alloc, entries)?;
+    for sid in given {
+        add_sid(&mut sids, sid)?;
+    }
+    Ok(sids)
+}
+
+/// The SIDs of concern of every list, and of any domain those that the entries name.
+fn common_sids(alloc: Global, entries: &[Ace]) -> Result<Vec<Sid>, AllocError>
+    ensures { IfOk result (λ sids. sids.items ≡ common_sids entries.now) }
 {
     let mut sids = wide_sids(alloc)?;
     for entry in entries {
@@ -45,8 +61,17 @@ fn wide_sids(alloc: Global) -> Result<Vec<Sid>, AllocError>
 fn add_sid_of(sids: &mut Vec<Sid>, entry: &Ace) -> Result<(), AllocError>
     ensures { OnOk result (sids.new.items ≡ with_sid_of sids.old.items entry.now) }
 {
-    if is_wide_in_domain(&entry.sid) && !is_among(sids, &entry.sid) {
-        sids.push(entry.sid)?;
+    if is_wide_in_domain(&entry.sid) {
+        add_sid(sids, &entry.sid)?;
+    }
+    Ok(())
+}
+
+fn add_sid(sids: &mut Vec<Sid>, sid: &Sid) -> Result<(), AllocError>
+    ensures { OnOk result (sids.new.items ≡ with_sid sids.old.items sid.now) }
+{
+    if !is_among(sids, sid) {
+        sids.push(*sid)?;
     }
     Ok(())
 }

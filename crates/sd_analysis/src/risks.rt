@@ -96,18 +96,20 @@ static KNOWN_KINDS: [Kind; 16] = [
 
 /// The risks in a descriptor, each where it stands and no other: of its list, entry by entry last, then of its owner's
 /// and its group's SID. What a list grants is what a token with the SID and the base is granted ([MS-DTYP] 2.5.3.2); of
-/// Anonymous with the base's Everyone alone. What is made in it if it is a container is looked at too (2.5.3.4). An
-/// absent and a null DACL have no risk of a list, since they grant everything to everybody. Fails only where an
-/// allocation fails.
+/// Anonymous with the base's Everyone alone. The SIDs of `given` are of concern too. What is made in it if it is a
+/// container is looked at too, where it inherits an entry (2.5.3.4). An absent and a null DACL have no risk of a list,
+/// since they grant everything to everybody. Fails only where an allocation fails.
 pub fn risks_in(
     alloc: Global,
     descriptor: &Descriptor,
     mapping: &GenericMapping,
     base: &Base<'_>,
+    given: &[Sid],
 ) -> Result<Vec<Risk>, AllocError>
-    ensures { IfOk result (λ found. found.items ≡ risks_of mapping.now base.now (descriptor_of descriptor.now)) }
+    ensures { IfOk result
+        (λ found. found.items ≡ risks_of mapping.now base.now given.now (descriptor_of descriptor.now)) }
 {
-    let mut found = dacl_risks(alloc, descriptor, mapping, base)?;
+    let mut found = dacl_risks(alloc, descriptor, mapping, base, given)?;
     if let Some(owner) = &descriptor.owner {
         push_if(&mut found, !is_known(owner), Risk::UnknownOwner(*owner))?;
     }
@@ -122,9 +124,10 @@ fn dacl_risks(
     descriptor: &Descriptor,
     mapping: &GenericMapping,
     base: &Base<'_>,
+    given: &[Sid],
 ) -> Result<Vec<Risk>, AllocError>
     ensures { let d = descriptor_of descriptor.now in
-        IfOk result (λ found. found.items ≡ dacl_risks d.owner d.dacl mapping.now base.now) }
+        IfOk result (λ found. found.items ≡ dacl_risks d.owner d.dacl mapping.now base.now given.now) }
 {
     match &descriptor.dacl {
         Dacl::Absent => Ok(Vec::new(alloc)),
@@ -136,20 +139,20 @@ fn dacl_risks(
                 mapping,
                 base,
             };
-            list_risks(alloc, &case)
+            list_risks(alloc, &case, given)
         }
     }
 }
 
 #[tactic(auto, unfolding(crate::specs::Risks::list_risks))]
-fn list_risks(alloc: Global, case: &Case<'_>) -> Result<Vec<Risk>, AllocError>
-    ensures { let case = case.now in
-        IfOk result (λ found. found.items ≡ list_risks case.owner.now case.entries.now case.mapping.now case.base.now) }
+fn list_risks(alloc: Global, case: &Case<'_>, given: &[Sid]) -> Result<Vec<Risk>, AllocError>
+    ensures { let case = case.now in IfOk result (λ found. found.items
+        ≡ list_risks case.owner.now case.entries.now case.mapping.now case.base.now given.now) }
 {
     let mut found = Vec::new(alloc);
     push_if(&mut found, case.entries.is_empty(), Risk::EmptyList)?;
     add_owner_risks(alloc, &mut found, case)?;
-    let sids = sids_of_concern(alloc, case.entries)?;
+    let sids = sids_of_concern(alloc, given, case.entries)?;
     add_grants(alloc, &mut found, case, None, &sids)?;
     add_grants_below(alloc, &mut found, case, &sids)?;
     let of_entries = entry_risks(alloc, case.entries)?;
@@ -248,6 +251,9 @@ fn add_grants_in(
         ++ grants_in case.entries.now case.mapping.now case.base.now sids.now descendant) }
 {
     let list = inherited_list(alloc, case.mapping, descendant, case.entries)?;
+    if list.is_empty() {
+        return Ok(());
+    }
     let owner = Some(sid_from_parts(3, &[0]));
     let inheriting = Case {
         owner: &owner,

@@ -1,6 +1,6 @@
 -- The options of a command line: what may stand between the program's name and the command, and what they say.
 use Rattle.std.specs.Prelude.{◌≡◌, ℕ, List, [], ◌∷◌, map, replicate, get_or, slice_set, Bool, true, false, not}
-use Rattle.std.specs.Prelude.{⊤, ◌⊎◌, ◌&&◌, is_some, if◌then◌else◌, Option, Some, None, option_map, Result, Ok}
+use Rattle.std.specs.Prelude.{⊤, ◌⊎◌, ◌&&◌, ◌||◌, is_some, if◌then◌else◌, Option, Some, None, option_map, Result, Ok}
 use Rattle.std.specs.Prelude.{MatchResult}
 use Rattle.std.specs.Option.{option_and_then, option_map_or}
 use Rattle.std.specs.Borrow.{Bor}
@@ -8,6 +8,7 @@ use Rattle.sd_sid.specs.Mapping.{MappingValue}
 use Rattle.sd_text.specs.Domain.{domain_sid}
 use Rattle.sd_text.specs.Grammar.{Spells}
 use Rattle.sd_text.specs.Sid.{sid_text}
+use Rattle.sd_text.specs.declared.alias.Aliases.{Aliases as AliasesValue}
 use Rattle.sd_text.specs.declared.domain.Domain.{Domain as DomainValue}
 use Rattle.sd_edit.specs.Limits.{IsLimits, LimitsValue, standard_limits}
 use Rattle.sd_script.specs.Argument.{IsNumber}
@@ -17,16 +18,20 @@ use Rattle.sd_answer.specs.declared.verdict_lines.Spelling.{Spelling}
 use Rattle.sd_answer.specs.declared.verdict_lines.Spelling.TheVariants.{Number, Names as ByNames}
 use Rattle.sd_usage.specs.Table.{option_named, place, takes_option}
 use Rattle.sd_usage.specs.declared.row.OptionName.{OptionName}
-use Rattle.sd_usage.specs.declared.row.OptionName.TheVariants.{Aliases, Base64, Below, Caret, Domain, Edits, Json}
-use Rattle.sd_usage.specs.declared.row.OptionName.TheVariants.{Logon, Loose, Mapping, Names, Nodes, Object}
+use Rattle.sd_usage.specs.declared.row.OptionName.TheVariants.{Aliases, Base64, Below, Caret, Concern, Domain, Edits}
+use Rattle.sd_usage.specs.declared.row.OptionName.TheVariants.{Json, Logon, Loose, Mapping, Names, Nodes, Object}
 use Rattle.sd_usage.specs.declared.row.OptionName.TheVariants.{Percent, RequireDacl, Risks, WithoutSacl}
 use Rattle.sd_usage.specs.declared.row.ProgramOption.{ProgramOption}
 use Rattle.sd_usage.specs.declared.row.TheConstants.{OPTION_COUNT}
+use Rattle.sd_commands.specs.Concern.{GivesConcern, GivesNoConcern, sids_of}
 use Rattle.sd_commands.specs.Logon.{GivesLogon, GivesNoLogon}
 use Rattle.sd_commands.specs.Mapping.{GivesMapping, GivesNoMapping, kind_given}
+use Rattle.sd_commands.specs.declared.logon.Logon.{Logon as LogonValue}
+use Rattle.sd_commands.specs.declared.settings.ByteForm.{ByteForm}
 use Rattle.sd_commands.specs.declared.settings.ByteForm.TheVariants as forms
 use Rattle.sd_arguments.specs.declared.options.BadValue.{BadValue}
-use Rattle.sd_arguments.specs.declared.options.BadValue.TheVariants.{NoDomain, NoEdits, NoLogon, NoMapping, NoNodes}
+use Rattle.sd_arguments.specs.declared.options.BadValue.TheVariants.{NoConcern, NoDomain, NoEdits, NoLogon, NoMapping}
+use Rattle.sd_arguments.specs.declared.options.BadValue.TheVariants.{NoNodes}
 use Rattle.sd_arguments.specs.declared.options.Options.{Options}
 use Rattle.sd_commands.specs.declared.settings.Settings.{Settings}
 
@@ -98,6 +103,10 @@ go_before = go_before_from false
 abbrev pub spelling_of : OptionsValue → Spelling
 spelling_of options = if has options Names then ByNames (kind_given (given options Mapping)) else Number
 
+-- how bytes are spelled
+abbrev pub byte_form : OptionsValue → ByteForm
+byte_form options = if has options Base64 then forms.Base64 else (if has options Loose then forms.Loose else forms.Hex)
+
 -- the text is the SID of this domain, or neither is there
 abbrev pub GivesDomain : Option (List ℕ) → Option DomainValue → Type 0
 GivesDomain None None = ⊤
@@ -120,12 +129,17 @@ pub record AreSettings (options : OptionsValue) (settings : Settings) : Type 0 w
   pub require_dacl : settings.require_dacl ≡ has options RequireDacl
   pub below : settings.below ≡ has options Below
   pub object : settings.object ≡ has options Object
-  pub risks : settings.risks ≡ has options Risks
-  pub bytes : settings.bytes ≡ (if has options Base64 then forms.Base64
-      else (if has options Loose then forms.Loose else forms.Hex))
+  pub risks : settings.risks ≡ (has options Risks || has options Concern)
+  pub concern : GivesConcern settings.aliases (given options Concern) (sids_of settings.concern)
+  pub bytes : settings.bytes ≡ byte_form options
   pub points : settings.points ≡ has options Caret
 
--- the value of an option isn't read: the domain's, or else the mapping's, or else that of the logon
+-- the aliases that are known
+abbrev pub GivesAliases : OptionsValue → AliasesValue → Type 0
+GivesAliases options known = GivesDomain (given options Domain) known.domain × (known.later ≡ has options Aliases)
+
+-- the value of an option isn't read: the domain's, or else the mapping's, or else that of the logon, or else a part of
+-- that of SIDs of concern
 abbrev pub HasBadValue : OptionsValue → BadValue → Type 0
 HasBadValue options (NoDomain text points) =
     (given options Domain ≡ Some text.now) × IsNoDomain text.now × (points ≡ has options Caret)
@@ -134,6 +148,11 @@ HasBadValue options NoMapping = ((domain : Option DomainValue) × GivesDomain (g
 HasBadValue options NoLogon = ((domain : Option DomainValue) × GivesDomain (given options Domain) domain)
     × ((mapping : MappingValue) × GivesMapping (given options Mapping) mapping)
     × GivesNoLogon (given options Logon)
+HasBadValue options (NoConcern text known points) =
+    ((mapping : MappingValue) × GivesMapping (given options Mapping) mapping)
+    × ((logon : Option LogonValue) × GivesLogon (given options Logon) logon)
+    × GivesAliases options known × GivesNoConcern known (given options Concern) text.now
+    × (points ≡ has options Caret)
 HasBadValue options bad = ⊥
 
 -- these settings, or this value that isn't read

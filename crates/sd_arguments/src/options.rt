@@ -4,13 +4,13 @@ ghost use Rattle.sd_text.specs.Domain.{domain_sid};
 ghost use Rattle.sd_text.specs.Grammar.{Spells};
 ghost use Rattle.sd_text.specs.Sid.{sid_text};
 ghost use Rattle.sd_arguments.specs.Options.{GivesDomain, GivesLimits, GivesScriptOptions, GivesNumber, GivesSettings};
-ghost use Rattle.sd_arguments.specs.Options.{HasBadValue, IsNoDomain, given, go_before, goes_before, has};
-ghost use Rattle.sd_arguments.specs.Options.{no_options, options_in, options_of, with_option};
+ghost use Rattle.sd_arguments.specs.Options.{HasBadValue, IsNoDomain, byte_form, given, go_before, goes_before, has};
+ghost use Rattle.sd_arguments.specs.Options.{no_options, options_in, options_of, spelling_of, with_option};
 ghost use Rattle.sd_arguments.specs.UsageError.{accepted};
 
 use crate::usage_error::{UsageError, UsageErrorKind};
 use sd_answer::Spelling;
-use sd_commands::{ByteForm, Settings, kind_given, logon_given, mapping_given};
+use sd_commands::{ByteForm, Settings, concern_given, kind_given, logon_given, mapping_given};
 use sd_script::{Notation, PathSpelling, ScriptOptions, number_in};
 use sd_text::{Aliases, Domain, read_sid_text};
 use sd_tree::{Limits, LimitsError};
@@ -20,11 +20,21 @@ use sd_usage::{OPTION_COUNT, OptionName, ProgramOption, option_named, takes_opti
 #[derive(Clone, Copy)]
 pub enum BadValue<'a> {
     /// The value of `--domain` is no domain's SID, and whether a caret shows where.
-    NoDomain { text: &'a str, points: bool },
+    NoDomain {
+        text: &'a str,
+        points: bool,
+    },
     /// The value of `--mapping` is no mapping.
     NoMapping,
     /// The value of `--logon` is no kind of logon.
     NoLogon,
+    /// This part of the value of `--concern` is no SID with the aliases that are known, or one more than 16; and
+    /// whether a caret shows where.
+    NoConcern {
+        text: &'a str,
+        known: Aliases,
+        points: bool,
+    },
     /// The value of `--nodes` is no number of nodes that limits allow.
     NoNodes,
     /// The value of `--edits` is no number of edits that limits allow.
@@ -91,34 +101,60 @@ impl<'a> Options<'a> {
         let Some(logon) = logon_given(self.given(OptionName::Logon)) else {
             return Err(BadValue::NoLogon);
         };
-        let kind = kind_given(given);
+        let aliases = Aliases {
+            domain,
+            later: self.has(OptionName::Aliases),
+        };
+        let concern = match concern_given(aliases, self.given(OptionName::Concern)) {
+            Ok(concern) => concern,
+            Err(text) => {
+                let (known, points) = (aliases, self.has(OptionName::Caret));
+                return Err(BadValue::NoConcern {
+                    text,
+                    known,
+                    points,
+                });
+            }
+        };
         Ok(Settings {
-            aliases: Aliases {
-                domain,
-                later: self.has(OptionName::Aliases),
-            },
+            aliases,
             mapping,
-            kind,
+            kind: kind_given(given),
             logon,
             without_sacl: self.has(OptionName::WithoutSacl),
             require_dacl: self.has(OptionName::RequireDacl),
             below: self.has(OptionName::Below),
             object: self.has(OptionName::Object),
-            risks: self.has(OptionName::Risks),
+            risks: self.has(OptionName::Risks) || self.has(OptionName::Concern),
+            concern,
             points: self.has(OptionName::Caret),
-            spelling: if self.has(OptionName::Names) {
-                Spelling::Names(kind)
-            } else {
-                Spelling::Number
-            },
-            bytes: if self.has(OptionName::Base64) {
-                ByteForm::Base64
-            } else if self.has(OptionName::Loose) {
-                ByteForm::Loose
-            } else {
-                ByteForm::Hex
-            },
+            spelling: self.spelling(),
+            bytes: self.byte_form(),
         })
+    }
+
+    /// How masks and entries are spelled.
+    fn spelling(self) -> Spelling
+        ensures { result ≡ spelling_of (options_of self.entry) }
+    {
+        if self.has(OptionName::Names) {
+            Spelling::Names(kind_given(self.given(OptionName::Mapping)))
+        } else {
+            Spelling::Number
+        }
+    }
+
+    /// How bytes are spelled.
+    fn byte_form(self) -> ByteForm
+        ensures { result ≡ byte_form (options_of self.entry) }
+    {
+        if self.has(OptionName::Base64) {
+            ByteForm::Base64
+        } else if self.has(OptionName::Loose) {
+            ByteForm::Loose
+        } else {
+            ByteForm::Hex
+        }
     }
 
     /// How they have a script carried out, or whose value isn't read: first those of `settings`, then `--nodes`'s and

@@ -1,6 +1,7 @@
 pub mod Analysis
 pub mod CommandAnswer
 pub mod Bytes
+pub mod Concern
 pub mod Diagnostic
 pub mod Escaped
 pub mod Kinds

@@ -17,6 +17,7 @@ use Rattle.sd_analysis.specs.declared.risks.Risk.TheVariants.{UnknownOwner, Unkn
 use Rattle.sd_answer.specs.VerdictLines.{line, right_names_of}
 use Rattle.sd_answer.specs.Descendants.{descendant_head}
 use Rattle.sd_answer.specs.declared.verdict_lines.Spelling.{Spelling}
+use Rattle.sd_commands.specs.Concern.{sids_of}
 use Rattle.sd_commands.specs.declared.settings.Settings.{Settings}
 
 abbrev pub has_right : Right → List ℕ
@@ -43,4 +44,5 @@ risk_line spelling (UnknownGroup s) = line (codes "the group " ++ full_canon s +
 -- the lines of a descriptor's risks, where they are asked for
 abbrev pub risk_lines : Settings → DescriptorValue → List (SidValue × GroupState) → List ℕ
 risk_lines settings d base =
-    if settings.risks then flat_map (risk_line settings.spelling) (risks_of settings.mapping base d) else []
+    if settings.risks
+    then flat_map (risk_line settings.spelling) (risks_of settings.mapping base (sids_of settings.concern) d) else []

@@ -15,6 +15,7 @@
 mod analysis;
 mod bytes;
 mod command_answer;
+mod concern;
 mod convert;
 mod descriptor;
 mod diagnostic;
@@ -36,6 +37,7 @@ mod verdict;
 mod words;
 
 pub use command_answer::{Answer, Outcome, answer_question, fault};
+pub use concern::{Concern, concern_given};
 pub use diagnostic::{sid_reason, told_line};
 pub use escaped::escaped_word;
 pub use laws::{object_decides_alike, sorted_is_canonical};

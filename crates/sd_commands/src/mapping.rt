@@ -95,7 +95,7 @@ fn of_mask_texts(read: &str, write: &str, execute: &str, all: &str) -> Option<Ge
 }
 
 /// The text before the first comma, and that behind it.
-fn cut(text: &str) -> Option<(&str, &str)>
+pub(crate) fn cut(text: &str) -> Option<(&str, &str)>
     ensures cut { IfSome result (λ parts. between_commas text.now ≡ parts.0.now ∷ between_commas parts.1.now) }
     ensures whole { IfNone result (between_commas text.now ≡ text.now ∷ []) }
 {

@@ -29,7 +29,8 @@ pub(crate) fn risk_lines(
     if !settings.risks {
         return Ok(String::new(alloc));
     }
-    let risks = risks_in(alloc, descriptor, &settings.mapping, base)?;
+    let given = settings.concern.sids();
+    let risks = risks_in(alloc, descriptor, &settings.mapping, base, given)?;
     lines_of(alloc, settings.spelling, &risks)
 }
 

@@ -1,5 +1,6 @@
 //! What the options before a command about a descriptor say.
 
+use crate::concern::Concern;
 use crate::logon::Logon;
 use sd_answer::{ObjectKind, Spelling};
 use sd_sid::GenericMapping;
@@ -40,6 +41,8 @@ pub struct Settings {
     pub object: bool,
     /// Whether `lint` reports risks too.
     pub risks: bool,
+    /// The SIDs that are of concern to risks beside those of every list.
+    pub concern: Concern,
     /// How bytes are spelled.
     pub bytes: ByteForm,
     /// Whether a message that names a byte of a text shows the text there.

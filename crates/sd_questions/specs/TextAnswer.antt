@@ -18,6 +18,7 @@ use Rattle.sd_usage.specs.declared.row.TextCommand.{TextCommand}
 use Rattle.sd_usage.specs.declared.row.TextCommand.TheVariants.{Descriptor}
 use Rattle.sd_commands.specs.CommandAnswer.{AnswerValue, AnswersQuestion, IsFault, argument}
 use Rattle.sd_commands.specs.Diagnostic.{told_line, IsSidReason}
+use Rattle.sd_commands.specs.Escaped.{escaped}
 use Rattle.sd_commands.specs.declared.command_answer.Outcome.{Outcome}
 use Rattle.sd_commands.specs.declared.command_answer.Outcome.TheVariants.{Fault}
 use Rattle.sd_commands.specs.declared.settings.Settings.{Settings}
@@ -25,7 +26,8 @@ use Rattle.sd_arguments.specs.CommandLine.{RequestValue}
 use Rattle.sd_arguments.specs.Options.{OptionsValue, GivesSettings, has}
 use Rattle.sd_arguments.specs.declared.flags.GivenFlags.{GivenFlags}
 use Rattle.sd_arguments.specs.declared.options.BadValue.{BadValue}
-use Rattle.sd_arguments.specs.declared.options.BadValue.TheVariants.{NoDomain, NoEdits, NoLogon, NoMapping, NoNodes}
+use Rattle.sd_arguments.specs.declared.options.BadValue.TheVariants.{NoConcern, NoDomain, NoEdits, NoLogon, NoMapping}
+use Rattle.sd_arguments.specs.declared.options.BadValue.TheVariants.{NoNodes}
 use Rattle.sd_questions.specs.Each.{after_key, has_key, key_of, outcome_of_lines, told_of_lines, with_line}
 use Rattle.sd_questions.specs.Input.{is_blank, is_utf16, without_end}
 
@@ -44,6 +46,9 @@ IsBadValue NoMapping answer = IsBadOption (codes "mapping")
     (codes "no such mapping: file, key, service, process, or four masks R,W,X,A") answer
 IsBadValue NoLogon answer = IsBadOption (codes "logon")
     (codes "no such logon: interactive, network, batch, service, anonymous") answer
+IsBadValue (NoConcern text known points) answer =
+    (reason : List ℕ) × IsSidReason points known (codes "one SID too many: at most 16") text.now reason
+    × IsBadOption (codes "concern") (codes "\"" ++ escaped text.now ++ codes "\": " ++ reason) answer
 IsBadValue NoNodes answer = IsBadOption (codes "nodes") (codes "no number of nodes, 1 to 16777216") answer
 IsBadValue NoEdits answer = IsBadOption (codes "edits") (codes "no number of edits, 0 to 4294967296") answer
 
@@ -112,7 +117,7 @@ AnswersUnder input None request settings answer =
 abbrev pub AnswersOnce : Option (List ℕ) → OptionsValue → Option (List ℕ) → RequestValue → AnswerValue → Type 0
 AnswersOnce input options text request answer =
     (said : Result Settings BadValue) × GivesSettings options said × MatchResult said
-    (λ settings. AnswersUnder input text request settings answer) (λ bad. IsBadValue bad answer)
+    (λ settings. AnswersUnder input text request settings answer) (λ bad. Advising (IsBadValue bad) answer)
 
 -- ---- of each line
 

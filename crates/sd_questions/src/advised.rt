@@ -45,7 +45,7 @@ fn advice_on(
 }
 
 /// The answer, and this after what standard error is told otherwise.
-fn with_advice(answer: Answer, advice: &str) -> Result<Answer, AllocError>
+pub(crate) fn with_advice(answer: Answer, advice: &str) -> Result<Answer, AllocError>
     ensures { IfOk result (λ advised. answer_of advised
         ≡ record (answer_of answer) { told = string_bytes answer.told ++ advice.now }) }
 {

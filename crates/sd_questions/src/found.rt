@@ -143,7 +143,7 @@ pub(crate) fn found_in_user(known: Aliases, text: &str) -> Option<RemedyRow> {
 }
 
 /// What was found in place of a SID.
-fn found_in_sid(known: Aliases, text: &str) -> Option<RemedyRow> {
+pub(crate) fn found_in_sid(known: Aliases, text: &str) -> Option<RemedyRow> {
     let bytes = text.as_bytes();
     match read_sid_text_in(known, text) {
         Err(

@@ -1,16 +1,19 @@
 //! The one answer of a command to a text.
-ghost use Rattle.std.specs.Prelude.{◌≡◌, ◌≢◌, ◌||◌, true, Err, IfErr, IfOk, is_some, option_map};
+ghost use Rattle.std.specs.Prelude.{◌≡◌, ◌≢◌, ◌||◌, ◌++◌, true, Err, IfErr, IfOk, codes, is_some, option_map};
 ghost use Rattle.sd_lines.specs.Watched.{has_failed, inner_of};
 ghost use Rattle.sd_lines.specs.Streams.{ReadsPart, is_read_error};
 ghost use Rattle.sd_commands.specs.CommandAnswer.{answer_of};
-ghost use Rattle.sd_questions.specs.TextAnswer.{AnswersOnce, IsBadOption, IsBadValue};
+ghost use Rattle.sd_commands.specs.Escaped.{escaped};
+ghost use Rattle.sd_questions.specs.TextAnswer.{Advising, AnswersOnce, IsBadOption, IsBadValue};
 ghost use Rattle.sd_arguments.specs.CommandLine.{request_of};
 ghost use Rattle.sd_arguments.specs.Options.{options_of};
 
-use crate::advised::advised;
+use crate::advised::{advised, with_advice};
+use crate::found::found_in_sid;
 use crate::input::answer_input;
+use crate::remedies::row_line;
 use sd_arguments::{BadValue, Options, TextRequest};
-use sd_commands::{Answer, fault, sid_reason, told_line};
+use sd_commands::{Answer, escaped_word, fault, sid_reason, told_line};
 use sd_lines::{RunError, Watched, read_whole};
 use sd_text::Aliases;
 use std::alloc::{AllocError, Global};
@@ -34,7 +37,7 @@ pub fn answer_to<R: Read>(
 {
     let settings = match options.settings() {
         Ok(settings) => settings,
-        Err(bad) => return Ok(bad_value(alloc, bad)?),
+        Err(bad) => return Ok(advised_value(alloc, bad)?),
     };
     match text {
         Some(text) => Ok(advised(alloc, settings, request, text)?),
@@ -42,6 +45,27 @@ pub fn answer_to<R: Read>(
             let input = read_whole(alloc, reader)?;
             Ok(answer_input(alloc, settings, request, &input)?)
         }
+    }
+}
+
+/// The answer to an option whose value isn't read, and what mends it.
+fn advised_value(alloc: Global, bad: BadValue<'_>) -> Result<Answer, AllocError>
+    ensures { IfOk result (λ answer. Advising (IsBadValue bad.entry) (answer_of answer)) }
+{
+    let answer = bad_value(alloc, bad)?;
+    let advice = value_advice(alloc, bad)?;
+    with_advice(answer, advice.as_str())
+}
+
+/// What mends the value of an option, or nothing.
+fn value_advice(alloc: Global, bad: BadValue<'_>) -> Result<String, AllocError> {
+    let row = match bad {
+        BadValue::NoConcern { text, known, .. } => found_in_sid(known, text),
+        _ => None,
+    };
+    match row {
+        Some(row) => row_line(alloc, row),
+        None => Ok(String::new(alloc)),
     }
 }
 
@@ -67,9 +91,29 @@ pub fn bad_value(alloc: Global, bad: BadValue<'_>) -> Result<Answer, AllocError>
             let reason = "no such logon: interactive, network, batch, service, anonymous";
             bad_option(alloc, "logon", reason)
         }
+        BadValue::NoConcern {
+            text,
+            known,
+            points,
+        } => {
+            let unfit = "one SID too many: at most 16";
+            let reason = sid_reason(alloc, points, known, unfit, text)?;
+            bad_concern(alloc, text, reason.as_str())
+        }
         BadValue::NoNodes => bad_option(alloc, "nodes", "no number of nodes, 1 to 16777216"),
         BadValue::NoEdits => bad_option(alloc, "edits", "no number of edits, 0 to 4294967296"),
     }
+}
+
+/// The answer to SIDs of concern of which this text isn't read for this reason.
+fn bad_concern(alloc: Global, text: &str, reason: &str) -> Result<Answer, AllocError>
+    ensures { IfOk result (λ answer. IsBadOption (codes "concern")
+        (codes "\"" ++ escaped text.now ++ codes "\": " ++ reason.now) (answer_of answer)) }
+{
+    let shown = escaped_word(alloc, text)?;
+    let shown = shown.as_str();
+    let reason = format!(in alloc; "\"{shown}\": {reason}")?;
+    bad_option(alloc, "concern", reason.as_str())
 }
 
 /// The answer to the option of this name, whose value isn't read for this reason.

@@ -136,7 +136,7 @@ Prints a line for each finding, or 'clean':
   entry N (..) repeats entry M
   entry N (..) has no effect
   entry N (..) limits the owner
-After '--risks' also:
+After '--risks', or '--concern', also:
   an empty DACL grants nothing
   the owner SID has no way to read
   SID is granted full-control, or write, delete, change-permissions

@@ -79,6 +79,17 @@ change of the object and of what is made in it, an empty list, an owner without 
 SIDs of no known kind",
     ),
     (
+        "--concern",
+        ProgramOption {
+            name: OptionName::Concern,
+            value: Some(Value::Sids),
+            excludes: None,
+        },
+        "\
+reports risks as '--risks' does, also of what these SIDs are granted: 1 to 16 SIDs or aliases with
+commas between them, as DU,S-1-5-21-1-2-3-1104",
+    ),
+    (
         "--base64",
         ProgramOption {
             name: OptionName::Base64,

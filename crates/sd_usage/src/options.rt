@@ -78,6 +78,7 @@ pub(crate) const LINT_OPTIONS: &[OptionName] = &[
     OptionName::RequireDacl,
     OptionName::Object,
     OptionName::Risks,
+    OptionName::Concern,
     OptionName::Domain,
     OptionName::Aliases,
     OptionName::Mapping,

@@ -87,6 +87,8 @@ pub enum OptionName {
     Object,
     /// `--risks`.
     Risks,
+    /// `--concern`.
+    Concern,
     /// `--base64`.
     Base64,
     /// `--loose`.
@@ -116,7 +118,7 @@ pub enum OptionName {
 }
 
 /// How many options there are.
-pub const OPTION_COUNT: usize = 20;
+pub const OPTION_COUNT: usize = 21;
 
 /// A command, and what follows it.
 #[derive(Clone, Copy)]
@@ -202,6 +204,8 @@ pub struct ProgramOption {
 pub enum Value {
     /// `SID`: a domain's SID ([MS-DTYP] 2.4.2.4).
     Sid,
+    /// `SIDS`: SIDs ([MS-DTYP] 2.4.2.1) with commas between them.
+    Sids,
     /// `KIND`: a generic mapping ([MS-DTYP] 2.4.3).
     Kind,
     /// `LOGON`: how a user logs on.

@@ -109,6 +109,7 @@ fn option<'a>(alloc: Global, row: &'static OptionRow, help: &'a str) -> Arg<'a> 
 fn value_name(value: Value) -> &'static str {
     match value {
         Value::Sid => "SID",
+        Value::Sids => "SIDS",
         Value::Kind => "KIND",
         Value::Logon => "LOGON",
         Value::Number => "N",

@@ -1,7 +1,7 @@
--- The SIDs with those of the entries so far.
-use Rattle.sd_analysis.proofs.Cited.{take, wide_sids, with_sid_of, ◌≡◌}
+-- The SIDs with those given so far.
+use Rattle.sd_analysis.proofs.Cited.{common_sids, take, with_sid, ◌≡◌}
 use Rattle.std.specs.Prelude.{fold}
 use Rattle.sd_analysis.proofs.concern.sids_of_concern.Given as goal
 
-abbrev pub invariant-loop-entry : goal.invariant-loop-entry
-invariant-loop-entry l = l.sids.items ≡ fold with_sid_of wide_sids (take l.entry-index l.entries)
+abbrev pub invariant-loop-sid : goal.invariant-loop-sid
+invariant-loop-sid l = l.sids.items ≡ fold with_sid (common_sids l.entries) (take l.sid-index l.given)

@@ -11,3 +11,10 @@ returns-in_ok-reason-in-NoDomain c = rw (c.in-NoDomain.is) (IfOk-weaker c.bad_op
   c.in_ok-reason-in-NoDomain.ensures,
   subst (λ reason. IsBadOption (codes "domain") reason (answer_of answer)) c.as_str.ensures.value is,
 )) c.bad_option.ensures)
+
+pub returns-in_ok-reason-in-NoConcern : goal.returns-in_ok-reason-in-NoConcern
+returns-in_ok-reason-in-NoConcern c = rw (c.in-NoConcern.is) (IfOk-weaker c.bad_concern.result _ _ (λ answer is. (
+  string_bytes c.in_ok-reason-in-NoConcern.reason,
+  c.in_ok-reason-in-NoConcern.ensures,
+  rw c.as_str-in-NoConcern.ensures.value at is,
+)) c.bad_concern.ensures)

@@ -1,0 +1,105 @@
+//! The value of `--concern`: SIDs that are of concern to risks beside those of every list.
+ghost use Rattle.std.specs.Prelude.{◌≡◌, ◌++◌, ◌∷◌, [], IfErr, IfNone, IfOk, IfSome, List, length, option_map};
+ghost use Rattle.sd_sid.specs.Sid.{SidValue};
+ghost use Rattle.sd_text.specs.Grammar.{Spells};
+ghost use Rattle.sd_text.specs.Sid.{sid_text_in};
+ghost use Rattle.sd_answer.specs.Word.{AreEach};
+ghost use Rattle.sd_commands.specs.Concern.{GivesConcern, GivesNoConcern, IsFirstUnfit, IsUnfit, sids_of};
+ghost use Rattle.sd_commands.specs.Mapping.{between_commas};
+
+use crate::mapping::cut;
+use sd_sid::Sid;
+use sd_text::{Aliases, read_sid_text_in};
+
+/// The most SIDs: they stand in `Settings`, which are a small value that is copied.
+pub const MAX_CONCERN: usize = 16;
+
+/// SIDs that are of concern: as many of the first as `count` says.
+#[derive(Clone, Copy)]
+pub struct Concern {
+    sids: [Sid; MAX_CONCERN],
+    count: usize,
+}
+
+impl Concern {
+    /// No SID.
+    fn none() -> Concern
+        ensures { sids_of result ≡ [] }
+    {
+        match Sid::new(0, &[0]) {
+            Ok(nobody) => Concern {
+                sids: [nobody; MAX_CONCERN],
+                count: 0,
+            },
+            Err(_) => unreachable!(),
+        }
+    }
+
+    /// The SIDs, in order.
+    pub(crate) fn sids(&self) -> &[Sid]
+        ensures { result.now ≡ sids_of self.now }
+    {
+        &self.sids[..self.count.min(MAX_CONCERN)]
+    }
+
+    /// These and one more, which the text spells.
+    fn with_text(self, known: Aliases, text: &str) -> Option<Concern>
+        ensures some { IfSome result (λ more. (sid : SidValue) × Spells (sid_text_in known) text.now sid
+            × (sids_of more ≡ sids_of self ++ sid ∷ [])) }
+        ensures none { IfNone result (IsUnfit known (sids_of self) text.now) }
+    {
+        match read_sid_text_in(known, text) {
+            Ok(sid) => self.with(sid),
+            Err(_) => None,
+        }
+    }
+
+    /// These and one more, if there are fewer than 16.
+    fn with(self, sid: Sid) -> Option<Concern>
+        ensures some { IfSome result (λ more. sids_of more ≡ sids_of self ++ sid ∷ []) }
+        ensures none { IfNone result (length (sids_of self) ≡ 16) }
+    {
+        if self.count >= MAX_CONCERN {
+            return None;
+        }
+        let mut sids = self.sids;
+        sids[self.count] = sid;
+        Some(Concern {
+            sids,
+            count: self.count + 1,
+        })
+    }
+
+    /// These and those that the text has between commas, or of them the first that is no SID or one too many.
+    fn with_texts<'a>(self, known: Aliases, text: &'a str) -> Result<Concern, &'a str>
+        ensures all { IfOk result (λ all. (more : List SidValue) × (sids_of all ≡ sids_of self ++ more)
+            × AreEach (Spells (sid_text_in known)) (between_commas text.entry.now) more) }
+        ensures unfit { IfErr result
+            (λ part. IsFirstUnfit known (sids_of self) (between_commas text.entry.now) part.now) }
+    {
+        match cut(text) {
+            None => match self.with_text(known, text) {
+                Some(all) => Ok(all),
+                None => Err(text),
+            },
+            Some((part, behind)) => match self.with_text(known, part) {
+                Some(more) => more.with_texts(known, behind),
+                None => Err(part),
+            },
+        }
+    }
+}
+
+/// The SIDs that the value of `--concern` has between commas, none without the option; or of these texts the first that
+/// is no SID ([MS-DTYP] 2.4.2.1), or one more than 16.
+pub fn concern_given<'a>(known: Aliases, text: Option<&'a str>) -> Result<Concern, &'a str>
+    ensures given { IfOk result
+        (λ concern. GivesConcern known (option_map (λ text. text.now) text.entry) (sids_of concern)) }
+    ensures unfit { IfErr result
+        (λ part. GivesNoConcern known (option_map (λ text. text.now) text.entry) part.now) }
+{
+    match text {
+        None => Ok(Concern::none()),
+        Some(text) => Concern::none().with_texts(known, text),
+    }
+}
