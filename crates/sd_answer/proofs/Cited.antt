@@ -2,23 +2,17 @@
 pub use Rattle.sd_analysis.specs.Compare.{HasABit}
 pub use Rattle.sd_analysis.specs.Sufficient.{Parts, parts_of}
 pub use Rattle.sd_analysis.specs.declared.compare_report.Change.{Change}
+pub use Rattle.sd_analysis.specs.declared.descendants.Descendant.{Descendant}
 pub use Rattle.sd_analysis.specs.declared.who_has.Alternative.{Alternative}
-pub use Rattle.sd_answer.specs.Compare.{change_line, changes_text, gains_and_losses}
-pub use Rattle.sd_answer.specs.Descendants.{descendant_lines, descendant_who_lines}
+pub use Rattle.sd_answer.specs.Compare.{change_line, changes_lines, gains_and_losses}
+pub use Rattle.sd_answer.specs.Descendants.{descendants_lines, descendants_who_lines}
 pub use Rattle.sd_answer.specs.Descriptor.{IsUnread}
-pub use Rattle.sd_answer.specs.Lines.{LineValue, bits_line, is_lowest, joined, joined_at, lines_at, lines_below, sid_text, union, value_of, values}
+pub use Rattle.sd_answer.specs.Lines.{BitsForm, LineValue, Saying, bits_form, bits_line, bits_lines, is_lowest, joined, joined_at, lines_at, lines_below, same_saying, union, value_of, values}
 pub use Rattle.sd_answer.specs.Lint.{list_lines}
-pub use Rattle.sd_answer.specs.Mask.{AreJoined, IsErrorFrom, IsMaskIn, IsWordErrorAt, IsWordMask, between_pluses, rights_word}
-pub use Rattle.sd_answer.specs.Names.{NamedBits, is_of, mask_named, named_bits, names_of}
-pub use Rattle.sd_answer.specs.VerdictLines.{mask_digits, spelled}
-pub use Rattle.sd_answer.specs.Who.{alternative_text, who_lines}
+pub use Rattle.sd_answer.specs.Who.{alternative_saying, joined_accesses, plain_sids}
 pub use Rattle.sd_answer.specs.Why.{part_lines}
 pub use Rattle.sd_answer.specs.Word.{AreEach, AreGroups, Ended, IsFirstNoGroup, IsFirstNoWord, IsFirstNone, IsGroup, IsToken, IsWord, Or, parts_token, texts, token_of}
 pub use Rattle.sd_answer.specs.declared.lines.BitsLine.{BitsLine}
-pub use Rattle.sd_answer.specs.declared.names.ObjectKind.{ObjectKind}
-pub use Rattle.sd_answer.specs.declared.names.ObjectKind.TheVariants.{File, Key, Process, Service}
-pub use Rattle.sd_answer.specs.declared.verdict_lines.Spelling.{Spelling}
-pub use Rattle.sd_answer.specs.declared.verdict_lines.Spelling.TheVariants.{Names, Number}
 pub use Rattle.sd_answer.specs.declared.word.Word.{Word}
 pub use Rattle.sd_answer.specs.declared.word.Word.TheVariants.{Group}
 pub use Rattle.sd_check.specs.Token.{TokenValue}

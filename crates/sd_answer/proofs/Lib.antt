@@ -2,7 +2,3 @@ pub mod Cited
 pub mod Words
 pub mod OneToken
 pub mod NoLines
-mod RightNames
-pub mod Cuts
-pub mod WordsLeft
-mod ComeBack

@@ -1,5 +1,5 @@
--- Where no line is printed of changes, there are none: a mask with a bit has a lowest one, and its line is printed there.
-use Rattle.sd_answer.proofs.Cited.{All, All-head, Bool, Change, HasABit, LineValue, List, Parts, Spelling, [], ap, arith, bit_at, bit_at-suc, bit_at_lowest, bits_line, cases_order, change_line, changes_text, eq-eqb, eqb-true, gains_and_losses, holds, if◌then◌else◌, inl, inr, is_lowest, lines_at, map, refl, spelled, subst, suc, sym, trailing_zeros, true, under, w32, zero, ℕ, ◌%◌, ◌++◌, ◌/◌, ◌<◌, ◌==◌, ◌∙◌, ◌∷◌, ◌≡◌}
+-- Where there is no line of changes, there are none: a mask with a bit has a lowest one, and its line is there.
+use Rattle.sd_answer.proofs.Cited.{All, All-head, BitsForm, Bool, Change, Descendant, HasABit, LineValue, List, Option, Parts, [], ap, arith, bit_at, bit_at-suc, bit_at_lowest, bits_line, cases_order, change_line, changes_lines, eq-eqb, eqb-true, gains_and_losses, holds, if◌then◌else◌, inl, inr, is_lowest, lines_at, map, refl, subst, suc, sym, trailing_zeros, true, under, w32, zero, ℕ, ◌%◌, ◌++◌, ◌/◌, ◌<◌, ◌==◌, ◌∙◌, ◌∷◌, ◌≡◌}
 use lib.Count.{count_trailing_zeros}
 use Rattle.sd_answer.specs.Lines.{lines_below}
 
@@ -25,32 +25,32 @@ pub parts_empty : {A : Type 0} (xs ys : List A) → xs ++ ys ≡ [] → (xs ≡ 
 parts_empty [] ys none = (refl, none)
 parts_empty (x ∷ xs) ys none = absurd (cc (none))
 
-none_at : (spelling : Spelling) (head : List ℕ) (lines : List LineValue) (n c : ℕ) → c < n → lines_below spelling head lines n ≡ [] → lines_at spelling head lines c ≡ []
+none_at : (form : BitsForm) (made : Option Descendant) (lines : List LineValue) (n c : ℕ) → c < n → lines_below form made lines n ≡ [] → lines_at form made lines c ≡ []
 unfolding lines_below
-none_at spelling head lines zero c low none = absurd (omega (arith, low))
-none_at spelling head lines (suc n) c low none =
-    let parts = parts_empty (lines_below spelling head lines n) (lines_at spelling head lines n) none in
+none_at form made lines zero c low none = absurd (omega (arith, low))
+none_at form made lines (suc n) c low none =
+    let parts = parts_empty (lines_below form made lines n) (lines_at form made lines n) none in
     elim (cases_order c n) [
-      | inl same ↦ subst (λ k. lines_at spelling head lines k ≡ []) (sym same) parts.1
-      | inr other ↦ elim other [ inl below ↦ none_at spelling head lines n c below parts.0 | inr above ↦ absurd (omega (arith, low, above)) ]
+      | inl same ↦ subst (λ k. lines_at form made lines k ≡ []) (sym same) parts.1
+      | inr other ↦ elim other [ inl below ↦ none_at form made lines n c below parts.0 | inr above ↦ absurd (omega (arith, low, above)) ]
     ]
 
-no_changes : (spelling : Spelling) (head : List ℕ) (old new : Parts) (changes : List Change) → All (λ (c : Change). HasABit c.mask) changes
-    → changes_text spelling head old new changes ≡ [] → changes ≡ []
-no_changes spelling head old new [] bits none = refl
-no_changes spelling head old new (c ∷ changes) bits none =
+no_changes : (form : BitsForm) (made : Option Descendant) (old new : Parts) (changes : List Change) → All (λ (c : Change). HasABit c.mask) changes
+    → changes_lines form made old new changes ≡ [] → changes ≡ []
+no_changes form made old new [] bits none = refl
+no_changes form made old new (c ∷ changes) bits none =
     let lowest = has_lowest c.mask (All-head (λ (c : Change). HasABit c.mask) c changes bits) in
     let one = change_line old new c in
     let lines = map (change_line old new) changes in
-    let there = none_at spelling head (one ∷ lines) 32 lowest.0 lowest.1.0 none in
-    let first = parts_empty (if is_lowest one.0 lowest.0 then bits_line spelling head one else []) (lines_at spelling head lines lowest.0) there in
-    let none : bits_line spelling head one ≡ [] = sym (ap (λ (b : Bool). if b then bits_line spelling head one else []) lowest.1.1) ∙ first.0 in
-    absurd (cc ((parts_empty (head ++ spelled spelling one.0 ++ one.1) (10 ∷ []) none).1))
+    let there = none_at form made (one ∷ lines) 32 lowest.0 lowest.1.0 none in
+    let first = parts_empty (if is_lowest one.0 lowest.0 then bits_line form made one ∷ [] else []) (lines_at form made lines lowest.0) there in
+    let none : bits_line form made one ∷ [] ≡ [] = sym (ap (λ (b : Bool). if b then bits_line form made one ∷ [] else []) lowest.1.1) ∙ first.0 in
+    absurd (cc none)
 
--- where no line is printed of gains and losses, there are none
-pub no_gain_no_loss : (spelling : Spelling) (head : List ℕ) (old new : Parts) (gained lost : List Change)
+-- where there is no line of gains and losses, there are none
+pub no_gain_no_loss : (made : Option Descendant) (old new : Parts) (gained lost : List Change)
     → All (λ (c : Change). HasABit c.mask) gained → All (λ (c : Change). HasABit c.mask) lost
-    → gains_and_losses spelling head old new gained lost ≡ [] → (gained ≡ []) × (lost ≡ [])
-no_gain_no_loss spelling head old new gained lost gains losses none =
+    → gains_and_losses made old new gained lost ≡ [] → (gained ≡ []) × (lost ≡ [])
+no_gain_no_loss made old new gained lost gains losses none =
     let parts = parts_empty _ _ none in
-    (no_changes spelling _ old new gained gains parts.0, no_changes spelling _ old new lost losses parts.1)
+    (no_changes _ made old new gained gains parts.0, no_changes _ made old new lost losses parts.1)

@@ -7,8 +7,4 @@ pub mod Compare
 pub mod Descendants
 pub mod Lint
 pub mod Descriptor
-pub mod Names
-pub mod Rights
-pub mod Mask
 pub mod Parts
-pub mod Laws

@@ -1,8 +1,7 @@
--- What `lint` prints: what is doubtful in a descriptor's DACL, a line for each finding, entry by entry.
+-- What `lint` answers: what is doubtful in a descriptor's DACL, a line for each finding, entry by entry.
 use Rattle.std.specs.Prelude.{◌≡◌, ℕ, zero, suc, ◌+◌, Bool, not, ◌&&◌, ◌||◌, ◌==◌, if◌then◌else◌, Option, Some, None}
-use Rattle.std.specs.Prelude.{List, [], ◌++◌, length, take, slice_get, position, codes}
+use Rattle.std.specs.Prelude.{List, [], ◌∷◌, ◌++◌, length, take, slice_get, position}
 use Rattle.std.specs.Bool.{beq}
-use Rattle.std.specs.Fmt.{decimal}
 use Rattle.sd_sid.specs.Mask.{holds}
 use Rattle.sd_sid.specs.Mapping.{MappingValue}
 use Rattle.sd_sid.specs.Sid.{SidValue, same_sid}
@@ -12,12 +11,14 @@ use Rattle.sd_acl.specs.Dacl.{Dacl}
 use Rattle.sd_acl.specs.Descriptor.{DescriptorValue}
 use Rattle.sd_acl.specs.declared.ace.Ace.{Ace}
 use Rattle.sd_acl.specs.declared.descriptor.DaclOf.TheVariants.{Absent, Null, List as Entries}
-use Rattle.sd_text.specs.Canon.{entry_canon_in}
 use Rattle.sd_check.specs.Check.{is_limit}
 use Rattle.sd_check.specs.declared.token.GroupState.{GroupState}
 use Rattle.sd_analysis.specs.Redundant.{AreRedundant, is_marked}
-use Rattle.sd_answer.specs.VerdictLines.{line, right_names_of}
-use Rattle.sd_answer.specs.declared.verdict_lines.Spelling.{Spelling}
+use Rattle.sd_line.specs.Line.{Form, LineOf, form, line_of}
+use Rattle.sd_line.specs.declared.line.Value.{Value}
+use Rattle.sd_line.specs.declared.line.Value.TheVariants as values
+use Rattle.sd_answer.specs.declared.forms.TheConstants.{LIMITS_OWNER, NOT_INHERITED, NO_DACL, NO_EFFECT, NO_RIGHT}
+use Rattle.sd_answer.specs.declared.forms.TheConstants.{NULL_DACL, OUT_OF_ORDER, REPEATED}
 
 -- ---- what two entries are to each other
 
@@ -44,47 +45,46 @@ is_useless e mark = mark && not (is_stranded e)
 
 -- ---- lines
 
-abbrev pub entry_head : Spelling → ℕ → Ace → List ℕ
-entry_head spelling place e =
-    codes "entry " ++ decimal (place + 1) ++ codes " " ++ entry_canon_in (right_names_of spelling) e ++ codes " "
+-- which entry it is, counted from 1
+abbrev pub entry_values : ℕ → Ace → List Value
+entry_values place e = values.Number (place + 1) ∷ values.Entry e ∷ []
 
 -- what is so of an entry, where it is
-abbrev pub where_so : Bool → List ℕ → List ℕ → List ℕ
-where_so test head what = if test then line (head ++ what) else []
+abbrev pub where_so : Bool → ℕ → Ace → Form → List LineOf
+where_so test place e f = if test then line_of f (entry_values place e) ∷ [] else []
 
 -- what an entry is to the first earlier one of which it is so
-abbrev pub where_behind : Option ℕ → List ℕ → List ℕ → List ℕ
-where_behind None head what = []
-where_behind (Some earlier) head what = line (head ++ what ++ decimal (earlier + 1))
+abbrev pub where_behind : Option ℕ → ℕ → Ace → Form → List LineOf
+where_behind None place e f = []
+where_behind (Some earlier) place e f =
+    line_of f (entry_values place e ++ values.Number (earlier + 1) ∷ []) ∷ []
 
 -- the findings of an entry behind these, by a mark whether it is redundant
-unfoldable pub entry_lines : Spelling → List Ace → Ace → Bool → List ℕ
-entry_lines spelling before e mark =
-    let head = entry_head spelling (length before) e in
-    where_behind (position (is_misplaced e) before) head (codes "is out of order behind entry ")
-    ++ where_so (e.mask == 0) head (codes "names no right")
-    ++ where_so (is_stranded e) head (codes "is inherited by nothing")
-    ++ where_behind (position (is_repeated e) before) head (codes "repeats entry ")
-    ++ where_so (is_useless e mark) head (codes "has no effect")
-    ++ where_so (is_limit e) head (codes "limits the owner")
+unfoldable pub entry_lines : List Ace → Ace → Bool → List LineOf
+entry_lines before e mark =
+    let place = length before in
+    where_behind (position (is_misplaced e) before) place e (form OUT_OF_ORDER)
+    ++ where_so (e.mask == 0) place e (form NO_RIGHT)
+    ++ where_so (is_stranded e) place e (form NOT_INHERITED)
+    ++ where_behind (position (is_repeated e) before) place e (form REPEATED)
+    ++ where_so (is_useless e mark) place e (form NO_EFFECT)
+    ++ where_so (is_limit e) place e (form LIMITS_OWNER)
 
-abbrev pub lines_at : Spelling → List Ace → ℕ → Option Ace → Bool → List ℕ
-lines_at spelling es place None mark = []
-lines_at spelling es place (Some e) mark = entry_lines spelling (take place es) e mark
+abbrev pub lines_at : List Ace → ℕ → Option Ace → Bool → List LineOf
+lines_at es place None mark = []
+lines_at es place (Some e) mark = entry_lines (take place es) e mark
 
 -- the lines of the entries below a place
-unfoldable pub list_lines : Spelling → List Ace → List Bool → ℕ → List ℕ
-list_lines spelling es marks zero = []
-list_lines spelling es marks (suc k) =
-    list_lines spelling es marks k ++ lines_at spelling es k (slice_get es k) (is_marked marks k)
+unfoldable pub list_lines : List Ace → List Bool → ℕ → List LineOf
+list_lines es marks zero = []
+list_lines es marks (suc k) = list_lines es marks k ++ lines_at es k (slice_get es k) (is_marked marks k)
 
 -- the lines on a DACL of this owner's, whose redundant entries are marked
-abbrev pub AreDaclLines : MappingValue → Spelling → List (SidValue × GroupState) → Option SidValue → Dacl → List ℕ
-    → Type 0
-AreDaclLines g spelling base owner Absent text = text ≡ line (codes "no DACL grants everything")
-AreDaclLines g spelling base owner Null text = text ≡ line (codes "a null DACL grants everything")
-AreDaclLines g spelling base owner (Entries es) text =
-    (marks : List Bool) × AreRedundant owner es g base marks × (text ≡ list_lines spelling es marks (length es))
+abbrev pub AreDaclLines : MappingValue → List (SidValue × GroupState) → Option SidValue → Dacl → List LineOf → Type 0
+AreDaclLines g base owner Absent lines = lines ≡ line_of (form NO_DACL) [] ∷ []
+AreDaclLines g base owner Null lines = lines ≡ line_of (form NULL_DACL) [] ∷ []
+AreDaclLines g base owner (Entries es) lines =
+    (marks : List Bool) × AreRedundant owner es g base marks × (lines ≡ list_lines es marks (length es))
 
-abbrev pub IsLintText : MappingValue → Spelling → List (SidValue × GroupState) → DescriptorValue → List ℕ → Type 0
-IsLintText g spelling base d text = AreDaclLines g spelling base d.owner d.dacl text
+abbrev pub AreFindings : MappingValue → List (SidValue × GroupState) → DescriptorValue → List LineOf → Type 0
+AreFindings g base d lines = AreDaclLines g base d.owner d.dacl lines

@@ -1,12 +1,11 @@
--- What `why` prints: the verdict's line, and one for each part of the answer, in the order of their least bits.
-use Rattle.std.specs.Prelude.{ℕ, zero, suc, ◌+◌, List, [], ◌++◌, Option, Some, None, slice_get, if◌then◌else◌, codes}
-use Rattle.std.specs.Fmt.{decimal}
+-- What `why` answers: the verdict's line, and one for each part of the answer, in the order of their least bits.
+use Rattle.std.specs.Prelude.{ℕ, zero, suc, ◌+◌, List, [], ◌∷◌, ◌++◌, Option, Some, None, slice_get, codes}
+use Rattle.std.specs.Prelude.{if◌then◌else◌}
 use Rattle.sd_sid.specs.Sid.{SidValue}
 use Rattle.sd_sid.specs.Mapping.{MappingValue}
 use Rattle.sd_acl.specs.Descriptor.{DescriptorValue}
 use Rattle.sd_check.specs.Check.{subject, verdict, dacl_entries}
 use Rattle.sd_acl.specs.declared.ace.Ace.{Ace}
-use Rattle.sd_text.specs.Canon.{full_canon, entry_canon_in}
 use Rattle.sd_check.specs.Token.{TokenValue}
 use Rattle.sd_explain.specs.Reasons.{grants, reasons_of}
 use Rattle.sd_explain.specs.Parts.{part_at, reason_in}
@@ -17,62 +16,60 @@ use Rattle.sd_explain.specs.declared.reason.Cause.{Cause}
 use Rattle.sd_explain.specs.declared.reason.Cause.TheVariants.{NoList, Listed, Restricted, Owner}
 use Rattle.sd_explain.specs.declared.reason.Cause.TheVariants.{TakeOwnership, Security, NoSecurity, BeyondAll, Reserved}
 use Rattle.sd_explain.specs.declared.reason.Reason.{Reason}
-use Rattle.sd_answer.specs.VerdictLines.{line, right_names_of, spelled, verdict_line}
-use Rattle.sd_answer.specs.declared.verdict_lines.Spelling.{Spelling}
+use Rattle.sd_line.specs.Line.{Form, LineOf, PartOf, form, line_with, part_of, word_part}
+use Rattle.sd_line.specs.declared.line.Value.{Value}
+use Rattle.sd_line.specs.declared.line.Value.TheVariants as values
+use Rattle.sd_analysis.specs.Sufficient.{entries_or_none}
+use Rattle.sd_answer.specs.VerdictLines.{verdict_line}
+use Rattle.sd_answer.specs.declared.forms.TheConstants.{AS, BEYOND, BY, BY_ENTRY, BY_NO, DENIED, GRANTED}
+use Rattle.sd_answer.specs.declared.forms.TheConstants.{SECOND_BY_ENTRY, SECOND_BY_NO, TO_THE, WITHOUT, WITHOUT_A}
 
--- the SID that the token stands for, in full
-abbrev pub subject_text : Option SidValue → List ℕ
-subject_text None = []
-subject_text (Some s) = full_canon s
+-- the SID that the token stands for
+abbrev pub subject_value : Option SidValue → Value
+subject_value None = values.Text []
+subject_value (Some s) = values.Sid s
 
--- an entry, counted from 1 and with the names of its kind of object, and whom it speaks of
-abbrev pub entry_text : Spelling → Option SidValue → ℕ → Option Ace → List ℕ
-entry_text spelling owner place None = []
-entry_text spelling owner place (Some e) =
-    codes "by entry " ++ decimal (place + 1) ++ codes " " ++ entry_canon_in (right_names_of spelling) e
-    ++ codes " as " ++ subject_text (subject owner e.sid)
+-- an entry, counted from 1, and whom it speaks of
+abbrev pub entry_parts : List ℕ → Option SidValue → ℕ → Option Ace → List PartOf
+entry_parts form owner place None = []
+entry_parts form owner place (Some e) =
+    part_of form (values.Number (place + 1) ∷ values.Entry e ∷ subject_value (subject owner e.sid) ∷ []) ∷ []
 
-abbrev pub finding_text : Spelling → Option SidValue → List Ace → Finding → List ℕ
-finding_text spelling owner es (Allowed place) = entry_text spelling owner place (slice_get es place)
-finding_text spelling owner es (Denied place) = entry_text spelling owner place (slice_get es place)
-finding_text spelling owner es NoEntry = codes "by no entry"
+abbrev pub finding_parts : (by_entry by_no : List ℕ) → Option SidValue → List Ace → Finding → List PartOf
+finding_parts by_entry by_no owner es (Allowed place) = entry_parts by_entry owner place (slice_get es place)
+finding_parts by_entry by_no owner es (Denied place) = entry_parts by_entry owner place (slice_get es place)
+finding_parts by_entry by_no owner es NoEntry = word_part by_no (codes "entry") ∷ []
 
 -- of a restricted token each pass has its own reason
-abbrev pub cause_text : Spelling → Option SidValue → List Ace → Cause → List ℕ
-cause_text spelling owner es NoList = codes "without a list"
-cause_text spelling owner es (Listed finding) = finding_text spelling owner es finding
-cause_text spelling owner es (Restricted first second) =
-    finding_text spelling owner es first ++ codes ", restricted " ++ finding_text spelling owner es second
-cause_text spelling owner es Owner = codes "to the owner"
-cause_text spelling owner es TakeOwnership = codes "by SeTakeOwnershipPrivilege"
-cause_text spelling owner es Security = codes "by SeSecurityPrivilege"
-cause_text spelling owner es NoSecurity = codes "without SeSecurityPrivilege"
-cause_text spelling owner es BeyondAll = codes "beyond GENERIC_ALL"
-cause_text spelling owner es Reserved = codes "as reserved"
+abbrev pub cause_parts : Option SidValue → List Ace → Cause → List PartOf
+cause_parts owner es NoList = word_part WITHOUT_A.now (codes "list") ∷ []
+cause_parts owner es (Listed finding) = finding_parts BY_ENTRY.now BY_NO.now owner es finding
+cause_parts owner es (Restricted first second) =
+    finding_parts BY_ENTRY.now BY_NO.now owner es first
+    ++ finding_parts SECOND_BY_ENTRY.now SECOND_BY_NO.now owner es second
+cause_parts owner es Owner = word_part TO_THE.now (codes "owner") ∷ []
+cause_parts owner es TakeOwnership = word_part BY.now (codes "SeTakeOwnershipPrivilege") ∷ []
+cause_parts owner es Security = word_part BY.now (codes "SeSecurityPrivilege") ∷ []
+cause_parts owner es NoSecurity = word_part WITHOUT.now (codes "SeSecurityPrivilege") ∷ []
+cause_parts owner es BeyondAll = word_part BEYOND.now (codes "GENERIC_ALL") ∷ []
+cause_parts owner es Reserved = word_part AS.now (codes "reserved") ∷ []
 
-abbrev pub verb_of : Cause → List ℕ
-verb_of cause = if grants cause then codes "granted" else codes "denied"
+abbrev pub verb_of : Cause → Form
+verb_of cause = if grants cause then form GRANTED else form DENIED
 
 -- the line of the part that begins at a place, where one does
-abbrev pub line_at : Spelling → Option SidValue → List Ace → Option Part → List ℕ
-line_at spelling owner es None = []
-line_at spelling owner es (Some part) =
-    line (verb_of part.cause ++ codes " " ++ spelled spelling part.mask ++ codes " "
-    ++ cause_text spelling owner es part.cause)
+abbrev pub line_at : Option SidValue → List Ace → Option Part → List LineOf
+line_at owner es None = []
+line_at owner es (Some part) = line_with (verb_of part.cause).0
+    (part_of (verb_of part.cause).1 (values.Mask part.mask ∷ []) ∷ cause_parts owner es part.cause) ∷ []
 
 -- the lines of the parts that begin at places below n, in order
-unfoldable pub part_lines : Spelling → Option SidValue → List Ace → (ℕ → Option Reason) → ℕ → List ℕ
-part_lines spelling owner es reasons zero = []
-part_lines spelling owner es reasons (suc k) =
-    part_lines spelling owner es reasons k ++ line_at spelling owner es (part_at reasons k)
+unfoldable pub part_lines : Option SidValue → List Ace → (ℕ → Option Reason) → ℕ → List LineOf
+part_lines owner es reasons zero = []
+part_lines owner es reasons (suc k) = part_lines owner es reasons k ++ line_at owner es (part_at reasons k)
 
--- the entries of a DACL, of which an absent or a null one has none
-abbrev pub listed : Option (List Ace) → List Ace
-listed None = []
-listed (Some es) = es
-
-abbrev pub why_text : MappingValue → Spelling → DescriptorValue → TokenValue → ℕ → List ℕ
-why_text g spelling d t asked =
-    verdict_line spelling (verdict d.owner (dacl_entries d.dacl) g t asked)
-    ++ part_lines spelling d.owner (listed (dacl_entries d.dacl))
+abbrev pub why_lines : MappingValue → DescriptorValue → TokenValue → ℕ → List LineOf
+why_lines g d t asked =
+    verdict_line (verdict d.owner (dacl_entries d.dacl) g t asked)
+    ∷ part_lines d.owner (entries_or_none (dacl_entries d.dacl))
     (reason_in (reasons_of d.owner (dacl_entries d.dacl) g t asked)) 32

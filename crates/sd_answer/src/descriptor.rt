@@ -1,5 +1,5 @@
 //! The text of a descriptor, with the aliases that it may have, and a SACL that may be left out.
-ghost use Rattle.std.specs.Prelude.{Err, IfErr, IfOk};
+ghost use Rattle.std.specs.Prelude.{IfErr, IfOk};
 ghost use Rattle.sd_acl.specs.Descriptor.{descriptor_of};
 ghost use Rattle.sd_answer.specs.Descriptor.{IsRead, IsUnread};
 

@@ -1,42 +1,42 @@
 //! The arguments of a question and the lines of its answer, which scripts and the command line have in common.
 //!
 //! A question's WORDs, as `BU` or `+security`, make its token. Its answer is a line of its verdict, and where reasons
-//! are asked for, a line for each part of the mask; or the line of the first argument that is invalid.
+//! are asked for, a line for each part of the mask; or the line of the first argument that is invalid. Lines are
+//! values: `sd_line` prints them.
 //!
 //! ```text
 //! let token = read_token(alloc, aliases, user, &["BU", "S-1-5-21-1-2-3-512=deny", "+take"])?;
-//! verdict_line(alloc, Spelling::Number, verdict)?;  // granted 0x1
-//! let names = Spelling::Names(Some(ObjectKind::File));
-//! spell(alloc, names, Mask(0x160089))?; // FR+WD
-//! read_mask_in(names, "Full control"); // Mask(0x1F01FF)
+//! let lines = why_lines(alloc, mapping, descriptor, &token, Mask(0x3))?;
+//! lines_text(alloc, Spelling::Number, &lines)?; // denied 0x2, and why
 //! ```
 #![tactic(auto)]
 
 mod compare;
 mod descendants;
 mod descriptor;
-mod laws;
+mod forms;
 mod lines;
 mod lint;
-mod mask;
-mod names;
 mod parts;
-mod rights;
 mod verdict_lines;
 mod who;
 mod why;
 mod word;
 
-pub use compare::gains_and_losses;
-pub use descendants::{descendant_head, descendants_text, descendants_who_text, inheritance_text};
+pub use compare::push_gains_and_losses;
+pub use descendants::{push_descendants, push_descendants_who, push_inheritance};
 pub use descriptor::read_sddl_argument;
-pub use laws::{masks_come_back, names_are_distinct};
-pub use lint::{first_misplaced, lint_text};
-pub use mask::read_mask_in;
-pub use names::ObjectKind;
+pub use forms::{
+    ADD_CONTAINER, ADD_OBJECT, CLEAN, CONTAINER, DENIED_ALL, EMPTY, EMPTY_DACL, FAULT_AT,
+    FAULT_NAMED, FOUND, GONE, GRANTED_BY, LEARNED, MOVED, NEW_NODE, NO_NODE, NO_NOTICE, NO_READER,
+    OBJECT, OK, OPEN, OPENED, OWNER_CANNOT_READ, PATH, PUBLISH, PUBLISHED, REFUSED, REFUSED_NAMED,
+    REVIEWED, RISKY_GRANT, RISKY_GRANT_BELOW, SAME, SEEN, SHOWN, TOLD, UNKNOWN_GROUP,
+    UNKNOWN_OWNER, UNKNOWN_SID,
+};
+pub use lines::push_made;
+pub use lint::{first_misplaced, lint_lines};
 pub use parts::{dacl_ref, descriptor_ref, entries_in};
-pub use rights::rights_line;
-pub use verdict_lines::{Spelling, fault_line, sddl_fault_line, spell, verdict_line};
-pub use who::{rights_asked, who_text};
-pub use why::why_text;
+pub use verdict_lines::{fault_line, sddl_fault_line, verdict_line};
+pub use who::{rights_asked, who_lines};
+pub use why::why_lines;
 pub use word::{TokenError, read_base, read_token};

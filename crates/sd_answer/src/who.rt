@@ -1,15 +1,15 @@
 //! The rights that `who` is asked about, and its lines: rights, and whom they are granted to.
-ghost use Rattle.std.specs.Prelude.{◌≡◌, IfOk, OnOk, string_bytes};
+ghost use Rattle.std.specs.Prelude.{◌≡◌, ◌++◌, IfOk, OnOk};
 ghost use Rattle.sd_answer.specs.Lines.{values};
-ghost use Rattle.sd_answer.specs.Who.{alternative_text, headed_who_text, holder_text, rights_asked, unless_text};
-ghost use Rattle.sd_answer.specs.Who.{who_text, with_access};
+ghost use Rattle.sd_answer.specs.Who.{alternative_saying, holder_whom, made_who_lines, rights_asked, who_lines};
+ghost use Rattle.sd_answer.specs.Who.{plain_sids, with_access};
 
-use crate::lines::{BitsLine, Printer, join, push_sid};
-use crate::verdict_lines::Spelling;
-use sd_analysis::{Access, Alternative, Holder};
+use crate::forms::WHO;
+use crate::lines::{BitsLine, BitsWriter, Saying, Whom, join};
+use sd_analysis::{Access, Alternative, Descendant, Holder};
 use sd_check::MAXIMUM_PLACE;
+use sd_line::{Line, SidMark};
 use sd_sid::{GenericMapping, Mask, OBJECT_RIGHTS, Sid};
-use sd_text::print_full_sid;
 use std::alloc::{AllocError, Global};
 
 /// The rights that are asked about: those of the mask, generic ones mapped, or all of an object where it has
@@ -26,32 +26,33 @@ pub fn rights_asked(mapping: &GenericMapping, asked: Mask) -> Mask
 
 /// The lines of accesses, as `0x120000 to S-1-1-0 unless S-1-5-32-546`: rights with the same alternative are in one
 /// line, and the lines are in the order of their lowest rights. The only error is out of memory.
-pub fn who_text(
-    alloc: Global,
-    spelling: Spelling,
-    accesses: &[Access],
-) -> Result<String, AllocError>
-    ensures { IfOk result (λ text. string_bytes text ≡ who_text spelling accesses.now) }
+pub fn who_lines(alloc: Global, accesses: &[Access]) -> Result<Vec<Line>, AllocError>
+    ensures { IfOk result (λ lines. lines.items ≡ who_lines accesses.now) }
 {
-    headed_who_text(alloc, spelling, "", accesses)
+    let mut lines = Vec::new(alloc);
+    push_who(alloc, &mut lines, None, accesses)?;
+    Ok(lines)
 }
 
-/// The lines of accesses, each after a head.
-pub(crate) fn headed_who_text(
+/// Adds the lines of accesses, to the object or to what is made in it.
+pub(crate) fn push_who(
     alloc: Global,
-    spelling: Spelling,
-    head: &str,
+    out: &mut Vec<Line>,
+    made: Option<Descendant>,
     accesses: &[Access],
-) -> Result<String, AllocError>
-    ensures { IfOk result (λ text. string_bytes text ≡ headed_who_text spelling head.now accesses.now) }
+) -> Result<(), AllocError>
+    ensures { OnOk result (out.new.items ≡ out.old.items ++ made_who_lines made accesses.now) }
 {
     let mut lines = Vec::new(alloc);
     for access in accesses {
         join_access(alloc, &mut lines, access)?;
     }
-    let mut text = String::new(alloc);
-    Printer { alloc, spelling }.push_lines(&mut text, head, &lines)?;
-    Ok(text)
+    let writer = BitsWriter {
+        alloc,
+        form: WHO,
+        made,
+    };
+    writer.push_lines(out, &lines)
 }
 
 /// Adds the rights of an access, to the line of each alternative.
@@ -59,54 +60,48 @@ fn join_access(alloc: Global, lines: &mut Vec<BitsLine>, access: &Access) -> Res
     ensures { OnOk result (values lines.new.items ≡ with_access (values lines.old.items) access.now) }
 {
     if access.alternatives.is_empty() {
-        let nobody = String::from_str(alloc, " to nobody")?;
-        return join(lines, access.mask, nobody);
+        return join(
+            lines,
+            access.mask,
+            Saying::new(Whom::Nobody, Vec::new(alloc)),
+        );
     }
     for alternative in &access.alternatives {
-        let said = alternative_text(alloc, &access.denied, alternative)?;
+        let said = alternative_saying(alloc, &access.denied, alternative)?;
         join(lines, access.mask, said)?;
     }
     Ok(())
 }
 
 /// Whom an alternative is for, and unless which SIDs are in the token.
-fn alternative_text(
+fn alternative_saying(
     alloc: Global,
     denied: &[Sid],
     alternative: &Alternative,
-) -> Result<String, AllocError>
-    ensures { IfOk result (λ text. string_bytes text ≡ alternative_text denied.now alternative.now) }
+) -> Result<Saying, AllocError>
+    ensures { IfOk result (λ said. said ≡ alternative_saying denied.now alternative.now) }
 {
-    let holder = holder_text(alloc, &alternative.holder)?;
     let denied = denied.get(..alternative.unless).unwrap_or(denied);
-    let unless = unless_text(alloc, denied)?;
-    let (holder, unless) = (holder.as_str(), unless.as_str());
-    format!(in alloc; " to {holder}{unless}")
+    let unless = plain_sids(alloc, denied)?;
+    Ok(Saying::new(holder_whom(&alternative.holder), unless))
 }
 
-fn holder_text(alloc: Global, holder: &Holder) -> Result<String, AllocError>
-    ensures { IfOk result (λ text. string_bytes text ≡ holder_text holder.now) }
+fn holder_whom(holder: &Holder) -> Whom
+    ensures { result ≡ holder_whom holder.now }
 {
     match holder {
-        Holder::Everyone => String::from_str(alloc, "everyone"),
-        Holder::Sid(sid) => print_full_sid(alloc, sid),
-        Holder::Owner(sid) => {
-            let mut text = print_full_sid(alloc, sid)?;
-            text.push_str(" as the owner")?;
-            Ok(text)
-        }
+        Holder::Everyone => Whom::Everyone,
+        Holder::Sid(sid) => Whom::Sid(*sid),
+        Holder::Owner(sid) => Whom::Owner(*sid),
     }
 }
 
-fn unless_text(alloc: Global, sids: &[Sid]) -> Result<String, AllocError>
-    ensures { IfOk result (λ text. string_bytes text ≡ unless_text sids.now) }
+fn plain_sids(alloc: Global, sids: &[Sid]) -> Result<Vec<(Sid, SidMark)>, AllocError>
+    ensures { IfOk result (λ marked. marked.items ≡ plain_sids sids.now) }
 {
-    if sids.is_empty() {
-        return Ok(String::new(alloc));
-    }
-    let mut text = String::from_str(alloc, " unless")?;
+    let mut marked = Vec::new(alloc);
     for sid in sids {
-        push_sid(alloc, &mut text, sid, "")?;
+        marked.push((*sid, SidMark::Plain))?;
     }
-    Ok(text)
+    Ok(marked)
 }

@@ -14,8 +14,9 @@ use Rattle.sd_edit.specs.Limits.{IsLimits, LimitsValue, standard_limits}
 use Rattle.sd_script.specs.Argument.{IsNumber}
 use Rattle.sd_script.specs.declared.script_options.ScriptOptions.{ScriptOptions}
 use Rattle.sd_script.specs.declared.paths.PathSpelling.TheVariants as paths
-use Rattle.sd_answer.specs.declared.verdict_lines.Spelling.{Spelling}
-use Rattle.sd_answer.specs.declared.verdict_lines.Spelling.TheVariants.{Number, Names as ByNames}
+use Rattle.sd_line.specs.declared.print.Style.{Style}
+use Rattle.sd_line.specs.declared.spelling.Spelling.{Spelling}
+use Rattle.sd_line.specs.declared.spelling.Spelling.TheVariants.{Number, Names as ByNames}
 use Rattle.sd_usage.specs.Table.{option_named, place, takes_option}
 use Rattle.sd_usage.specs.declared.row.OptionName.{OptionName}
 use Rattle.sd_usage.specs.declared.row.OptionName.TheVariants.{Aliases, Base64, Below, Caret, Concern, Domain, Edits}
@@ -102,6 +103,10 @@ go_before = go_before_from false
 -- how masks are told
 abbrev pub spelling_of : OptionsValue → Spelling
 spelling_of options = if has options Names then ByNames (kind_given (given options Mapping)) else Number
+
+-- how answers are printed
+abbrev pub style_of : OptionsValue → Style
+style_of options = record { spelling = spelling_of options; is_json = has options Json }
 
 -- how bytes are spelled
 abbrev pub byte_form : OptionsValue → ByteForm

@@ -5,12 +5,12 @@ ghost use Rattle.sd_text.specs.Grammar.{Spells};
 ghost use Rattle.sd_text.specs.Sid.{sid_text};
 ghost use Rattle.sd_arguments.specs.Options.{GivesDomain, GivesLimits, GivesScriptOptions, GivesNumber, GivesSettings};
 ghost use Rattle.sd_arguments.specs.Options.{HasBadValue, IsNoDomain, byte_form, given, go_before, goes_before, has};
-ghost use Rattle.sd_arguments.specs.Options.{no_options, options_in, options_of, spelling_of, with_option};
+ghost use Rattle.sd_arguments.specs.Options.{no_options, options_in, options_of, spelling_of, style_of, with_option};
 ghost use Rattle.sd_arguments.specs.UsageError.{accepted};
 
 use crate::usage_error::{UsageError, UsageErrorKind};
-use sd_answer::Spelling;
 use sd_commands::{ByteForm, Settings, concern_given, kind_given, logon_given, mapping_given};
+use sd_line::{Spelling, Style};
 use sd_script::{Notation, PathSpelling, ScriptOptions, number_in};
 use sd_text::{Aliases, Domain, read_sid_text};
 use sd_tree::{Limits, LimitsError};
@@ -141,6 +141,16 @@ impl<'a> Options<'a> {
             Spelling::Names(kind_given(self.given(OptionName::Mapping)))
         } else {
             Spelling::Number
+        }
+    }
+
+    /// How answers are printed.
+    pub fn style(self) -> Style
+        ensures { result ≡ style_of (options_of self.entry) }
+    {
+        Style {
+            spelling: self.spelling(),
+            is_json: self.has(OptionName::Json),
         }
     }
 

@@ -1,6 +1,6 @@
 -- What `hudarin_who` and `hudarin_compare` return: who is granted rights, and what a change of a descriptor grants and
 -- takes away, of all tokens that have a base.
-use Rattle.std.specs.Prelude.{◌≡◌, ◌⊎◌, ◌<◌, ℕ, List, [], ◌∷◌, ◌++◌, length, codes, Result, Ok, Err, IsOk}
+use Rattle.std.specs.Prelude.{◌≡◌, ◌⊎◌, ◌<◌, ℕ, List, [], ◌∷◌, ◌++◌, length, None, Result, Ok, Err, IsOk}
 use Rattle.sd_sid.specs.Mapping.{MappingValue}
 use Rattle.sd_sid.specs.Mask.{mask_of}
 use Rattle.sd_sid.specs.Sid.{SidValue}
@@ -14,11 +14,13 @@ use Rattle.sd_analysis.specs.declared.compare_report.Change.{Change}
 use Rattle.sd_analysis.specs.declared.descendants_compare.DescendantChange.{DescendantChange}
 use Rattle.sd_analysis.specs.declared.who_has.Access.{Access}
 use Rattle.sd_answer.specs.Compare.{gains_and_losses}
-use Rattle.sd_answer.specs.Descendants.{descendants_text, inheritance_text}
+use Rattle.sd_answer.specs.Descendants.{descendants_lines, inheritance_lines}
 use Rattle.sd_answer.specs.Parts.{entries_in, parts_in}
-use Rattle.sd_answer.specs.VerdictLines.{line}
-use Rattle.sd_answer.specs.Who.{rights_asked, who_text}
-use Rattle.sd_answer.specs.declared.verdict_lines.Spelling.TheVariants.{Number}
+use Rattle.sd_answer.specs.Who.{rights_asked, who_lines}
+use Rattle.sd_answer.specs.declared.forms.TheConstants.{SAME}
+use Rattle.sd_line.specs.Line.{LineOf, form, line_of}
+use Rattle.sd_line.specs.Printed.{lines_text}
+use Rattle.sd_line.specs.declared.spelling.Spelling.TheVariants.{Number}
 use Rattle.sd_c.specs.declared.analysis.CompareAnswer.{CompareAnswer}
 use Rattle.sd_c.specs.declared.analysis.WhoAnswer.{WhoAnswer}
 use Rattle.sd_c.specs.declared.call_answer.CheckAnswer.{CheckAnswer}
@@ -86,7 +88,7 @@ IsWhoText d base asked printed =
     × IsMost d.owner (dacl_entries d.dacl) base.mapping base.groups (rights_asked base.mapping asked) all
     × HasEachOnce (rights_asked base.mapping asked) all
     × AllBeyond base.groups all
-    × (printed ≡ who_text Number all)
+    × (printed ≡ lines_text Number (who_lines all))
 
 abbrev pub IsWhoOf : Result DescriptorValue NotRead → List ℕ → List ℕ → Mapping → ℕ → List ℕ → Type 0
 IsWhoOf kept groups states mapping asked printed =
@@ -111,9 +113,9 @@ abbrev pub bits_of : List Change → ℕ
 bits_of changes = mask_of (is_reported changes) 32
 
 -- `same` where there is no line
-abbrev pub lines_or_same : List ℕ → List ℕ
-lines_or_same [] = line (codes "same")
-lines_or_same (b ∷ bs) = b ∷ bs
+abbrev pub lines_or_same : List LineOf → List LineOf
+lines_or_same [] = line_of (form SAME) [] ∷ []
+lines_or_same (l ∷ ls) = l ∷ ls
 
 -- the lines of what tokens with the base gain and lose where the new descriptor takes the place of the old one, of the
 -- object itself, none where both are the same to a check, and of what is made in it, if it is a container; and whether
@@ -126,8 +128,9 @@ IsCompareText old new base printed gained_bits lost_bits =
     × AreGains base.mapping base.groups (parts_in new) (parts_in old) lost
     × (parts_in old ≡ parts_in new → (gained ≡ []) × (lost ≡ []))
     × AreDescendantChanges base.mapping base.groups (entries_in old.dacl) (entries_in new.dacl) below
-    × (printed ≡ lines_or_same (gains_and_losses Number [] (parts_in old) (parts_in new) gained lost
-    ++ descendants_text Number [] below ++ inheritance_text old.protected new.protected))
+    × (printed ≡ lines_text Number (lines_or_same
+    (gains_and_losses None (parts_in old) (parts_in new) gained lost
+    ++ descendants_lines below ++ inheritance_lines old.protected new.protected)))
     × (gained_bits ≡ bits_of gained) × (lost_bits ≡ bits_of lost)
 
 abbrev pub IsCompareOf :

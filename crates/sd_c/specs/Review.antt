@@ -13,7 +13,8 @@ use Rattle.sd_review.specs.Review.{Trees, former, trees_after}
 use Rattle.sd_review.specs.declared.compared.Compared.{Compared}
 use Rattle.sd_review.specs.declared.review.Former.{Former}
 use Rattle.sd_review.specs.declared.review.Former.TheVariants.{Same, Moved, New}
-use Rattle.sd_answer.specs.declared.verdict_lines.Spelling.TheVariants.{Number}
+use Rattle.sd_line.specs.Printed.{lines_text}
+use Rattle.sd_line.specs.declared.spelling.Spelling.TheVariants.{Number}
 use Rattle.sd_c.specs.declared.handle.Handle.{Handle}
 use Rattle.sd_c.specs.declared.handle.kept.Kept.{Kept}
 use Rattle.sd_c.specs.declared.not_done.NotDone.{NotDone}
@@ -35,7 +36,7 @@ AreNone changes = (string_bytes changes.lines ≡ []) × (changes.gained ≡ 0) 
 abbrev pub AreChangesOf : Option Compared → Changes → Type 0
 AreChangesOf None changes = AreNone changes
 AreChangesOf (Some c) changes =
-    (string_bytes changes.lines ≡ lines Number [] c) × (changes.gained ≡ bits_of c.comparison.gained.items)
+    (string_bytes changes.lines ≡ lines_text Number (lines c)) × (changes.gained ≡ bits_of c.comparison.gained.items)
     × (changes.lost ≡ bits_of c.comparison.lost.items)
 
 -- of the node at a path, beside the node at a path of the published tree, for all tokens

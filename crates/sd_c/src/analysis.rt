@@ -15,10 +15,11 @@ use crate::stop::{NotRead, Stop};
 use sd_acl::Descriptor;
 use sd_analysis::{Base, Change, compare, compare_descendants, who};
 use sd_answer::{
-    Spelling, dacl_ref, descendants_text, descriptor_ref, entries_in, gains_and_losses,
-    inheritance_text, rights_asked, who_text,
+    SAME, dacl_ref, descriptor_ref, entries_in, push_descendants, push_gains_and_losses,
+    push_inheritance, rights_asked, who_lines,
 };
 use sd_check::GroupState;
+use sd_line::{Line, Spelling, lines_text};
 use sd_sid::{GenericMapping, Mask, Sid};
 use std::alloc::{AllocError, Global};
 
@@ -156,10 +157,10 @@ fn who_of(
     };
     let groups = groups_of(alloc, groups, states)?;
     let mapping = mapping_of(mapping)?;
-    Ok(who_lines(alloc, descriptor, &groups, &mapping, Mask(asked))?)
+    Ok(who_text(alloc, descriptor, &groups, &mapping, Mask(asked))?)
 }
 
-fn who_lines(
+fn who_text(
     alloc: Global,
     descriptor: &Descriptor,
     groups: &[(Sid, GroupState)],
@@ -173,7 +174,7 @@ fn who_lines(
     let dacl = dacl_ref(&descriptor.dacl);
     let rights = rights_asked(mapping, asked);
     let accesses = who(alloc, descriptor.owner, dacl, mapping, &base, rights)?;
-    who_text(alloc, Spelling::Number, &accesses)
+    lines_text(alloc, Spelling::Number, &who_lines(alloc, &accesses)?)
 }
 
 /// The lines of a comparison, and the bits of its changes.
@@ -220,32 +221,30 @@ fn comparison_of(
     ensures { IfOk result (λ made. IsCompareText (descriptor_of old.now) (descriptor_of new.now)
         (record { groups = groups.now; mapping = mapping.now }) (string_bytes made.text) made.gained made.lost) }
 {
-    let (first, second, base) = (
-        entries_in(&old.dacl),
-        entries_in(&new.dacl),
-        Base { groups },
-    );
-    let changes = compare_descendants(alloc, first, second, mapping, &base)?;
-    let below = descendants_text(alloc, Spelling::Number, "", &changes)?;
-    let inheritance = inheritance_text(old.protected, new.protected);
-    let (old, new) = (descriptor_ref(old), descriptor_ref(new));
-    let comparison = compare(alloc, &old, &new, mapping, &base)?;
-    let own = gains_and_losses(alloc, Spelling::Number, "", &old, &new, &comparison)?;
-    let lines = format!(in alloc; "{own}{below}{inheritance}")?;
+    let (first, second, base) = (descriptor_ref(old), descriptor_ref(new), Base { groups });
+    let comparison = compare(alloc, &first, &second, mapping, &base)?;
+    let mut lines = Vec::new(alloc);
+    push_gains_and_losses(alloc, &mut lines, None, &first, &second, &comparison)?;
+    let (first, second) = (entries_in(&old.dacl), entries_in(&new.dacl));
+    let below = compare_descendants(alloc, first, second, mapping, &base)?;
+    push_descendants(alloc, &mut lines, &below)?;
+    push_inheritance(alloc, &mut lines, old.protected, new.protected)?;
+    let lines = lines_or_same(alloc, lines)?;
     Ok(Compared {
-        text: lines_or_same(alloc, lines)?,
+        text: lines_text(alloc, Spelling::Number, &lines)?,
         gained: bits_of(&comparison.gained),
         lost: bits_of(&comparison.lost),
     })
 }
 
-fn lines_or_same(alloc: Global, lines: String) -> Result<String, AllocError>
-    ensures { IfOk result (λ text. string_bytes text ≡ lines_or_same (string_bytes lines)) }
+fn lines_or_same(alloc: Global, lines: Vec<Line>) -> Result<Vec<Line>, AllocError>
+    ensures { IfOk result (λ made. made.items ≡ lines_or_same lines.items) }
 {
-    if lines.is_empty() {
-        return String::from_str(alloc, "same\n");
+    if !lines.is_empty() {
+        return Ok(lines);
     }
-    Ok(lines)
+    let same = Line::new(alloc, SAME, Vec::new(alloc))?;
+    Ok(vec![in alloc; same]?)
 }
 
 /// The bits of all changes.

@@ -15,7 +15,7 @@ use crate::call_answer::{Written, write};
 use crate::handle::{Handle, Kept};
 use crate::not_done::NotDone;
 use crate::views::not_told;
-use sd_answer::Spelling;
+use sd_line::{Spelling, lines_text};
 use sd_path::Path;
 use sd_review::{Compared, Former, Review};
 use sd_sid::Mask;
@@ -291,7 +291,7 @@ fn changes_at(
 fn changes_of(alloc: Global, compared: &Compared) -> Result<Changes, AllocError>
     ensures { IfOk result (AreChangesOf (Some compared.now)) }
 {
-    let lines = compared.lines(alloc, Spelling::Number, "")?;
+    let lines = lines_text(alloc, Spelling::Number, &compared.lines(alloc)?)?;
     let gained = bits_of(&compared.comparison.gained);
     let lost = bits_of(&compared.comparison.lost);
     Ok(Changes {

@@ -6,27 +6,23 @@ use Rattle.sd_script.specs.declared.script_options.ScriptOptions.{ScriptOptions}
 use Rattle.sd_script.specs.declared.script_counts.ScriptCounts.{ScriptCounts}
 use Rattle.sd_script_audit.specs.Audit.{PrintsAuditAndCounts}
 use Rattle.sd_script.specs.Printed.{PrintsAndCountsServed, PrintsAs}
-use Rattle.sd_json.specs.Text.{printed_as}
-use Rattle.sd_json.specs.declared.tagging.Tagging.TheVariants.{Nothing}
-use Rattle.sd_usage.specs.declared.row.OptionName.TheVariants.{Json, Strict, StrictStatus}
+use Rattle.sd_usage.specs.declared.row.OptionName.TheVariants.{Strict, StrictStatus}
 use Rattle.sd_arguments.specs.CommandLine.{CommandLineValue, Ask, Each, Help, Runs, Script, Version}
-use Rattle.sd_arguments.specs.Options.{OptionsValue, GivesScriptOptions, has}
+use Rattle.sd_arguments.specs.Options.{OptionsValue, GivesScriptOptions, has, style_of}
 use Rattle.sd_arguments.specs.Version.{version_line}
 use Rattle.sd_arguments.specs.declared.command_line.ScriptRun.{ScriptRun}
 use Rattle.sd_arguments.specs.declared.command_line.ScriptRun.TheVariants.{AtOnce, LineByLine, Audit}
 use Rattle.sd_arguments.specs.declared.options.BadValue.{BadValue}
 use Rattle.sd_questions.specs.TextAnswer.{AnswersEach, AnswersOnce, IsBadValue}
-use Rattle.sd_commands.specs.CommandAnswer.{AnswerValue, IsDone}
+use Rattle.sd_questions.specs.TextAnswer.{PrintedAnswer, printed_as}
+use Rattle.sd_commands.specs.CommandAnswer.{AnswerValue}
 use Rattle.sd_commands.specs.declared.command_answer.Outcome.TheVariants.{Done}
 use Rattle.sd_command_line.specs.Scripts.{IsToldOfScript, script_outcome}
 
--- an answer, as it is printed
-abbrev pub printed_when : Bool → AnswerValue → AnswerValue
-printed_when is_json answer = record answer { printed = printed_as is_json Nothing answer.printed }
-
-abbrev pub IsPrinted : OptionsValue → (AnswerValue → Type 0) → AnswerValue → Type 0
+-- such an answer, as it is printed
+abbrev pub IsPrinted : OptionsValue → (AnswerValue → Type 0) → PrintedAnswer → Type 0
 IsPrinted options Answers answer =
-    (plain : AnswerValue) × Answers plain × (answer ≡ printed_when (has options Json) plain)
+    (plain : AnswerValue) × Answers plain × (answer ≡ printed_as (style_of options) plain)
 
 -- ---- scripts
 
@@ -41,7 +37,7 @@ abbrev pub is_strict : OptionsValue → Bool
 is_strict options = has options Strict || has options StrictStatus
 
 -- the output of the script on the input; or a value of an option isn't read
-abbrev pub AnswersScript : ScriptRun → Option (List ℕ) → OptionsValue → AnswerValue → Type 0
+abbrev pub AnswersScript : ScriptRun → Option (List ℕ) → OptionsValue → PrintedAnswer → Type 0
 AnswersScript run input options answer =
     (said : Result ScriptOptions BadValue) × GivesScriptOptions options said × MatchResult said
     (λ run_options. (counts : ScriptCounts)
@@ -52,9 +48,9 @@ AnswersScript run input options answer =
 
 -- what is printed for a command line, with this input where it is known, and what came of it; the help's text is
 -- `clap`'s
-abbrev pub Answers : Option (List ℕ) → CommandLineValue → AnswerValue → Type 0
+abbrev pub Answers : Option (List ℕ) → CommandLineValue → PrintedAnswer → Type 0
 Answers input (Help command) answer = (answer.told ≡ []) × (answer.outcome ≡ Done)
-Answers input Version answer = IsDone version_line answer
+Answers input Version answer = (answer.printed ≡ version_line) × (answer.told ≡ []) × (answer.outcome ≡ Done)
 Answers input (Runs options (Ask text request)) answer =
     IsPrinted options (AnswersOnce input options text request) answer
 Answers input (Runs options (Each given request)) answer = AnswersEach options given request input answer

@@ -5,12 +5,12 @@ use Rattle.std.specs.Borrow.{Bor}
 use Rattle.sd_lines.specs.Streams.{AppendsBeginning, ReadsPart, is_read_error, is_write_error}
 use Rattle.sd_lines.specs.declared.error.RunError.{RunError}
 use Rattle.sd_lines.specs.declared.error.RunError.TheVariants.{Read, TooLong, Write, Memory, Thread}
-use Rattle.sd_answer.specs.VerdictLines.{line}
+use Rattle.sd_line.specs.Printed.{line}
 use Rattle.sd_script.specs.Printed.{PrintsServed}
 use Rattle.sd_script.specs.declared.script_options.ScriptOptions.{ScriptOptions}
 use Rattle.sd_script.specs.declared.ids.TheConstants.{LINES}
 use Rattle.sd_lines.specs.Output.{LeavesAnswers}
-use Rattle.sd_commands.specs.CommandAnswer.{AnswerValue}
+use Rattle.sd_questions.specs.TextAnswer.{PrintedAnswer}
 use Rattle.sd_arguments.specs.CommandLine.{CommandLineValue, Each, Runs, Script, reading, IsAudit, IsUnread}
 use Rattle.sd_arguments.specs.Options.{AreScriptOptions, has}
 use Rattle.sd_arguments.specs.declared.command_line.ScriptRun.TheVariants.{LineByLine}
@@ -32,7 +32,7 @@ AppendsAnswerTo line input = AppendsWhole (tells_faults line) (Answers input lin
 
 -- known bytes grow by a beginning of the answer
 pub record AppendsPartOfAnswerTo (line : CommandLineValue) (input old new : Option (List ℕ)) : Type 0 where
-  pub answer : AnswerValue
+  pub answer : PrintedAnswer
   pub answers : Answers input line answer
   pub beginning : AppendsBeginning old new answer.printed
 

@@ -1,9 +1,11 @@
 //! A command line, carried out over streams.
-ghost use Rattle.std.specs.Prelude.{◌≡◌, ◌≢◌, ◌||◌, ℕ, List, Option, false, Err, IfErr, IfOk, string_bytes};
+ghost use Rattle.std.specs.Prelude.{◌≡◌, ◌≢◌, ◌||◌, ℕ, List, [], Option, false, Err, IfErr, IfOk, string_bytes};
 ghost use Rattle.sd_lines.specs.Watched.{has_failed, inner_of};
 ghost use Rattle.sd_lines.specs.Streams.{ReadsPart, is_read_error, is_write_error};
 ghost use Rattle.sd_commands.specs.CommandAnswer.{answer_of, outcome_status};
-ghost use Rattle.sd_command_line.specs.Answer.{Answers, printed_when};
+ghost use Rattle.sd_command_line.specs.Answer.{Answers};
+ghost use Rattle.sd_questions.specs.TextAnswer.{printed_as};
+ghost use Rattle.sd_commands.specs.declared.command_answer.Outcome.TheVariants.{Done};
 ghost use Rattle.sd_arguments.specs.CommandLine.{CommandLineValue, IsAudit, Runs, Script, command_line_of};
 ghost use Rattle.sd_arguments.specs.CommandLine.{uses_input};
 ghost use Rattle.sd_arguments.specs.Options.{has, options_of};
@@ -11,8 +13,8 @@ ghost use Rattle.sd_command_line.specs.Output.{AppendsAnswerTo, LeavesAfter, tel
 
 use crate::scripts::end_of_script;
 use sd_arguments::{CommandLine, Invocation, Options, ProgramRequest, ScriptRun, version_text};
-use sd_commands::Answer;
-use sd_json::{Tagging, printed_as};
+use sd_commands::{Answer, Outcome};
+use sd_line::{Style, Tag, push_printed};
 use sd_lines::{RunError, Watched, write_whole};
 use sd_questions::{Ended, answer_each, answer_to, bad_value};
 use sd_script::{run, serve};
@@ -47,17 +49,11 @@ pub(crate) fn perform<T: Threads + Wait + Sync, R: Read, W: Write>(
 {
     let options = line.options;
     match line.asked {
-        ProgramRequest::Help { command } => {
-            let answer = Answer::done(alloc, help(alloc, command)?);
-            print(alloc, false, answer, writer)
-        }
-        ProgramRequest::Version => {
-            let answer = Answer::done(alloc, version_text(alloc)?);
-            print(alloc, false, answer, writer)
-        }
+        ProgramRequest::Help { command } => { print_text(alloc, help(alloc, command)?, writer) }
+        ProgramRequest::Version => { print_text(alloc, version_text(alloc)?, writer) }
         ProgramRequest::Runs(Invocation::Ask { text, request }) => {
             let answer = answer_to(alloc, options, text, request, reader)?;
-            print(alloc, options.has(OptionName::Json), answer, writer)
+            print(alloc, options.style(), answer, writer)
         }
         ProgramRequest::Runs(Invocation::Each { given, request }) => {
             answer_each(alloc, options, given, request, reader, writer)
@@ -95,7 +91,7 @@ fn perform_script<T: Threads + Wait + Sync, R: Read, W: Write>(
         Ok(run_options) => run_options,
         Err(bad) => {
             let answer = bad_value(alloc, bad)?;
-            return print(alloc, options.has(OptionName::Json), answer, writer);
+            return print(alloc, options.style(), answer, writer);
         }
     };
     match script_run {
@@ -117,17 +113,17 @@ fn perform_script<T: Threads + Wait + Sync, R: Read, W: Write>(
 /// Prints an answer, or an object for each of its lines. It is the whole answer to each line that it answers so.
 fn print<W: Write>(
     alloc: Global,
-    is_json: bool,
+    style: Style,
     answer: Answer,
     writer: &mut Watched<W>,
 ) -> Result<Ended, RunError>
     ensures ok { (line : CommandLineValue) → (input : Option (List ℕ))
-        → Answers input line (printed_when is_json (answer_of answer))
+        → Answers input line (printed_as style (answer_of answer))
         → IfOk result (λ ended. AppendsAnswerTo line input
         (W.contents (inner_of writer.old)) (W.contents (inner_of writer.new)) (string_bytes ended.told)
         (outcome_status (tells_faults line) ended.outcome)) }
     ensures err { (line : CommandLineValue) → (input left : Option (List ℕ))
-        → Answers input line (printed_when is_json (answer_of answer))
+        → Answers input line (printed_as style (answer_of answer))
         → IfErr result (LeavesAfter line input left
         (W.contents (inner_of writer.old)) (W.contents (inner_of writer.new))) }
     ensures only { IfErr result (λ error. (error ≢ RunError.Read) × (error ≢ RunError.TooLong)
@@ -135,11 +131,38 @@ fn print<W: Write>(
     ensures write { has_failed writer.new ≡ (has_failed writer.old || is_write_error result) }
 {
     let Answer {
-        text,
+        lines,
         told,
         outcome,
     } = answer;
-    let printed = printed_as(alloc, is_json, Tagging::Nothing, text.into_bytes())?;
+    let mut printed = Vec::new(alloc);
+    push_printed(alloc, &mut printed, style, Tag::None, &lines)?;
     write_whole(writer, &printed)?;
     Ok(Ended { told, outcome })
+}
+
+/// Prints a text, which is the whole answer to each line that it answers so.
+fn print_text<W: Write>(
+    alloc: Global,
+    text: String,
+    writer: &mut Watched<W>,
+) -> Result<Ended, RunError>
+    ensures ok { (line : CommandLineValue) → (input : Option (List ℕ))
+        → Answers input line (record { printed = string_bytes text; told = []; outcome = Done })
+        → IfOk result (λ ended. AppendsAnswerTo line input
+        (W.contents (inner_of writer.old)) (W.contents (inner_of writer.new)) (string_bytes ended.told)
+        (outcome_status (tells_faults line) ended.outcome)) }
+    ensures err { (line : CommandLineValue) → (input left : Option (List ℕ))
+        → Answers input line (record { printed = string_bytes text; told = []; outcome = Done })
+        → IfErr result (LeavesAfter line input left
+        (W.contents (inner_of writer.old)) (W.contents (inner_of writer.new))) }
+    ensures only { IfErr result (λ error. (error ≢ RunError.Read) × (error ≢ RunError.TooLong)
+        × (error ≢ RunError.Thread)) }
+    ensures write { has_failed writer.new ≡ (has_failed writer.old || is_write_error result) }
+{
+    write_whole(writer, text.as_bytes())?;
+    Ok(Ended {
+        told: String::new(alloc),
+        outcome: Outcome::Done,
+    })
 }

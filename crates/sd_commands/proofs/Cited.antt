@@ -7,10 +7,10 @@ pub use Rattle.sd_acl.specs.declared.ace.Ace.{Ace}
 pub use Rattle.sd_acl.specs.declared.ace.AceKind.{AceKind}
 pub use Rattle.sd_analysis.proofs.Effects.{same_verdicts}
 pub use Rattle.sd_analysis.specs.declared.descendants.Descendant.{Descendant}
-pub use Rattle.sd_answer.proofs.Cuts.{none_cut, some_cut}
-pub use Rattle.sd_answer.specs.Lint.{entry_head, is_misplaced}
+pub use Rattle.sd_answer.specs.Lint.{is_misplaced}
 pub use Rattle.sd_check.specs.Check.{applies, applies_again, decides, first, in_each_pass, is_allowed_by, is_granted, is_implied, is_limit, is_owner}
 pub use Rattle.sd_check.specs.Token.{TokenValue}
+pub use Rattle.sd_line.proofs.Cuts.{none_cut, some_cut}
 pub use Rattle.sd_commands.specs.Bytes.{BytesRead, is_between, is_blank_byte, joined, part_read, parts_read}
 pub use Rattle.sd_commands.specs.CommandAnswer.{answer_of}
 pub use Rattle.sd_commands.specs.Diagnostic.{told_line}
@@ -19,7 +19,7 @@ pub use Rattle.sd_commands.specs.Mapping.{AreMasks, between_commas}
 pub use Rattle.sd_commands.specs.Object.{ObjectDecidesAlike, ObjectHandsNothingOn}
 pub use Rattle.sd_commands.specs.Pointer.{end_shown, lines_of, start_of, start_shown}
 pub use Rattle.sd_commands.specs.Risks.{risk_line}
-pub use Rattle.sd_commands.specs.Sort.{CanonicalStays, SortedIsCanonical, move_note, note_at, notes_below, sorted}
+pub use Rattle.sd_commands.specs.Sort.{CanonicalStays, SortedIsCanonical, move_note, note_at, notes_below, sorted, entry_head}
 pub use Rattle.sd_inheritance.proofs.HandedOn.{unmarked_stays}
 pub use Rattle.sd_inheritance.specs.Inheritance.{pass_on}
 pub use Rattle.sd_inheritance.specs.declared.kind.NodeKind.{NodeKind}
@@ -27,7 +27,7 @@ pub use Rattle.sd_sid.proofs.Masks.{holds-and}
 pub use Rattle.sd_sid.specs.Mapping.{MappingValue, mapped}
 pub use Rattle.sd_sid.specs.Mask.{holds}
 pub use Rattle.sd_sid.specs.Sid.{SidValue, same_sid}
-pub use Rattle.std.proofs.Common.{Bool, List, None, Ok, Option, Some, [], add-one, ap, append-nil, append_assoc, ap₂, arith, codes, cond, drop, false, filter, inl, inr, length, ltb, map-id, not, position, refl, rules, slice_get, string_bytes, subst, sym, take, tests, true, ℕ, ⊎_elim, ◌&&◌, ◌++◌, ◌+◌, ◌-◌, ◌<◌, ◌==◌, ◌∙◌, ◌∷◌, ◌≡◌, ◌≤◌}
+pub use Rattle.std.proofs.Common.{Bool, List, None, Ok, Option, Some, [], add-one, ap, append-nil, append_assoc, ap₂, arith, codes, cond, drop, false, filter, inl, inr, length, ltb, map-id, not, position, refl, rules, slice_get, string_bytes, subst, sym, take, tests, true, ℕ, ⊎_elim, ◌&&◌, ◌++◌, ◌+◌, ◌-◌, ◌<◌, ◌==◌, ◌∙◌, ◌∷◌, ◌≡◌, ◌≤◌, map}
 pub use Rattle.std.proofs.Math.Bool.{and-false, and-true, not-not}
 pub use Rattle.std.proofs.lemmas.Bool.{cases_lt, le-leb, lt-leb, not-true}
 pub use Rattle.std.proofs.lemmas.Bool.Decides.{nat_tests}

@@ -9,8 +9,9 @@ use Rattle.sd_analysis.specs.Descendants.{AreDescendantAccesses}
 use Rattle.sd_analysis.specs.Who.{AllBeyond, HasEachOnce, IsMost, IsWho}
 use Rattle.sd_analysis.specs.declared.descendants_who.DescendantAccess.{DescendantAccess}
 use Rattle.sd_analysis.specs.declared.who_has.Access.{Access}
-use Rattle.sd_answer.specs.Descendants.{descendants_who_text}
+use Rattle.sd_answer.specs.Descendants.{descendants_who_lines}
 use Rattle.sd_answer.specs.Parts.{entries_in}
+use Rattle.sd_line.specs.Line.{LineOf}
 use Rattle.sd_commands.specs.declared.settings.Settings.{Settings}
 
 -- these are whom the rights are granted to
@@ -22,12 +23,12 @@ pub record AreAccesses (g : MappingValue) (d : DescriptorValue) (base : List (Si
   pub beyond : AllBeyond base accesses
 
 -- the lines about what is made in the object, if it is a container, where they are asked for
-abbrev pub AreBelowLines : Settings → DescriptorValue → List (SidValue × GroupState) → ℕ → List ℕ → Type 0
-AreBelowLines settings d base rights text = MatchBool settings.below
+abbrev pub AreBelowLines : Settings → DescriptorValue → List (SidValue × GroupState) → ℕ → List LineOf → Type 0
+AreBelowLines settings d base rights lines = MatchBool settings.below
     ((all : List DescendantAccess) × AreDescendantAccesses settings.mapping base (entries_in d.dacl) rights all
-    × (text ≡ descendants_who_text settings.spelling all))
-    (text ≡ [])
+    × (lines ≡ descendants_who_lines all))
+    (lines ≡ [])
 
 -- the object's own lines, and then those; none where no right is asked about
-abbrev pub with_below : List ℕ → List ℕ → List ℕ
+abbrev pub with_below : List LineOf → List LineOf → List LineOf
 with_below own below = if length own == 0 then [] else own ++ below

@@ -1,29 +1,31 @@
--- What a command about a descriptor prints as an answer, and whether it did what was asked for. The arguments are read
--- from left to right, and the first that isn't read is told as a fault.
+-- What a command about a descriptor answers, and whether it did what was asked for. The arguments are read from left to
+-- right, and the first that isn't read is told as a fault.
 use Rattle.std.specs.Prelude.{◌≡◌, ◌⊎◌, ℕ, Bool, MatchBool, List, [], ◌∷◌, ◌++◌, Result, Ok, Err, codes}
 use Rattle.std.specs.Prelude.{Option, Some, None, string_bytes, drop, if◌then◌else◌, slice_get}
 use Rattle.std.specs.Option.{option_map_or}
 use Rattle.std.specs.Borrow.{Bor}
 use Rattle.hex.specs.Hex.{encode_lower}
 use Rattle.sd_sid.specs.Sid.{SidValue}
-use Rattle.sd_acl.specs.Dacl.{Dacl}
 use Rattle.sd_acl.specs.Descriptor.{DescriptorValue, descriptor_of}
-use Rattle.sd_acl.specs.declared.descriptor.DaclOf.TheVariants.{Absent, Null, List as Entries}
 use Rattle.sd_check.specs.declared.verdict.Verdict.{Verdict}
 use Rattle.sd_check.specs.declared.verdict.Verdict.TheVariants.{Granted}
 use Rattle.sd_text.specs.Fault.{StandsIn}
 use Rattle.sd_text.specs.Grammar.{Spells}
 use Rattle.sd_text.specs.Sid.{sid_text_in}
-use Rattle.sd_text.specs.Canon.{canon_in, full_canon}
 use Rattle.sd_text.specs.declared.fault.TextError.{TextError}
 use Rattle.sd_text.specs.declared.fault.TextError.TheVariants.{Fault as FaultAt, Memory}
 use Rattle.sd_text.specs.declared.fault.TextFault.{TextFault}
+use Rattle.sd_wire.specs.Fault.{wire_fault_name, wire_fault_number}
 use Rattle.sd_wire.specs.Reading.{descriptor_read}
 use Rattle.sd_wire.specs.Writing.{wire_of}
 use Rattle.sd_wire.specs.declared.fault.WireFault.{WireFault}
 use Rattle.sd_check.specs.Check.{verdict, dacl_entries}
 use Rattle.sd_check.specs.Token.{TokenValue}
-use Rattle.sd_answer.specs.VerdictLines.{line, right_names_of, verdict_line, fault_line, sddl_fault_line}
+use Rattle.sd_line.specs.Line.{LineOf, form, line_of, text_line}
+use Rattle.sd_line.specs.declared.line.Value.{Value}
+use Rattle.sd_line.specs.declared.line.Value.TheVariants as values
+use Rattle.sd_answer.specs.VerdictLines.{verdict_line, fault_line, sddl_fault_line}
+use Rattle.sd_answer.specs.declared.forms.TheConstants.{CLEAN, FAULT_NAMED, SAME}
 use Rattle.sd_analysis.specs.Compare.{AreGains}
 use Rattle.sd_analysis.specs.Descendants.{AreDescendantChanges}
 use Rattle.sd_analysis.specs.declared.descendants_compare.DescendantChange.{DescendantChange}
@@ -31,26 +33,27 @@ use Rattle.sd_analysis.specs.declared.compare_report.Change.{Change}
 use Rattle.sd_analysis.specs.declared.who_has.Access.{Access}
 use Rattle.sd_check.specs.declared.token.GroupState.{GroupState}
 use Rattle.sd_answer.specs.Compare.{gains_and_losses}
-use Rattle.sd_answer.specs.Descendants.{descendants_text, inheritance_text}
+use Rattle.sd_answer.specs.Descendants.{descendants_lines, inheritance_lines}
 use Rattle.sd_answer.specs.Descriptor.{IsRead, IsUnreadAt}
-use Rattle.sd_answer.specs.Lint.{IsLintText}
-use Rattle.sd_answer.specs.Mask.{IsMaskErrorIn, IsMaskIn}
+use Rattle.sd_answer.specs.Lint.{AreFindings}
+use Rattle.sd_line.specs.Mask.{IsMaskErrorIn, IsMaskIn}
 use Rattle.sd_answer.specs.Parts.{entries_in, parts_in}
-use Rattle.sd_answer.specs.Rights.{rights_line}
-use Rattle.sd_answer.specs.Who.{rights_asked, who_text}
-use Rattle.sd_answer.specs.Why.{why_text}
+use Rattle.sd_line.specs.Rights.{rights_line}
+use Rattle.sd_answer.specs.Who.{rights_asked, who_lines}
+use Rattle.sd_answer.specs.Why.{why_lines}
 use Rattle.sd_answer.specs.Word.{AreGroups, IsFirstNoGroup, IsFirstNoWord, IsToken, texts}
 use Rattle.sd_commands.specs.Analysis.{AreAccesses, AreBelowLines, with_below}
 use Rattle.sd_commands.specs.Logon.{fits_logon, words_for}
 use Rattle.sd_commands.specs.Bytes.{BytesRead, bytes_read, form_name, has_sacl, without_sacl}
 use Rattle.sd_commands.specs.Object.{looked_at}
+use Rattle.sd_commands.specs.Required.{missing_dacl}
 use Rattle.sd_usage.specs.declared.row.TextCommand.{TextCommand}
 use Rattle.sd_usage.specs.declared.row.TextCommand.TheVariants as questions
 use Rattle.sd_commands.specs.Pointer.{pointed}
 use Rattle.sd_commands.specs.Risks.{risk_lines}
 use Rattle.sd_commands.specs.Sort.{move_notes, sorted_descriptor}
 use Rattle.sd_commands.specs.Diagnostic.{at_byte, fault_text, sacl_note, sddl_fault_text, told_line, told_wire_fault}
-use Rattle.sd_commands.specs.Diagnostic.{wire_fault_text, word_argument}
+use Rattle.sd_commands.specs.Diagnostic.{word_argument}
 use Rattle.sd_commands.specs.Diagnostic.{IsStateReason, IsWordReason}
 use Rattle.sd_commands.specs.declared.command_answer.Answer.{Answer}
 use Rattle.sd_usage.specs.declared.row.DescriptorCommand.{DescriptorCommand}
@@ -59,7 +62,6 @@ use Rattle.sd_commands.specs.declared.command_answer.Outcome.{Outcome}
 use Rattle.sd_commands.specs.declared.command_answer.Outcome.TheVariants.{Done, Refused, Fault}
 use Rattle.sd_commands.specs.declared.descriptor.Given.{Given}
 use Rattle.sd_commands.specs.declared.descriptor.Given.TheVariants as givens
-use Rattle.sd_answer.specs.declared.verdict_lines.Spelling.{Spelling}
 use Rattle.sd_commands.specs.declared.settings.Settings.{Settings}
 use Rattle.sd_commands.specs.declared.verdict.Form.{Form}
 use Rattle.sd_commands.specs.declared.verdict.Form.TheVariants.{Short, Explained}
@@ -71,8 +73,13 @@ verdict_outcome (Granted mask) = Done
 verdict_outcome verdict = Refused
 
 -- the line for bytes that hold no descriptor
-abbrev pub wire_fault_line : WireFault → List ℕ
-wire_fault_line fault = line (codes "fault wire " ++ wire_fault_text fault)
+abbrev pub wire_fault_line : WireFault → LineOf
+wire_fault_line fault = line_of (form FAULT_NAMED) (values.Text (codes "wire")
+    ∷ values.Number (wire_fault_number fault) ∷ values.Text (wire_fault_name fault) ∷ [])
+
+-- a value alone, in a line of no kind
+abbrev pub value_line : Value → LineOf
+value_line value = line_of ([], codes "{text}") (value ∷ [])
 
 -- the status behind an answer: that of a fault is one of its own where this is asked for
 abbrev pub outcome_status : Bool → Outcome → ℕ
@@ -89,30 +96,34 @@ or_worse Done other = other
 
 -- ---- answers
 
--- what is printed, what standard error is told beside it, and what came of it
+-- the lines, what standard error is told beside them, and what came of it
 pub record AnswerValue : Type 0 where
-  pub printed : List ℕ
+  pub lines : List LineOf
   pub told : List ℕ
   pub outcome : Outcome
 
 abbrev pub answer_of : Answer → AnswerValue
 answer_of answer = record {
-  printed = string_bytes answer.text;
+  lines = answer.lines.items;
   told = string_bytes answer.told;
   outcome = answer.outcome;
 }
 
-abbrev pub IsAnswer : List ℕ → List ℕ → Outcome → AnswerValue → Type 0
-IsAnswer printed told outcome answer =
-    (answer.printed ≡ printed) × (answer.told ≡ told) × (answer.outcome ≡ outcome)
+abbrev pub IsAnswer : List LineOf → List ℕ → Outcome → AnswerValue → Type 0
+IsAnswer lines told outcome answer =
+    (answer.lines ≡ lines) × (answer.told ≡ told) × (answer.outcome ≡ outcome)
 
--- this text is printed, and what was asked for was done
-abbrev pub IsDone : List ℕ → AnswerValue → Type 0
-IsDone printed = IsAnswer printed [] Done
+-- these are the lines, and what was asked for was done
+abbrev pub AreDone : List LineOf → AnswerValue → Type 0
+AreDone lines = IsAnswer lines [] Done
 
--- this line of a fault is printed, and this is told of it
-abbrev pub IsFault : List ℕ → List ℕ → AnswerValue → Type 0
-IsFault printed told = IsAnswer printed told Fault
+-- this is the one line, and what was asked for was done
+abbrev pub IsDone : LineOf → AnswerValue → Type 0
+IsDone line = AreDone (line ∷ [])
+
+-- this line of a fault is the answer, and this is told of it
+abbrev pub IsFault : LineOf → List ℕ → AnswerValue → Type 0
+IsFault line told = IsAnswer (line ∷ []) told Fault
 
 -- an argument's text has this fault first; out of memory is no answer
 abbrev pub IsFaultOf : Settings → List ℕ → List ℕ → List ℕ → TextError → AnswerValue → Type 0
@@ -155,21 +166,11 @@ abbrev pub Noting : List ℕ → Bool → (AnswerValue → Type 0) → AnswerVal
 Noting argument left_out Answers answer =
     (inner : AnswerValue) × IsNoted argument left_out inner answer × Answers inner
 
--- what a DACL is in place of a list of entries
-abbrev pub without_list : Dacl → Option (List ℕ)
-without_list Absent = Some (codes "no DACL")
-without_list Null = Some (codes "a null DACL")
-without_list (Entries es) = None
-
--- under `--require-dacl`, what a DACL is in place of a list: without one everything is granted ([MS-DTYP] 2.5.3.2)
-abbrev pub missing_dacl : Bool → Dacl → Option (List ℕ)
-missing_dacl is_required dacl = if is_required then without_list dacl else None
-
 -- the descriptor lacks the list that is required
 abbrev pub IsMissingDacl : List ℕ → List ℕ → AnswerValue → Type 0
 IsMissingDacl argument missing answer = IsFault (fault_line (codes "nodacl")) (told_line argument missing) answer
 
--- the argument of this name isn't taken: the first fault of its text is printed, or that its descriptor lacks a list
+-- the argument of this name isn't taken: the answer is the first fault of its text, or that its descriptor lacks a list
 abbrev pub IsRefusedArgument : List ℕ → Settings → List ℕ → AnswerValue → Type 0
 IsRefusedArgument argument settings written answer =
     ((fault : TextFault) × (place : ℕ) × IsUnreadAt settings.aliases settings.without_sacl written fault place
@@ -204,15 +205,15 @@ AnswersOfArgument argument settings written Answers answer =
 -- ---- verdicts
 
 -- the verdict's line, or with it the reasons
-abbrev pub form_text : Settings → Form → DescriptorValue → TokenValue → ℕ → List ℕ
-form_text settings Short d token asked = verdict_line settings.spelling
-    (verdict d.owner (dacl_entries d.dacl) settings.mapping token asked)
-form_text settings Explained d token asked = why_text settings.mapping settings.spelling d token asked
+abbrev pub form_lines : Settings → Form → DescriptorValue → TokenValue → ℕ → List LineOf
+form_lines settings Short d token asked =
+    verdict_line (verdict d.owner (dacl_entries d.dacl) settings.mapping token asked) ∷ []
+form_lines settings Explained d token asked = why_lines settings.mapping d token asked
 
--- the verdict is printed, in this form
+-- the answer is the verdict, in this form
 abbrev pub IsVerdict : Settings → Form → DescriptorValue → TokenValue → ℕ → AnswerValue → Type 0
 IsVerdict settings form d token asked answer =
-    IsAnswer (form_text settings form d token asked) []
+    IsAnswer (form_lines settings form d token asked) []
     (verdict_outcome (verdict d.owner (dacl_entries d.dacl) settings.mapping token asked)) answer
 
 -- the first of the words that is none, and why
@@ -263,36 +264,36 @@ AnswersUser settings form arguments d = AnswersOfSid (codes "USER") settings (ar
 
 -- ---- other forms
 
--- the canonical text, or where masks are spelled by names, with those of their kind of object alone
-abbrev pub printed_line : Spelling → DescriptorValue → List ℕ
-printed_line spelling d = line (canon_in (right_names_of spelling) d)
+-- a descriptor
+abbrev pub descriptor_line : DescriptorValue → LineOf
+descriptor_line d = value_line (values.Descriptor d)
 
--- the printed text of a descriptor whose DACL is put in canonical order; standard error says what moved
+-- a descriptor whose DACL is put in canonical order; standard error says what moved
 abbrev pub IsSorted : Settings → DescriptorValue → AnswerValue → Type 0
-IsSorted settings d = IsAnswer (printed_line settings.spelling (sorted_descriptor d))
+IsSorted settings d = IsAnswer (descriptor_line (sorted_descriptor d) ∷ [])
     (move_notes settings.spelling d.dacl) Done
 
--- the printed text of a descriptor, where it doesn't lack the list that is required
-abbrev pub AnswersFit : Settings → Option (List ℕ) → DescriptorValue → AnswerValue → Type 0
-AnswersFit settings None d answer = IsDone (printed_line settings.spelling d) answer
-AnswersFit settings (Some missing) d answer = IsMissingDacl (codes "BYTES") missing answer
+-- a descriptor, where it doesn't lack the list that is required
+abbrev pub AnswersFit : Option (List ℕ) → DescriptorValue → AnswerValue → Type 0
+AnswersFit None d answer = IsDone (descriptor_line d) answer
+AnswersFit (Some missing) d answer = IsMissingDacl (codes "BYTES") missing answer
 
--- the printed text of the descriptor that bytes hold, or their fault
+-- the descriptor that bytes hold, or their fault
 abbrev pub AnswersRead : Settings → List ℕ → Result DescriptorValue WireFault → AnswerValue → Type 0
-AnswersRead settings bytes (Ok d) answer = AnswersFit settings (missing_dacl settings.require_dacl d.dacl) d answer
+AnswersRead settings bytes (Ok d) answer = AnswersFit (missing_dacl settings.require_dacl d.dacl) d answer
 AnswersRead settings bytes (Err fault) answer = IsFault (wire_fault_line fault)
     (told_line (codes "BYTES") (told_wire_fault bytes fault)) answer
 
 abbrev pub AnswersHeld : Settings → List ℕ → AnswerValue → Type 0
 AnswersHeld settings bytes answer = AnswersRead settings bytes (descriptor_read bytes) answer
 
--- the printed text of the descriptor that bytes hold, or their fault; `--without-sacl` leaves a SACL out
+-- the descriptor that bytes hold, or their fault; `--without-sacl` leaves a SACL out
 abbrev pub AnswersBytes : Settings → List ℕ → AnswerValue → Type 0
 AnswersBytes settings bytes answer = MatchBool settings.without_sacl
     (Noting (codes "BYTES") (has_sacl bytes) (AnswersHeld settings (without_sacl bytes)) answer)
     (AnswersHeld settings bytes answer)
 
--- the printed text of the descriptor that a text spells in bytes, or a fault: it spells none
+-- the descriptor that a text spells in bytes, or a fault: it spells none
 abbrev pub AnswersDecoded : Settings → List ℕ → BytesRead → AnswerValue → Type 0
 AnswersDecoded settings written (Ok bytes) answer = AnswersBytes settings bytes answer
 AnswersDecoded settings written (Err (what, place)) answer = IsFault (fault_line (form_name settings.bytes))
@@ -310,49 +311,50 @@ AnswersOfBase settings words Answers answer =
     ((base : List (SidValue × GroupState)) × AreGroups settings.aliases (texts words) base × Answers base answer)
     ⊎ IsGroupFault settings words answer
 
--- whom the rights are granted to is printed
+-- whom the rights are granted to
 abbrev pub PrintsWho : Settings → ℕ → DescriptorValue → List (SidValue × GroupState) → AnswerValue → Type 0
 PrintsWho settings asked d base answer =
-    (accesses : List Access) × (below : List ℕ)
+    (accesses : List Access) × (below : List LineOf)
     × AreAccesses settings.mapping d base (rights_asked settings.mapping asked) accesses
     × AreBelowLines settings d base (rights_asked settings.mapping asked) below
-    × IsDone (with_below (who_text settings.spelling accesses) below) answer
+    × AreDone (with_below (who_lines accesses) below) answer
 
 -- what tokens gain and lose of the object itself
-abbrev pub AreOwnChanges : Settings → DescriptorValue → DescriptorValue → List (SidValue × GroupState) → List ℕ → Type 0
-AreOwnChanges settings old new base text =
+abbrev pub AreOwnChanges : Settings → DescriptorValue → DescriptorValue → List (SidValue × GroupState) → List LineOf
+    → Type 0
+AreOwnChanges settings old new base lines =
     (gained : List Change) × (lost : List Change)
     × AreGains settings.mapping base (parts_in old) (parts_in new) gained
     × AreGains settings.mapping base (parts_in new) (parts_in old) lost
-    × (text ≡ gains_and_losses settings.spelling [] (parts_in old) (parts_in new) gained lost)
+    × (lines ≡ gains_and_losses None (parts_in old) (parts_in new) gained lost)
 
 -- what tokens gain and lose of all that is made in the object, if it is a container
-abbrev pub AreDescendantLines : Settings → DescriptorValue → DescriptorValue → List (SidValue × GroupState) → List ℕ
-    → Type 0
-AreDescendantLines settings old new base text =
+abbrev pub AreDescendantLines : Settings → DescriptorValue → DescriptorValue → List (SidValue × GroupState)
+    → List LineOf → Type 0
+AreDescendantLines settings old new base lines =
     (changes : List DescendantChange)
     × AreDescendantChanges settings.mapping base (entries_in old.dacl) (entries_in new.dacl) changes
-    × (text ≡ descendants_text settings.spelling [] changes)
+    × (lines ≡ descendants_lines changes)
 
--- what was found is printed, or that there is nothing
-abbrev pub IsFound : List ℕ → List ℕ → AnswerValue → Type 0
+-- what was found, or that there is nothing
+abbrev pub IsFound : LineOf → List LineOf → AnswerValue → Type 0
 IsFound nothing [] answer = IsDone nothing answer
-IsFound nothing (b ∷ bs) answer = IsAnswer (b ∷ bs) [] Refused answer
+IsFound nothing (line ∷ lines) answer = IsAnswer (line ∷ lines) [] Refused answer
 
--- what tokens gain and lose is printed, and whether the list inherits where it did not; or that nothing of it changes
+-- what tokens gain and lose, and whether the list inherits where it did not; or that nothing of it changes
 abbrev pub PrintsComparison : Settings → DescriptorValue → DescriptorValue → List (SidValue × GroupState) → AnswerValue
     → Type 0
 PrintsComparison settings old new base answer =
-    (own : List ℕ) × (below : List ℕ) × AreOwnChanges settings old new base own
+    (own : List LineOf) × (below : List LineOf) × AreOwnChanges settings old new base own
     × AreDescendantLines settings old new base below
-    × IsFound (line (codes "same")) ((own ++ below) ++ inheritance_text old.protected new.protected) answer
+    × IsFound (line_of (form SAME) []) ((own ++ below) ++ inheritance_lines old.protected new.protected) answer
 
 -- ---- findings
 
--- the findings are printed, or that there are none
+-- the findings, or that there are none
 abbrev pub PrintsFindings : Settings → DescriptorValue → List (SidValue × GroupState) → AnswerValue → Type 0
-PrintsFindings settings d base answer = (lines : List ℕ) × IsLintText settings.mapping settings.spelling base d lines
-    × IsFound (line (codes "clean")) (lines ++ risk_lines settings d base) answer
+PrintsFindings settings d base answer = (lines : List LineOf) × AreFindings settings.mapping base d lines
+    × IsFound (line_of (form CLEAN) []) (lines ++ risk_lines settings d base) answer
 
 -- ---- rights
 
@@ -362,7 +364,7 @@ AnswersRights settings mask = AnswersOfMask settings mask (λ asked. IsDone (rig
 
 -- the SID in full
 abbrev pub AnswersSid : Settings → List ℕ → AnswerValue → Type 0
-AnswersSid settings text = AnswersOfSid (codes "SID") settings text (λ sid. IsDone (line (full_canon sid)))
+AnswersSid settings text = AnswersOfSid (codes "SID") settings text (λ sid. IsDone (value_line (values.Sid sid)))
 
 -- ---- commands
 
@@ -376,10 +378,10 @@ AnswersOn settings about.Who arguments d = AnswersOfMask settings (argument argu
 AnswersOn settings about.Compare arguments old = AnswersOfArgument (codes "NEW") settings (argument arguments 0)
     (λ new. AnswersOfBase settings (drop 1 arguments) (PrintsComparison settings old new))
 AnswersOn settings about.Lint arguments d = AnswersOfBase settings arguments (PrintsFindings settings d)
-AnswersOn settings about.Print arguments d = IsDone (printed_line settings.spelling d)
+AnswersOn settings about.Print arguments d = IsDone (descriptor_line d)
 AnswersOn settings about.Sort arguments d = IsSorted settings d
 -- the self-relative form in hexadecimal
-AnswersOn settings about.ToBinary arguments d = IsDone (line (encode_lower (wire_of d)))
+AnswersOn settings about.ToBinary arguments d = IsDone (text_line (encode_lower (wire_of d)))
 
 -- the name of the argument that a command's descriptor is
 abbrev pub descriptor_name : DescriptorCommand → List ℕ

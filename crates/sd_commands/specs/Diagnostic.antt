@@ -11,7 +11,7 @@ use Rattle.sd_text.specs.declared.alias.Aliases.{Aliases}
 use Rattle.sd_text.specs.declared.fault.TextFault.{TextFault}
 use Rattle.sd_wire.specs.Fault.{wire_fault_number, wire_fault_name}
 use Rattle.sd_wire.specs.declared.fault.WireFault.{WireFault}
-use Rattle.sd_answer.specs.VerdictLines.{line}
+use Rattle.sd_line.specs.Printed.{line}
 use Rattle.sd_commands.specs.Kinds.{kind_note, wire_kind_note}
 use Rattle.sd_commands.specs.Pointer.{pointed}
 use Rattle.sd_commands.specs.Escaped.{escaped}

@@ -9,6 +9,7 @@ pub mod Logon
 pub mod Mapping
 pub mod Object
 pub mod Pointer
+pub mod Required
 pub mod Risks
 pub mod Sort
 pub mod Value

@@ -2,8 +2,8 @@
 use Rattle.std.specs.Prelude.{◌≡◌, ◌⊎◌, ℕ, ◌==◌, List, [], ◌∷◌, if◌then◌else◌, Option, Some, None, option_map, codes}
 use Rattle.std.specs.Prelude.{bytes_eq}
 use Rattle.std.specs.List.{slice_split}
-use Rattle.sd_answer.specs.declared.names.ObjectKind.{ObjectKind}
-use Rattle.sd_answer.specs.declared.names.ObjectKind.TheVariants.{File, Key, Service, Process}
+use Rattle.sd_line.specs.declared.names.ObjectKind.{ObjectKind}
+use Rattle.sd_line.specs.declared.names.ObjectKind.TheVariants.{File, Key, Service, Process}
 use Rattle.sd_sid.specs.Mapping.{MappingValue, IsMapping, file_mapping}
 use Rattle.sd_text.specs.Grammar.{Spells}
 use Rattle.sd_text.specs.Rights.{mask_text}

@@ -1,48 +1,57 @@
 -- The lines of risks, which `--risks` adds to those of `lint`.
-use Rattle.std.specs.Prelude.{ℕ, if◌then◌else◌, List, [], ◌++◌, codes}
-use Rattle.std.specs.Fmt.{decimal}
-use Rattle.std.specs.List.{flat_map}
-use Rattle.std.specs.Option.{option_map_or}
+use Rattle.std.specs.Prelude.{ℕ, if◌then◌else◌, Option, Some, None, List, [], ◌∷◌, ◌++◌, codes, map}
 use Rattle.sd_sid.specs.Sid.{SidValue}
 use Rattle.sd_acl.specs.Descriptor.{DescriptorValue}
 use Rattle.sd_acl.specs.declared.ace.Ace.{Ace}
-use Rattle.sd_text.specs.Canon.{entry_canon_in, full_canon}
 use Rattle.sd_check.specs.declared.token.GroupState.{GroupState}
 use Rattle.sd_analysis.specs.Risks.{risks_of}
+use Rattle.sd_analysis.specs.declared.descendants.Descendant.{Descendant}
 use Rattle.sd_analysis.specs.declared.risks.Right.{Right}
 use Rattle.sd_analysis.specs.declared.risks.Right.TheVariants.{FullControl, Write, Delete, ChangePermissions}
 use Rattle.sd_analysis.specs.declared.risks.Risk.{Risk}
 use Rattle.sd_analysis.specs.declared.risks.Risk.TheVariants.{EmptyList, OwnerCannotRead, Grants, UnknownEntry}
 use Rattle.sd_analysis.specs.declared.risks.Risk.TheVariants.{UnknownOwner, UnknownGroup}
-use Rattle.sd_answer.specs.VerdictLines.{line, right_names_of}
-use Rattle.sd_answer.specs.Descendants.{descendant_head}
-use Rattle.sd_answer.specs.declared.verdict_lines.Spelling.{Spelling}
+use Rattle.sd_line.specs.Line.{Form, LineOf, form, line_of, line_with, part_of}
+use Rattle.sd_line.specs.declared.line.Value.TheVariants as values
+use Rattle.sd_answer.specs.Lines.{made_parts}
+use Rattle.sd_answer.specs.declared.forms.TheConstants.{EMPTY_DACL, OWNER_CANNOT_READ, RISKY_GRANT, RISKY_GRANT_BELOW}
+use Rattle.sd_answer.specs.declared.forms.TheConstants.{UNKNOWN_GROUP, UNKNOWN_OWNER, UNKNOWN_SID}
 use Rattle.sd_commands.specs.Concern.{sids_of}
 use Rattle.sd_commands.specs.declared.settings.Settings.{Settings}
 
-abbrev pub has_right : Right → List ℕ
-has_right FullControl = codes " is granted full-control"
-has_right Write = codes " is granted write"
-has_right Delete = codes " is granted delete"
-has_right ChangePermissions = codes " is granted change-permissions"
+abbrev pub right_name : Right → List ℕ
+right_name FullControl = codes "full-control"
+right_name Write = codes "write"
+right_name Delete = codes "delete"
+right_name ChangePermissions = codes "change-permissions"
 
--- an entry, counted from 1 and with the names of its kind of object
-abbrev pub unknown_line : Spelling → ℕ → Ace → List ℕ
-unknown_line spelling number e =
-    line (codes "entry " ++ decimal number ++ codes " " ++ entry_canon_in (right_names_of spelling) e
-    ++ codes " names a SID of no known kind")
+-- a line about a SID
+abbrev pub about : Form → SidValue → LineOf
+about f s = line_of f (values.Sid s ∷ [])
 
-abbrev pub risk_line : Spelling → Risk → List ℕ
-risk_line spelling EmptyList = line (codes "an empty DACL grants nothing")
-risk_line spelling (OwnerCannotRead s) = line (codes "the owner " ++ full_canon s ++ codes " has no way to read")
-risk_line spelling (Grants whose s right) =
-    line (option_map_or descendant_head whose [] ++ full_canon s ++ has_right right)
-risk_line spelling (UnknownEntry number e) = unknown_line spelling number e
-risk_line spelling (UnknownOwner s) = line (codes "the owner " ++ full_canon s ++ codes " is of no known kind")
-risk_line spelling (UnknownGroup s) = line (codes "the group " ++ full_canon s ++ codes " is of no known kind")
+-- of the object, or of what is made in it
+abbrev pub grant_form : Option Descendant → Form
+grant_form None = form RISKY_GRANT
+grant_form (Some d) = form RISKY_GRANT_BELOW
+
+abbrev pub grant_line : Option Descendant → SidValue → Right → LineOf
+grant_line whose s right = line_with (grant_form whose).0
+    (made_parts whose
+    ++ part_of (grant_form whose).1 (values.Sid s ∷ values.Text (right_name right) ∷ []) ∷ [])
+
+-- an entry, counted from 1
+abbrev pub unknown_line : ℕ → Ace → LineOf
+unknown_line number e = line_of (form UNKNOWN_SID) (values.Number number ∷ values.Entry e ∷ [])
+
+abbrev pub risk_line : Risk → LineOf
+risk_line EmptyList = line_of (form EMPTY_DACL) []
+risk_line (OwnerCannotRead s) = about (form OWNER_CANNOT_READ) s
+risk_line (Grants whose s right) = grant_line whose s right
+risk_line (UnknownEntry number e) = unknown_line number e
+risk_line (UnknownOwner s) = about (form UNKNOWN_OWNER) s
+risk_line (UnknownGroup s) = about (form UNKNOWN_GROUP) s
 
 -- the lines of a descriptor's risks, where they are asked for
-abbrev pub risk_lines : Settings → DescriptorValue → List (SidValue × GroupState) → List ℕ
+abbrev pub risk_lines : Settings → DescriptorValue → List (SidValue × GroupState) → List LineOf
 risk_lines settings d base =
-    if settings.risks
-    then flat_map (risk_line settings.spelling) (risks_of settings.mapping base (sids_of settings.concern) d) else []
+    if settings.risks then map risk_line (risks_of settings.mapping base (sids_of settings.concern) d) else []

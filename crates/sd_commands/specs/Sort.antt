@@ -7,8 +7,10 @@ use Rattle.sd_acl.specs.Dacl.{Dacl}
 use Rattle.sd_acl.specs.Descriptor.{DescriptorValue}
 use Rattle.sd_acl.specs.declared.ace.Ace.{Ace}
 use Rattle.sd_acl.specs.declared.descriptor.DaclOf.TheVariants.{Absent, Null, List as Entries}
-use Rattle.sd_answer.specs.Lint.{entry_head, is_misplaced}
-use Rattle.sd_answer.specs.declared.verdict_lines.Spelling.{Spelling}
+use Rattle.sd_text.specs.Canon.{entry_canon_in}
+use Rattle.sd_line.specs.Spelling.{right_names_of}
+use Rattle.sd_line.specs.declared.spelling.Spelling.{Spelling}
+use Rattle.sd_answer.specs.Lint.{is_misplaced}
 use Rattle.sd_commands.specs.Diagnostic.{told_line}
 
 -- ---- the order
@@ -33,6 +35,11 @@ abbrev pub CanonicalStays : Type 0
 CanonicalStays = (es : List Ace) → is_canonical es ≡ true → sorted es ≡ es
 
 -- ---- what moved
+
+-- an entry at a place, counted from 1 and with the names of its kind of object
+abbrev pub entry_head : Spelling → ℕ → Ace → List ℕ
+entry_head spelling place e =
+    codes "entry " ++ decimal (place + 1) ++ codes " " ++ entry_canon_in (right_names_of spelling) e ++ codes " "
 
 -- an entry that stands out of canonical order moves before the first one behind which it does
 abbrev pub move_note : Option ℕ → List ℕ → List ℕ

@@ -1,5 +1,5 @@
 //! The answers to `who` and `compare`: whom rights are granted to, and what a change of a descriptor grants and takes.
-ghost use Rattle.std.specs.Prelude.{◌<◌, IfOk, length, string_bytes};
+ghost use Rattle.std.specs.Prelude.{◌<◌, IfOk, length};
 ghost use Rattle.sd_acl.specs.Descriptor.{descriptor_of};
 ghost use Rattle.sd_answer.specs.Word.{IsFirstNoGroup, texts};
 ghost use Rattle.sd_commands.specs.Analysis.{AreBelowLines};
@@ -13,10 +13,11 @@ use crate::words::{argument, items_from};
 use sd_acl::Descriptor;
 use sd_analysis::{Base, compare, compare_descendants, who, who_descendants};
 use sd_answer::{
-    TokenError, dacl_ref, descendants_text, descendants_who_text, descriptor_ref, entries_in,
-    gains_and_losses, inheritance_text, read_base, read_mask_in, rights_asked, who_text,
+    SAME, TokenError, dacl_ref, descriptor_ref, entries_in, push_descendants, push_descendants_who,
+    push_gains_and_losses, push_inheritance, read_base, rights_asked, who_lines,
 };
 use sd_check::GroupState;
+use sd_line::{Line, read_mask_in};
 use sd_sid::{Mask, Sid};
 use sd_usage::DescriptorCommand;
 use std::alloc::AllocError;
@@ -35,18 +36,13 @@ impl CommandContext {
         };
         let words = items_from(arguments, 1);
         match read_base(self.alloc, self.settings.aliases, words) {
-            Ok(groups) => self.who_lines(descriptor, asked, &groups),
+            Ok(groups) => self.who_has(descriptor, asked, &groups),
             Err(TokenError::NoWord { place }) => self.group_fault(words, place),
             Err(TokenError::Memory) => Err(AllocError),
         }
     }
 
-    fn who_lines(
-        self,
-        descriptor: &Descriptor,
-        asked: Mask,
-        groups: &[(Sid, GroupState)],
-    ) -> Answered
+    fn who_has(self, descriptor: &Descriptor, asked: Mask, groups: &[(Sid, GroupState)]) -> Answered
         ensures { IfOk result (λ answer. PrintsWho self.settings asked (descriptor_of descriptor.now) groups.now
             (answer_of answer)) }
     {
@@ -54,12 +50,12 @@ impl CommandContext {
         let (base, mapping) = (Base { groups }, &self.settings.mapping);
         let rights = rights_asked(mapping, asked);
         let accesses = who(self.alloc, owner, dacl, mapping, &base, rights)?;
-        let mut text = who_text(self.alloc, self.settings.spelling, &accesses)?;
-        let below = self.below_lines(descriptor, &base, rights)?;
-        if !text.is_empty() {
-            text.push_str(below.as_str())?;
+        let mut lines = who_lines(self.alloc, &accesses)?;
+        let mut below = self.below_lines(descriptor, &base, rights)?;
+        if !lines.is_empty() {
+            lines.append(&mut below)?;
         }
-        Ok(Answer::done(self.alloc, text))
+        Ok(Answer::done(self.alloc, lines))
     }
 
     /// Whom they are granted to of all that is made in it, if it is a container and that is asked for.
@@ -68,16 +64,18 @@ impl CommandContext {
         descriptor: &Descriptor,
         base: &Base<'_>,
         rights: Mask,
-    ) -> Result<String, AllocError>
-        ensures { IfOk result (λ text. AreBelowLines self.now.settings (descriptor_of descriptor.now) base.now rights
-            (string_bytes text)) }
+    ) -> Result<Vec<Line>, AllocError>
+        ensures { IfOk result (λ lines. AreBelowLines self.now.settings (descriptor_of descriptor.now) base.now rights
+            lines.items) }
     {
+        let mut lines = Vec::new(self.alloc);
         if !self.settings.below {
-            return Ok(String::new(self.alloc));
+            return Ok(lines);
         }
         let entries = entries_in(&descriptor.dacl);
         let all = who_descendants(self.alloc, entries, &self.settings.mapping, base, rights)?;
-        descendants_who_text(self.alloc, self.settings.spelling, &all)
+        push_descendants_who(self.alloc, &mut lines, &all)?;
+        Ok(lines)
     }
 
     /// The answer to words of which the one at the place is the first that is no group.
@@ -128,10 +126,10 @@ impl CommandContext {
     {
         let base = Base { groups };
         let mut lines = self.own_changes(old, new, &base)?;
-        let below = self.descendant_changes(old, new, &base)?;
-        lines.push_str(below.as_str())?;
-        lines.push_str(inheritance_text(old.protected, new.protected))?;
-        found(self.alloc, lines, "same\n")
+        let mut below = self.descendant_changes(old, new, &base)?;
+        lines.append(&mut below)?;
+        push_inheritance(self.alloc, &mut lines, old.protected, new.protected)?;
+        found(self.alloc, lines, SAME)
     }
 
     /// What tokens gain and lose of the object itself.
@@ -140,20 +138,15 @@ impl CommandContext {
         old: &Descriptor,
         new: &Descriptor,
         base: &Base<'_>,
-    ) -> Result<String, AllocError>
-        ensures { IfOk result (λ text. AreOwnChanges self.now.settings (descriptor_of old.now) (descriptor_of new.now)
-            base.now (string_bytes text)) }
+    ) -> Result<Vec<Line>, AllocError>
+        ensures { IfOk result (λ lines. AreOwnChanges self.now.settings (descriptor_of old.now) (descriptor_of new.now)
+            base.now lines.items) }
     {
         let (old, new) = (descriptor_ref(old), descriptor_ref(new));
         let comparison = compare(self.alloc, &old, &new, &self.settings.mapping, base)?;
-        gains_and_losses(
-            self.alloc,
-            self.settings.spelling,
-            "",
-            &old,
-            &new,
-            &comparison,
-        )
+        let mut lines = Vec::new(self.alloc);
+        push_gains_and_losses(self.alloc, &mut lines, None, &old, &new, &comparison)?;
+        Ok(lines)
     }
 
     /// What they gain and lose of all that is made in it, if it is a container.
@@ -162,12 +155,14 @@ impl CommandContext {
         old: &Descriptor,
         new: &Descriptor,
         base: &Base<'_>,
-    ) -> Result<String, AllocError>
-        ensures { IfOk result (λ text. AreDescendantLines self.now.settings (descriptor_of old.now)
-            (descriptor_of new.now) base.now (string_bytes text)) }
+    ) -> Result<Vec<Line>, AllocError>
+        ensures { IfOk result (λ lines. AreDescendantLines self.now.settings (descriptor_of old.now)
+            (descriptor_of new.now) base.now lines.items) }
     {
         let (old, new) = (entries_in(&old.dacl), entries_in(&new.dacl));
         let changes = compare_descendants(self.alloc, old, new, &self.settings.mapping, base)?;
-        descendants_text(self.alloc, self.settings.spelling, "", &changes)
+        let mut lines = Vec::new(self.alloc);
+        push_descendants(self.alloc, &mut lines, &changes)?;
+        Ok(lines)
     }
 }

@@ -1,10 +1,11 @@
-//! The answer to a command about a descriptor: what is printed, and whether that is what was asked for.
+//! The answer to a command about a descriptor: its lines, and whether they are what was asked for.
 ghost use Rattle.std.specs.Prelude.{◌≡◌, ◌⊎◌, ◌≤◌, ◌<◌, ◌^◌, [], IfOk, string_bytes};
+ghost use Rattle.sd_line.specs.Line.{form_of, line_of};
 ghost use Rattle.sd_answer.specs.VerdictLines.{fault_line, sddl_fault_line};
 ghost use Rattle.sd_acl.specs.Descriptor.{descriptor_of};
-ghost use Rattle.sd_commands.specs.CommandAnswer.{AnswersOfArgument, AnswersOn, AnswersQuestion, IsAnswer, IsDone};
-ghost use Rattle.sd_commands.specs.CommandAnswer.{IsFault, IsFaultOf, IsFound, IsTokenFault, answer_of};
-ghost use Rattle.sd_commands.specs.CommandAnswer.{descriptor_name, or_worse, outcome_status};
+ghost use Rattle.sd_commands.specs.CommandAnswer.{AnswersOfArgument, AnswersOn, AnswersQuestion, AreDone, IsAnswer};
+ghost use Rattle.sd_commands.specs.CommandAnswer.{IsDone, IsFault, IsFaultOf, IsFound, IsTokenFault, answer_of};
+ghost use Rattle.sd_commands.specs.CommandAnswer.{descriptor_name, or_worse, outcome_status, value_line};
 ghost use Rattle.sd_commands.specs.Diagnostic.{sddl_fault_text, told_line};
 
 use crate::descriptor::{Given, note_left_out_sacl};
@@ -13,18 +14,19 @@ use crate::settings::{CommandContext, Settings};
 use crate::verdict::Form;
 use sd_acl::Descriptor;
 use sd_answer::{fault_line, sddl_fault_line};
-use sd_text::{TextError, TextFault};
+use sd_line::{Line, LineForm, Value};
+use sd_text::{TextError, TextFault, WithoutSacl};
 use sd_usage::{DescriptorCommand, TextCommand};
 use std::alloc::{AllocError, Global};
 
 /// How a command ended, from best to worst.
 #[derive(Clone, Copy, PartialEq, Eq)]
 pub enum Outcome {
-    /// The text was printed, or the right granted.
+    /// What was asked for was done, or the right granted.
     Done,
-    /// What was printed is a verdict other than granted, a difference or a finding.
+    /// The answer is a verdict other than granted, a difference or a finding.
     Refused,
-    /// What was printed is a fault: an argument or an input can't be parsed.
+    /// The answer is a fault: an argument or an input can't be parsed.
     Fault,
 }
 
@@ -54,11 +56,10 @@ impl Outcome {
     }
 }
 
-/// What is printed, what standard error is told beside it, and what came of it.
+/// The lines of an answer, what standard error is told beside them, and what came of it.
 #[derive(Drop)]
 pub struct Answer {
-    /// Whole lines.
-    pub text: String,
+    pub lines: Vec<Line>,
     /// Whole lines, or nothing.
     pub told: String,
     pub outcome: Outcome,
@@ -66,19 +67,27 @@ pub struct Answer {
 
 impl Answer {
     /// What was asked for was done, and nothing is told beside it.
-    pub fn done(alloc: Global, text: String) -> Answer
-        ensures { IsDone (string_bytes text) (answer_of result) }
+    pub fn done(alloc: Global, lines: Vec<Line>) -> Answer
+        ensures { AreDone lines.items (answer_of result) }
     {
-        Answer::of(alloc, text, Outcome::Done)
+        Answer::of(alloc, lines, Outcome::Done)
     }
 
-    /// Nothing is told beside what is printed.
-    pub(crate) fn of(alloc: Global, text: String, outcome: Outcome) -> Answer
-        ensures { IsAnswer (string_bytes text) [] outcome (answer_of result) }
+    /// What was asked for was done, of which this is the one line, and nothing is told beside it.
+    pub(crate) fn line(alloc: Global, line: Line) -> Answered
+        ensures { IfOk result (λ answer. IsDone line (answer_of answer)) }
+    {
+        let lines = vec![in alloc; line]?;
+        Ok(Answer::done(alloc, lines))
+    }
+
+    /// Nothing is told beside the lines.
+    pub(crate) fn of(alloc: Global, lines: Vec<Line>, outcome: Outcome) -> Answer
+        ensures { IsAnswer lines.items [] outcome (answer_of result) }
     {
         let told = String::new(alloc);
         Answer {
-            text,
+            lines,
             told,
             outcome,
         }
@@ -122,19 +131,35 @@ fn descriptor_name(question: DescriptorCommand) -> &'static str
 pub fn fault(alloc: Global, what: &str, told: String) -> Result<Answer, AllocError>
     ensures { IfOk result (λ answer. IsFault (fault_line what.now) (string_bytes told) (answer_of answer)) }
 {
+    let line = fault_line(alloc, what)?;
+    fault_told(alloc, line, told)
+}
+
+/// The answer that is this line of a fault, and what is told of it.
+pub(crate) fn fault_told(alloc: Global, line: Line, told: String) -> Answered
+    ensures { IfOk result (λ answer. IsFault line (string_bytes told) (answer_of answer)) }
+{
     Ok(Answer {
-        text: fault_line(alloc, what)?,
+        lines: vec![in alloc; line]?,
         told,
         outcome: Outcome::Fault,
     })
 }
 
-/// The lines of what was found, or this text where nothing was.
-pub(crate) fn found(alloc: Global, lines: String, nothing: &str) -> Answered
-    ensures { IfOk result (λ answer. IsFound nothing.now (string_bytes lines) (answer_of answer)) }
+/// A value alone, in a line of no kind.
+pub(crate) fn value_line(alloc: Global, value: Value) -> Result<Line, AllocError>
+    ensures { IfOk result (λ line. line ≡ value_line value) }
+{
+    Line::new(alloc, ("", "{text}"), vec![in alloc; value]?)
+}
+
+/// The lines of what was found, or one of this form where nothing was.
+pub(crate) fn found(alloc: Global, lines: Vec<Line>, nothing: LineForm) -> Answered
+    ensures { IfOk result
+        (λ answer. IsFound (line_of (form_of nothing.entry) []) lines.items (answer_of answer)) }
 {
     if lines.is_empty() {
-        Ok(Answer::done(alloc, String::from_str(alloc, nothing)?))
+        Answer::line(alloc, Line::new(alloc, nothing, Vec::new(alloc))?)
     } else {
         Ok(Answer::of(alloc, lines, Outcome::Refused))
     }
@@ -152,23 +177,27 @@ impl CommandContext {
             Given::Descriptor(read) => read,
             Given::Refused(answer) => return Ok(answer),
         };
-        let answer = self.answer_on(question, &read.descriptor, arguments)?;
-        Ok(note_left_out_sacl(self.alloc, name, read.left_out, answer)?)
+        let WithoutSacl {
+            descriptor,
+            left_out,
+        } = read;
+        let answer = self.answer_on(question, descriptor, arguments)?;
+        Ok(note_left_out_sacl(self.alloc, name, left_out, answer)?)
     }
 
-    fn answer_on(self, question: DescriptorCommand, on: &Descriptor, arguments: &[&str]) -> Answered
-        ensures { IfOk result (λ answer. AnswersOn self.settings question arguments.now (descriptor_of on.now)
+    fn answer_on(self, question: DescriptorCommand, on: Descriptor, arguments: &[&str]) -> Answered
+        ensures { IfOk result (λ answer. AnswersOn self.settings question arguments.now (descriptor_of on)
             (answer_of answer)) }
     {
         match question {
-            DescriptorCommand::Verdict => self.verdict(Form::Short, on, arguments),
-            DescriptorCommand::Why => self.verdict(Form::Explained, on, arguments),
-            DescriptorCommand::Who => self.who(on, arguments),
-            DescriptorCommand::Compare => self.compare(on, arguments),
-            DescriptorCommand::Lint => self.lint(on, arguments),
+            DescriptorCommand::Verdict => self.verdict(Form::Short, &on, arguments),
+            DescriptorCommand::Why => self.verdict(Form::Explained, &on, arguments),
+            DescriptorCommand::Who => self.who(&on, arguments),
+            DescriptorCommand::Compare => self.compare(&on, arguments),
+            DescriptorCommand::Lint => self.lint(&on, arguments),
             DescriptorCommand::Print => self.print(on),
-            DescriptorCommand::Sort => self.sort(on),
-            DescriptorCommand::ToBinary => self.to_binary(on),
+            DescriptorCommand::Sort => self.sort(&on),
+            DescriptorCommand::ToBinary => self.to_binary(&on),
         }
     }
 
@@ -210,10 +239,7 @@ impl CommandContext {
             (told_line name.now (sddl_fault_text self.settings.points sddl.now fault place)) (answer_of answer)) }
     {
         let what = sddl_fault_text(self.alloc, self.settings.points, sddl, fault, place)?;
-        Ok(Answer {
-            text: sddl_fault_line(self.alloc, fault, place)?,
-            told: told_line(self.alloc, name, what.as_str())?,
-            outcome: Outcome::Fault,
-        })
+        let told = told_line(self.alloc, name, what.as_str())?;
+        fault_told(self.alloc, sddl_fault_line(self.alloc, fault, place)?, told)
     }
 }

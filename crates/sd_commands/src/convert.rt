@@ -3,42 +3,51 @@ ghost use Rattle.std.specs.Prelude.{◌≡◌, IfOk, codes, string_bytes};
 ghost use Rattle.sd_acl.specs.Descriptor.{descriptor_of};
 ghost use Rattle.hex.specs.Hex.{encode_lower};
 ghost use Rattle.sd_wire.specs.Writing.{wire_of};
-ghost use Rattle.sd_answer.specs.VerdictLines.{line};
+ghost use Rattle.sd_line.specs.Line.{text_line};
 ghost use Rattle.sd_commands.specs.Diagnostic.{told_line, told_wire_fault};
 ghost use Rattle.sd_commands.specs.CommandAnswer.{AnswersBytes, AnswersFromBinary, AnswersHeld, AnswersSid};
-ghost use Rattle.sd_commands.specs.CommandAnswer.{IsDone, IsFault, answer_of, printed_line, wire_fault_line};
+ghost use Rattle.sd_commands.specs.CommandAnswer.{IsDone, IsFault, answer_of, descriptor_line, value_line};
+ghost use Rattle.sd_commands.specs.CommandAnswer.{wire_fault_line};
 
 use crate::bytes::{BytesError, leave_out_sacl, read_bytes};
-use crate::command_answer::{Answer, Answered, Outcome};
+use crate::command_answer::{Answer, Answered, fault_told, value_line};
 use crate::descriptor::{missing_dacl, note_left_out_sacl};
 use crate::diagnostic::{text_at_byte, told_line};
 use crate::kinds::wire_kind_note;
 use crate::settings::CommandContext;
 use sd_acl::Descriptor;
-use sd_text::{print_full_sid, print_sddl_in, read_sid_text_in};
+use sd_answer::FAULT_NAMED;
+use sd_line::{Line, Value};
+use sd_text::read_sid_text_in;
 use sd_wire::{WireError, WireFault, read_descriptor, write_descriptor};
 use std::alloc::{AllocError, Global};
 
 impl CommandContext {
-    /// A descriptor's text: the canonical one, or where masks are spelled by names, with those of their kind of object.
-    pub(crate) fn print(self, descriptor: &Descriptor) -> Answered
-        ensures { IfOk result (λ answer. IsDone (printed_line self.settings.spelling (descriptor_of descriptor.now))
-            (answer_of answer)) }
+    /// A descriptor.
+    pub(crate) fn print(self, descriptor: Descriptor) -> Answered
+        ensures { IfOk result (λ answer. IsDone (descriptor_line (descriptor_of descriptor)) (answer_of answer)) }
     {
-        let names = self.settings.spelling.right_names();
-        printed(self.alloc, print_sddl_in(self.alloc, names, descriptor)?)
+        self.value(Value::descriptor(descriptor))
+    }
+
+    /// The answer that is this value.
+    fn value(self, value: Value) -> Answered
+        ensures { IfOk result (λ answer. IsDone (value_line value) (answer_of answer)) }
+    {
+        Answer::line(self.alloc, value_line(self.alloc, value)?)
     }
 
     /// The self-relative form of a descriptor, in hexadecimal.
     pub(crate) fn to_binary(self, descriptor: &Descriptor) -> Answered
-        ensures { IfOk result (λ answer. IsDone (line (encode_lower (wire_of (descriptor_of descriptor.now))))
+        ensures { IfOk result (λ answer. IsDone (text_line (encode_lower (wire_of (descriptor_of descriptor.now))))
             (answer_of answer)) }
     {
         let bytes = write_descriptor(self.alloc, descriptor)?;
-        printed(self.alloc, hex::encode(self.alloc, bytes.as_slice())?)
+        let text = hex::encode(self.alloc, bytes.as_slice())?;
+        Answer::line(self.alloc, Line::text(self.alloc, text)?)
     }
 
-    /// The printed text of the self-relative form, whose bytes the text spells.
+    /// The descriptor whose self-relative form the text spells in bytes.
     pub(crate) fn from_binary(self, text: &str) -> Answered
         ensures { IfOk result (λ answer. AnswersFromBinary self.settings text.now (answer_of answer)) }
     {
@@ -52,7 +61,7 @@ impl CommandContext {
         }
     }
 
-    /// The printed text of a self-relative descriptor ([MS-DTYP] 2.4.6); `--without-sacl` leaves its SACL out.
+    /// The descriptor whose self-relative form the bytes are ([MS-DTYP] 2.4.6); `--without-sacl` leaves its SACL out.
     fn answer_bytes(self, mut bytes: Vec<u8>) -> Answered
         ensures { IfOk result (λ answer. AnswersBytes self.settings bytes.items (answer_of answer)) }
     {
@@ -64,13 +73,13 @@ impl CommandContext {
         Ok(note_left_out_sacl(self.alloc, "BYTES", left_out, answer)?)
     }
 
-    /// The printed text of what the bytes hold, if it has the list that is required.
+    /// The descriptor that the bytes hold, if it has the list that is required.
     fn answer_held(self, bytes: &[u8]) -> Answered
         ensures { IfOk result (λ answer. AnswersHeld self.settings bytes.now (answer_of answer)) }
     {
         match read_descriptor(self.alloc, bytes) {
             Ok(descriptor) => match missing_dacl(self.settings, &descriptor.dacl) {
-                None => self.print(&descriptor),
+                None => self.print(descriptor),
                 Some(missing) => self.fault("nodacl", "BYTES", missing),
             },
             Err(WireError::Fault(fault)) => wire_fault(self.alloc, bytes, fault),
@@ -78,23 +87,15 @@ impl CommandContext {
         }
     }
 
-    /// The SID that a text in full or an alias spells, in full ([MS-DTYP] 2.4.2.1).
+    /// The SID that a text in full or an alias spells ([MS-DTYP] 2.4.2.1).
     pub(crate) fn sid(self, text: &str) -> Answered
         ensures { IfOk result (λ answer. AnswersSid self.settings text.now (answer_of answer)) }
     {
         match read_sid_text_in(self.settings.aliases, text) {
-            Ok(sid) => printed(self.alloc, print_full_sid(self.alloc, &sid)?),
+            Ok(sid) => self.value(Value::Sid(sid)),
             Err(error) => self.text_fault("sid", "SID", text, error),
         }
     }
-}
-
-/// The answer that is a line of this text.
-fn printed(alloc: Global, mut text: String) -> Answered
-    ensures { IfOk result (λ answer. IsDone (line (string_bytes text)) (answer_of answer)) }
-{
-    text.push_str("\n")?;
-    Ok(Answer::done(alloc, text))
 }
 
 /// The answer to bytes that hold no descriptor.
@@ -104,13 +105,17 @@ fn wire_fault(alloc: Global, bytes: &[u8], fault: WireFault) -> Answered
         (answer_of answer)) }
 {
     let what = wire_reason(alloc, bytes, fault)?;
-    let number = fault.number();
-    let name = fault.name();
-    Ok(Answer {
-        text: format!(in alloc; "fault wire {number} {name}\n")?,
-        told: told_line(alloc, "BYTES", what.as_str())?,
-        outcome: Outcome::Fault,
-    })
+    let told = told_line(alloc, "BYTES", what.as_str())?;
+    fault_told(alloc, wire_fault_line(alloc, fault)?, told)
+}
+
+fn wire_fault_line(alloc: Global, fault: WireFault) -> Result<Line, AllocError>
+    ensures { IfOk result (λ line. line ≡ wire_fault_line fault) }
+{
+    let of = Value::word(alloc, "wire")?;
+    let number = Value::Number(fault.number() as u64);
+    let name = Value::word(alloc, fault.name())?;
+    Line::new(alloc, FAULT_NAMED, vec![in alloc; of, number, name]?)
 }
 
 /// The first test that the bytes don't pass, and which entry and which kind it is that isn't taken.

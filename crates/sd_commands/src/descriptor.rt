@@ -1,6 +1,7 @@
 //! The descriptor that an argument's text is, with a SACL that is left out where that is asked for.
 ghost use Rattle.std.specs.Prelude.{◌≡◌, IfOk, option_map};
-ghost use Rattle.sd_commands.specs.CommandAnswer.{IsGiven, IsNoted, answer_of, missing_dacl};
+ghost use Rattle.sd_commands.specs.Required.{missing_dacl};
+ghost use Rattle.sd_commands.specs.CommandAnswer.{IsGiven, IsNoted, answer_of};
 
 use crate::command_answer::{Answer, Answered};
 use crate::diagnostic::told_line;

@@ -1,4 +1,4 @@
-//! The commands about one descriptor: text in, answer out.
+//! The commands about one descriptor: text in, the lines of an answer out.
 //!
 //! `answer_question` answers `verdict`, `why`, `who`, `compare`, `lint`, `print`, `sort`, `tobin`, `frombin` and
 //! `rights`, as `Settings` says.
@@ -8,7 +8,7 @@
 //! let question = TextCommand::Descriptor(DescriptorCommand::Verdict);
 //! let arguments = ["S-1-1-0", "0x1"];
 //! let answer = answer_question(alloc, settings, question, "D:(A;;0x1;;;S-1-1-0)", &arguments)?;
-//! // answer.text is "granted 0x1\n", and answer.outcome.status() is 0
+//! // answer.lines is the line `granted 0x1`, and answer.outcome.status(false) is 0
 //! ```
 #![tactic(auto)]
 

@@ -4,11 +4,11 @@ ghost use Rattle.sd_acl.specs.Descriptor.{descriptor_of};
 ghost use Rattle.sd_commands.specs.CommandAnswer.{AnswersOfBase, PrintsFindings, answer_of};
 
 use crate::command_answer::{Answered, found};
-use crate::risks::risk_lines;
+use crate::risks::push_risks;
 use crate::settings::CommandContext;
 use sd_acl::Descriptor;
 use sd_analysis::Base;
-use sd_answer::{TokenError, lint_text, read_base};
+use sd_answer::{CLEAN, TokenError, lint_lines, read_base};
 use sd_check::GroupState;
 use sd_sid::Sid;
 use std::alloc::AllocError;
@@ -32,10 +32,8 @@ impl CommandContext {
             (answer_of answer)) }
     {
         let base = Base { groups };
-        let (mapping, spelling) = (&self.settings.mapping, self.settings.spelling);
-        let mut lines = lint_text(self.alloc, mapping, spelling, &base, descriptor)?;
-        let risks = risk_lines(self.alloc, self.settings, descriptor, &base)?;
-        lines.push_str(risks.as_str())?;
-        found(self.alloc, lines, "clean\n")
+        let mut lines = lint_lines(self.alloc, &self.settings.mapping, &base, descriptor)?;
+        push_risks(self.alloc, &mut lines, self.settings, descriptor, &base)?;
+        found(self.alloc, lines, CLEAN)
     }
 }

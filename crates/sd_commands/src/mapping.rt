@@ -7,7 +7,7 @@ ghost use Rattle.sd_text.specs.Rights.{mask_text};
 ghost use Rattle.sd_commands.specs.Mapping.{AreMasks, GivesMapping, GivesNoMapping, kind_given};
 ghost use Rattle.sd_commands.specs.Mapping.{kind_mapping, kind_named, between_commas};
 
-use sd_answer::ObjectKind;
+use sd_line::ObjectKind;
 use sd_sid::{GenericMapping, Mask};
 use sd_text::read_mask;
 

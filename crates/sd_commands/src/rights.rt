@@ -4,7 +4,7 @@ ghost use Rattle.sd_commands.specs.CommandAnswer.{AnswersRights, answer_of};
 
 use crate::command_answer::{Answer, Answered};
 use crate::settings::CommandContext;
-use sd_answer::{read_mask_in, rights_line};
+use sd_line::{read_mask_in, rights_line};
 
 impl CommandContext {
     /// The mask, the permission that it is, and its rights by kind of object ([MS-DTYP] 2.4.3), as
@@ -14,8 +14,8 @@ impl CommandContext {
     {
         match read_mask_in(self.settings.spelling, mask) {
             Ok(mask) => {
-                let text = rights_line(self.alloc, self.settings.kind, mask)?;
-                Ok(Answer::done(self.alloc, text))
+                let line = rights_line(self.alloc, self.settings.kind, mask)?;
+                Answer::line(self.alloc, line)
             }
             Err(error) => self.text_fault("mask", "MASK", mask, error),
         }

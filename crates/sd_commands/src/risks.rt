@@ -1,103 +1,110 @@
 //! The lines of risks, which `--risks` adds to those of `lint`.
-ghost use Rattle.std.specs.Prelude.{◌≡◌, ◌++◌, [], IfOk, string_bytes};
-ghost use Rattle.std.specs.List.{flat_map};
-ghost use Rattle.std.specs.Option.{option_map_or};
+ghost use Rattle.std.specs.Prelude.{◌≡◌, ◌++◌, IfOk, OnOk, map};
 ghost use Rattle.sd_acl.specs.Descriptor.{descriptor_of};
-ghost use Rattle.sd_text.specs.Canon.{full_canon};
-ghost use Rattle.sd_answer.specs.VerdictLines.{line};
-ghost use Rattle.sd_answer.specs.Descendants.{descendant_head};
-ghost use Rattle.sd_commands.specs.Risks.{has_right, risk_line, risk_lines, unknown_line};
+ghost use Rattle.sd_line.specs.Line.{form_of};
+ghost use Rattle.sd_commands.specs.Risks.{about, grant_form, grant_line, right_name, risk_line, risk_lines};
+ghost use Rattle.sd_commands.specs.Risks.{unknown_line};
 
 use crate::settings::Settings;
 use sd_acl::{Ace, Descriptor};
 use sd_analysis::{Base, Descendant, Right, Risk, risks_in};
-use sd_answer::{Spelling, descendant_head};
+use sd_answer::{
+    EMPTY_DACL, OWNER_CANNOT_READ, RISKY_GRANT, RISKY_GRANT_BELOW, UNKNOWN_GROUP, UNKNOWN_OWNER,
+    UNKNOWN_SID, push_made,
+};
+use sd_line::{Line, LineForm, Part, Value};
 use sd_sid::Sid;
-use sd_text::{print_entry_in, print_full_sid};
 use std::alloc::{AllocError, Global};
 
-/// A line for each risk in the descriptor, where risks are asked for.
-pub(crate) fn risk_lines(
+/// Adds a line for each risk in the descriptor, where risks are asked for.
+pub(crate) fn push_risks(
     alloc: Global,
+    out: &mut Vec<Line>,
     settings: Settings,
     descriptor: &Descriptor,
     base: &Base<'_>,
-) -> Result<String, AllocError>
-    ensures { IfOk result
-        (λ text. string_bytes text ≡ risk_lines settings (descriptor_of descriptor.now) base.now) }
+) -> Result<(), AllocError>
+    ensures { OnOk result
+        (out.new.items ≡ out.old.items ++ risk_lines settings (descriptor_of descriptor.now) base.now) }
 {
     if !settings.risks {
-        return Ok(String::new(alloc));
+        return Ok(());
     }
     let given = settings.concern.sids();
     let risks = risks_in(alloc, descriptor, &settings.mapping, base, given)?;
-    lines_of(alloc, settings.spelling, &risks)
+    push_lines(alloc, out, &risks)
 }
 
-fn lines_of(alloc: Global, spelling: Spelling, risks: &[Risk]) -> Result<String, AllocError>
-    ensures { IfOk result (λ text. string_bytes text ≡ flat_map (risk_line spelling) risks.now) }
+fn push_lines(alloc: Global, out: &mut Vec<Line>, risks: &[Risk]) -> Result<(), AllocError>
+    ensures { OnOk result (out.new.items ≡ out.old.items ++ map risk_line risks.now) }
 {
-    let mut text = String::new(alloc);
     for risk in risks {
-        let line = risk_line(alloc, spelling, risk)?;
-        text.push_str(line.as_str())?;
+        out.push(risk_line(alloc, risk)?)?;
     }
-    Ok(text)
+    Ok(())
 }
 
-fn risk_line(alloc: Global, spelling: Spelling, risk: &Risk) -> Result<String, AllocError>
-    ensures { IfOk result (λ text. string_bytes text ≡ risk_line spelling risk.now) }
+fn risk_line(alloc: Global, risk: &Risk) -> Result<Line, AllocError>
+    ensures { IfOk result (λ line. line ≡ risk_line risk.now) }
 {
     match risk {
-        Risk::EmptyList => String::from_str(alloc, "an empty DACL grants nothing\n"),
-        Risk::OwnerCannotRead(sid) => about(alloc, "the owner ", sid, " has no way to read"),
-        Risk::Grants(whose, sid, right) => about(alloc, head_of(whose), sid, has_right(*right)),
-        Risk::UnknownEntry(number, entry) => unknown_line(alloc, spelling, *number, entry),
-        Risk::UnknownOwner(sid) => about(alloc, "the owner ", sid, " is of no known kind"),
-        Risk::UnknownGroup(sid) => about(alloc, "the group ", sid, " is of no known kind"),
+        Risk::EmptyList => Line::new(alloc, EMPTY_DACL, Vec::new(alloc)),
+        Risk::OwnerCannotRead(sid) => about(alloc, OWNER_CANNOT_READ, sid),
+        Risk::Grants(whose, sid, right) => grant_line(alloc, *whose, sid, *right),
+        Risk::UnknownEntry(number, entry) => unknown_line(alloc, *number, entry),
+        Risk::UnknownOwner(sid) => about(alloc, UNKNOWN_OWNER, sid),
+        Risk::UnknownGroup(sid) => about(alloc, UNKNOWN_GROUP, sid),
     }
 }
 
-fn about(alloc: Global, who: &str, sid: &Sid, what: &str) -> Result<String, AllocError>
-    ensures { IfOk result (λ text. string_bytes text ≡ line (who.now ++ full_canon sid.now ++ what.now)) }
+/// The line of what is so of a SID.
+fn about(alloc: Global, form: LineForm, sid: &Sid) -> Result<Line, AllocError>
+    ensures { IfOk result (λ line. line ≡ about (form_of form.entry) sid.now) }
 {
-    let sid = print_full_sid(alloc, sid)?;
-    let sid = sid.as_str();
-    let line = format!(in alloc; "{who}{sid}{what}\n")?;
-    Ok(line)
+    Line::new(alloc, form, vec![in alloc; Value::Sid(*sid)]?)
 }
 
-/// What a line about the object, or about a descendant, begins with.
-fn head_of(whose: &Option<Descendant>) -> &'static str
-    ensures { result.now ≡ option_map_or descendant_head whose.now [] }
+/// The line of a right to the object, or to what is made in it, that a SID of concern has.
+fn grant_line(
+    alloc: Global,
+    whose: Option<Descendant>,
+    sid: &Sid,
+    right: Right,
+) -> Result<Line, AllocError>
+    ensures { IfOk result (λ line. line ≡ grant_line whose sid.now right) }
+{
+    let (kind, words) = grant_form(whose);
+    let mut parts = Vec::new(alloc);
+    push_made(alloc, &mut parts, whose)?;
+    let right = Value::word(alloc, right_name(right))?;
+    parts.push(Part::new(words, vec![in alloc; Value::Sid(*sid), right]?))?;
+    Ok(Line::of(kind, parts))
+}
+
+fn grant_form(whose: Option<Descendant>) -> LineForm
+    ensures { form_of result ≡ grant_form whose }
 {
     match whose {
-        None => "",
-        Some(descendant) => descendant_head(*descendant),
+        None => RISKY_GRANT,
+        Some(_) => RISKY_GRANT_BELOW,
     }
 }
 
-fn has_right(right: Right) -> &'static str
-    ensures { result.now ≡ has_right right }
+fn right_name(right: Right) -> &'static str
+    ensures { result.now ≡ right_name right }
 {
     match right {
-        Right::FullControl => " is granted full-control",
-        Right::Write => " is granted write",
-        Right::Delete => " is granted delete",
-        Right::ChangePermissions => " is granted change-permissions",
+        Right::FullControl => "full-control",
+        Right::Write => "write",
+        Right::Delete => "delete",
+        Right::ChangePermissions => "change-permissions",
     }
 }
 
-fn unknown_line(
-    alloc: Global,
-    spelling: Spelling,
-    number: usize,
-    entry: &Ace,
-) -> Result<String, AllocError>
-    ensures { IfOk result (λ text. string_bytes text ≡ unknown_line spelling number entry.now) }
+/// The line of an entry, counted from 1, whose SID is of no known kind.
+fn unknown_line(alloc: Global, number: usize, entry: &Ace) -> Result<Line, AllocError>
+    ensures { IfOk result (λ line. line ≡ unknown_line number entry.now) }
 {
-    let entry = print_entry_in(alloc, spelling.right_names(), entry)?;
-    let entry = entry.as_str();
-    let line = format!(in alloc; "entry {number} {entry} names a SID of no known kind\n")?;
-    Ok(line)
+    let values = vec![in alloc; Value::Number(number as u64), Value::Entry(*entry)]?;
+    Line::new(alloc, UNKNOWN_SID, values)
 }

@@ -2,7 +2,7 @@
 
 use crate::concern::Concern;
 use crate::logon::Logon;
-use sd_answer::{ObjectKind, Spelling};
+use sd_line::{ObjectKind, Spelling};
 use sd_sid::GenericMapping;
 use sd_text::Aliases;
 use std::alloc::Global;

@@ -5,21 +5,22 @@ ghost use Rattle.sd_acl.specs.Descriptor.{descriptor_of};
 ghost use Rattle.sd_commands.specs.CommandAnswer.{IsSorted, answer_of};
 ghost use Rattle.sd_commands.specs.Sort.{move_notes, note_of, notes_below, sorted, sorted_dacl};
 
-use crate::command_answer::{Answer, Answered, Outcome};
+use crate::command_answer::{Answer, Answered, Outcome, value_line};
 use crate::diagnostic::told_line;
 use crate::settings::CommandContext;
 use sd_acl::{Ace, AceList, Dacl, Descriptor, canonicalize};
-use sd_answer::{Spelling, first_misplaced};
-use sd_text::{print_entry_in, print_sddl_in};
+use sd_answer::first_misplaced;
+use sd_line::{Spelling, Value};
+use sd_text::print_entry_in;
 use std::alloc::{AllocError, Global};
 
 impl CommandContext {
-    /// The canonical text of a descriptor with its DACL in canonical order ([MS-DTYP] 2.4.5).
+    /// A descriptor with its DACL in canonical order ([MS-DTYP] 2.4.5).
     pub(crate) fn sort(self, descriptor: &Descriptor) -> Answered
         ensures { IfOk result (λ answer. IsSorted self.settings (descriptor_of descriptor.now) (answer_of answer)) }
     {
-        let (alloc, spelling) = (self.alloc, self.settings.spelling);
-        let told = move_notes(alloc, spelling, &descriptor.dacl)?;
+        let alloc = self.alloc;
+        let told = move_notes(alloc, self.settings.spelling, &descriptor.dacl)?;
         let sorted = Descriptor {
             owner: descriptor.owner,
             group: descriptor.group,
@@ -28,10 +29,9 @@ impl CommandContext {
             auto_req: descriptor.auto_req,
             auto_inherited: descriptor.auto_inherited,
         };
-        let mut text = print_sddl_in(alloc, spelling.right_names(), &sorted)?;
-        text.push_str("\n")?;
+        let line = value_line(alloc, Value::descriptor(sorted))?;
         Ok(Answer {
-            text,
+            lines: vec![in alloc; line]?,
             told,
             outcome: Outcome::Done,
         })

@@ -10,8 +10,9 @@ use crate::logon::{fits_logon, words_for};
 use crate::settings::CommandContext;
 use crate::words::{argument, items_from};
 use sd_acl::Descriptor;
-use sd_answer::{TokenError, read_mask_in, read_token, verdict_line, why_text};
+use sd_answer::{TokenError, read_token, verdict_line, why_lines};
 use sd_check::{Token, Verdict, check};
+use sd_line::read_mask_in;
 use sd_sid::{Mask, Sid};
 use sd_text::read_sid_text_in;
 use std::alloc::AllocError;
@@ -117,17 +118,17 @@ impl CommandContext {
         ensures { IfOk result (λ answer. IsVerdict self.settings form (descriptor_of descriptor.now) token.now asked
             (answer_of answer)) }
     {
-        let (mapping, spelling) = (&self.settings.mapping, self.settings.spelling);
+        let mapping = &self.settings.mapping;
         let verdict = check(descriptor, mapping, token, asked);
         let outcome = outcome_of(&verdict);
         match form {
             Form::Short => {
-                let text = verdict_line(self.alloc, spelling, verdict)?;
-                Ok(Answer::of(self.alloc, text, outcome))
+                let lines = vec![in self.alloc; verdict_line(self.alloc, verdict)?]?;
+                Ok(Answer::of(self.alloc, lines, outcome))
             }
             Form::Explained => {
-                let text = why_text(self.alloc, mapping, spelling, descriptor, token, asked)?;
-                Ok(Answer::of(self.alloc, text, outcome))
+                let lines = why_lines(self.alloc, mapping, descriptor, token, asked)?;
+                Ok(Answer::of(self.alloc, lines, outcome))
             }
         }
     }

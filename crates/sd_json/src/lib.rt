@@ -18,6 +18,7 @@ mod table;
 mod tagging;
 mod text;
 
+pub use string::push_string;
 pub use table::{LineRow, ROWS};
 pub use tagging::Tagging;
 pub use text::{json_text, printed_as};

@@ -12,7 +12,7 @@ use std::str::from_utf8;
 /// Appends a text as a string. Bytes from 0x80 on stay, or where the text isn't UTF-8 each is the surrogate U+DC80 to
 /// U+DCFF, as Python's `surrogateescape` has it.
 #[tactic(auto, unfolding(crate::specs::Json::json_string))]
-pub(crate) fn push_string(out: &mut Vec<u8>, text: &[u8]) -> Result<(), AllocError>
+pub fn push_string(out: &mut Vec<u8>, text: &[u8]) -> Result<(), AllocError>
     ensures { OnOk result (out.new.items ≡ out.old.items ++ json_string text.now) }
 {
     let utf8 = is_utf8(text);

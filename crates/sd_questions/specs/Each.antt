@@ -19,9 +19,9 @@ abbrev pub has_key : List ℕ → Bool
 has_key line =
     nat_lt (key_len line) (length line) && not (list_any (λ b. b == 10) (take (key_len line) line))
 
--- the key with its tab, and the text after it
+-- the key, and the text after its tab
 abbrev pub key_of : List ℕ → List ℕ
-key_of line = take (key_len line + 1) line
+key_of line = take (key_len line) line
 
 abbrev pub after_key : List ℕ → List ℕ
 after_key line = drop (key_len line + 1) line

@@ -1,18 +1,17 @@
 -- The answer to a question: of a text, of the input, or of each of its lines.
-use Rattle.std.specs.Prelude.{◌≡◌, ◌⊎◌, ℕ, ◌==◌, Bool, true, false, ◌&&◌, MatchBool, List, [], ◌++◌, length, Option}
-use Rattle.std.specs.Prelude.{Some, None, IfSome, if◌then◌else◌, MatchResult, Result, codes}
+use Rattle.std.specs.Prelude.{◌≡◌, ◌⊎◌, ℕ, ◌==◌, Bool, true, false, ◌&&◌, MatchBool, List, [], ◌∷◌, ◌++◌, length}
+use Rattle.std.specs.Prelude.{Option, Some, None, IfSome, if◌then◌else◌, MatchResult, Result, codes}
 use Rattle.std.specs.Borrow.{Bor}
 use Rattle.std.specs.Str.{IsUtf8}
 use Rattle.sd_answer.specs.VerdictLines.{fault_line}
-use Rattle.sd_script.specs.Ids.{tagged}
 use Rattle.sd_lines.specs.Answers.{PrintsAndLeaves}
 use Rattle.sd_lines.specs.Decoder.{decoded}
 use Rattle.sd_lines.specs.declared.ending.Ending.TheVariants as endings
 use Rattle.sd_lines.specs.declared.form.Form.{Form}
-use Rattle.sd_json.specs.Text.{printed_as}
-use Rattle.sd_json.specs.declared.tagging.Tagging.TheVariants.{Key, Nothing}
+use Rattle.sd_line.specs.Line.{LineOf, text_line}
+use Rattle.sd_line.specs.Printed.{TagOf, printed}
+use Rattle.sd_line.specs.declared.print.Style.{Style}
 use Rattle.sd_text.specs.Alias.{in_domain}
-use Rattle.sd_usage.specs.declared.row.OptionName.TheVariants.{Json}
 use Rattle.sd_usage.specs.declared.row.DescriptorCommand.TheVariants as about
 use Rattle.sd_usage.specs.declared.row.TextCommand.{TextCommand}
 use Rattle.sd_usage.specs.declared.row.TextCommand.TheVariants.{Descriptor}
@@ -23,7 +22,7 @@ use Rattle.sd_commands.specs.declared.command_answer.Outcome.{Outcome}
 use Rattle.sd_commands.specs.declared.command_answer.Outcome.TheVariants.{Fault}
 use Rattle.sd_commands.specs.declared.settings.Settings.{Settings}
 use Rattle.sd_arguments.specs.CommandLine.{RequestValue}
-use Rattle.sd_arguments.specs.Options.{OptionsValue, GivesSettings, has}
+use Rattle.sd_arguments.specs.Options.{OptionsValue, GivesSettings, style_of}
 use Rattle.sd_arguments.specs.declared.flags.GivenFlags.{GivenFlags}
 use Rattle.sd_arguments.specs.declared.options.BadValue.{BadValue}
 use Rattle.sd_arguments.specs.declared.options.BadValue.TheVariants.{NoConcern, NoDomain, NoEdits, NoLogon, NoMapping}
@@ -65,7 +64,7 @@ abbrev pub asks_who : TextCommand → Bool
 asks_who (Descriptor about.Who) = true
 asks_who question = false
 
--- where nothing is printed, that is said: no right was asked for
+-- where the answer has no line, that is said: no right was asked for
 abbrev pub IsSaid : Bool → AnswerValue → AnswerValue → Type 0
 IsSaid true plain answer =
     IsFault (fault_line (codes "mask")) (told_line (codes "MASK") (codes "no right is asked for")) answer
@@ -77,7 +76,7 @@ AnswersWith (Some name) settings request text answer =
     IsFault (fault_line (codes "blank")) (told_line name (codes "blank")) answer
 AnswersWith None settings request text answer =
     (plain : AnswerValue) × AnswersQuestion settings request.question text request.arguments plain
-    × IsSaid (asks_who request.question && length plain.printed == 0) plain answer
+    × IsSaid (asks_who request.question && length plain.lines == 0) plain answer
 
 abbrev pub AnswersText : Settings → RequestValue → List ℕ → AnswerValue → Type 0
 AnswersText settings request text answer =
@@ -132,34 +131,36 @@ AnswersTold settings request (Some text) answer =
     ⊎ ((IsUtf8 text → ⊥) × IsFault (fault_line (codes "utf8")) [] answer)
 
 -- what follows each answer: an empty line, where an answer may have several lines
-abbrev pub after_answer : TextCommand → List ℕ
-after_answer (Descriptor about.Why) = codes "\n"
-after_answer (Descriptor about.Who) = codes "\n"
-after_answer (Descriptor about.Compare) = codes "\n"
-after_answer (Descriptor about.Lint) = codes "\n"
+abbrev pub after_answer : TextCommand → List LineOf
+after_answer (Descriptor about.Why) = text_line [] ∷ []
+after_answer (Descriptor about.Who) = text_line [] ∷ []
+after_answer (Descriptor about.Compare) = text_line [] ∷ []
+after_answer (Descriptor about.Lint) = text_line [] ∷ []
 after_answer question = []
 
--- a line's answer, and what came of it
-abbrev pub AnswersLine : Result Settings BadValue → RequestValue → Option (List ℕ) → List ℕ → Outcome → Type 0
-AnswersLine settings request told printed outcome =
+-- the lines of a line's answer, and what came of it
+abbrev pub AnswersLine : Result Settings BadValue → RequestValue → Option (List ℕ) → List LineOf → Outcome → Type 0
+AnswersLine settings request told lines outcome =
     (answer : AnswerValue) × AnswersTold settings request told answer
-    × (printed ≡ answer.printed ++ after_answer request.question) × (outcome ≡ answer.outcome)
+    × (lines ≡ answer.lines ++ after_answer request.question) × (outcome ≡ answer.outcome)
 
--- where lines have keys, the same of one that is a key, a tab and a text, with the key and the tab before each line of
--- the text's answer; one without a key is a fault
-abbrev pub AnswersLineIn : Bool → Result Settings BadValue → RequestValue → Option (List ℕ) → List ℕ → Outcome → Type 0
-AnswersLineIn true settings request (Some line) printed outcome = MatchBool (has_key line)
-    ((answer : List ℕ) × AnswersLine settings request (Some (after_key line)) answer outcome
-    × (printed ≡ tagged (key_of line) true answer))
-    ((printed ≡ fault_line (codes "key") ++ after_answer request.question) × (outcome ≡ Fault))
-AnswersLineIn has_keys settings request told printed outcome = AnswersLine settings request told printed outcome
+-- where lines have keys, the same of one that is a key, a tab and a text, with the key as the tag of the text's answer;
+-- one without a key is a fault
+abbrev pub AnswersLineIn : Bool → Result Settings BadValue → RequestValue → Option (List ℕ) → TagOf → List LineOf
+    → Outcome → Type 0
+AnswersLineIn true settings request (Some line) tag lines outcome = MatchBool (has_key line)
+    ((tag ≡ Some (codes "key", 9, key_of line)) × AnswersLine settings request (Some (after_key line)) lines outcome)
+    ((tag ≡ None) × (lines ≡ fault_line (codes "key") ∷ after_answer request.question) × (outcome ≡ Fault))
+AnswersLineIn has_keys settings request told tag lines outcome =
+    (tag ≡ None) × AnswersLine settings request told lines outcome
 
--- what is printed of a line's answer, plain or as JSON, and the worst outcome of the lines up to this one
-abbrev pub AnswersNext : (has_keys is_json : Bool) → Result Settings BadValue → RequestValue → Option Outcome
-    → Option (List ℕ) → List ℕ → Option Outcome → Type 0
-AnswersNext has_keys is_json settings request before told printed after =
-    (plain : List ℕ) × (outcome : Outcome) × AnswersLineIn has_keys settings request told plain outcome
-    × (printed ≡ printed_as is_json (if has_keys then Key else Nothing) plain) × (after ≡ with_line before outcome)
+-- what is printed of a line's answer, in this style, and the worst outcome of the lines up to this one
+abbrev pub AnswersNext : Bool → Style → Result Settings BadValue → RequestValue → Option Outcome → Option (List ℕ)
+    → List ℕ → Option Outcome → Type 0
+AnswersNext has_keys style settings request before told text after =
+    (tag : TagOf) × (lines : List LineOf) × (outcome : Outcome)
+    × AnswersLineIn has_keys settings request told tag lines outcome
+    × (text ≡ printed style tag lines) × (after ≡ with_line before outcome)
 
 -- the lines of an input, each of which a zero byte or a line feed ends. One that is too long is answered too
 abbrev pub form_of : Bool → Form
@@ -170,12 +171,25 @@ form_of zero = record {
   line_by_line = false;
 }
 
+-- what is printed of an answer, what standard error is told beside it, and what came of it
+pub record PrintedAnswer : Type 0 where
+  pub printed : List ℕ
+  pub told : List ℕ
+  pub outcome : Outcome
+
+abbrev pub printed_as : Style → AnswerValue → PrintedAnswer
+printed_as style answer = record {
+  printed = printed style None answer.lines;
+  told = answer.told;
+  outcome = answer.outcome;
+}
+
 -- the lines' answers, one after the other, all under the same settings; the worst of what came of them, and a fault
 -- where there is none
-abbrev pub AnswersEach : OptionsValue → GivenFlags → RequestValue → Option (List ℕ) → AnswerValue → Type 0
+abbrev pub AnswersEach : OptionsValue → GivenFlags → RequestValue → Option (List ℕ) → PrintedAnswer → Type 0
 AnswersEach options given request input answer =
     (settings : Result Settings BadValue) × GivesSettings options settings
     × (text : List ℕ) × (last : Option Outcome) × IfSome input (λ bytes. text ≡ bytes)
-    × PrintsAndLeaves (form_of given.zero) (AnswersNext given.key (has options Json) settings request) None text
+    × PrintsAndLeaves (form_of given.zero) (AnswersNext given.key (style_of options) settings request) None text
     answer.printed last
     × ((advice : List ℕ) × (answer.told ≡ told_of_lines last advice)) × (answer.outcome ≡ outcome_of_lines last)

@@ -8,9 +8,10 @@ use crate::found::{found_in_descriptor, found_in_mask, found_in_user, found_in_w
 use crate::notes::notes_on;
 use crate::remedies::{EACH, HEX, LABELS, OTHER_USER, RemedyRow, row_line};
 use crate::spoken::answer_text;
-use sd_answer::{TokenError, read_base, read_mask_in, read_sddl_argument, read_token};
+use sd_answer::{TokenError, read_base, read_sddl_argument, read_token};
 use sd_arguments::{Options, TextRequest};
 use sd_commands::{Answer, ByteForm, Outcome, Settings, fits_logon, told_line};
+use sd_line::read_mask_in;
 use sd_text::{TextError, read_sid_text_in};
 use sd_usage::{DescriptorCommand, OptionName, TextCommand};
 use std::alloc::{AllocError, Global};
@@ -50,13 +51,13 @@ pub(crate) fn with_advice(answer: Answer, advice: &str) -> Result<Answer, AllocE
         ≡ record (answer_of answer) { told = string_bytes answer.told ++ advice.now }) }
 {
     let Answer {
-        text,
+        lines,
         mut told,
         outcome,
     } = answer;
     told.push_str(advice)?;
     Ok(Answer {
-        text,
+        lines,
         told,
         outcome,
     })

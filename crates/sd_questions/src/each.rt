@@ -1,10 +1,11 @@
 //! The answers of one command to each line of an input.
 ghost use Rattle.std.specs.Prelude.{◌≡◌, ◌≢◌, ◌≤◌, ◌⊎◌, ◌||◌, ◌++◌, true, false, IfErr, IfNone, IfOk, IfSome, length};
-ghost use Rattle.std.specs.Prelude.{option_map, string_bytes};
+ghost use Rattle.std.specs.Prelude.{OnOk, option_map, string_bytes};
 ghost use Rattle.std.specs.Io.KnownBytes.{Keeps};
 ghost use Rattle.sd_lines.specs.Watched.{has_failed, inner_of};
 ghost use Rattle.sd_lines.specs.Streams.{is_read_error, is_write_error};
 ghost use Rattle.sd_commands.specs.CommandAnswer.{answer_of, outcome_status};
+ghost use Rattle.sd_line.specs.Printed.{tag_of};
 ghost use Rattle.sd_questions.specs.TextAnswer.{AnswersLine, AnswersLineIn, AnswersNext, AnswersTold};
 ghost use Rattle.sd_questions.specs.TextAnswer.{AnswersEach, after_answer, form_of};
 ghost use Rattle.sd_arguments.specs.CommandLine.{request_of};
@@ -19,9 +20,8 @@ use crate::spoken::answer_text;
 use crate::text_answer::bad_value;
 use sd_arguments::{BadValue, GivenFlags, Options, TextRequest};
 use sd_commands::{Answer, Outcome, Settings, fault, told_line};
-use sd_json::{Tagging, printed_as};
+use sd_line::{Line, Style, Tag, push_printed};
 use sd_lines::{AnswersLines, Ending, Form, RunError, Watched, answer_lines};
-use sd_script::tagged;
 use sd_usage::{DescriptorCommand, OptionName, TextCommand};
 use std::alloc::{AllocError, Global};
 use std::io::{Read, Write};
@@ -35,10 +35,10 @@ pub struct Ended {
     pub outcome: Outcome,
 }
 
-/// What is printed of a line, and what came of it.
+/// The lines of the answer to a line, and what came of it.
 #[derive(Drop)]
 struct Answered {
-    printed: Vec<u8>,
+    lines: Vec<Line>,
     outcome: Outcome,
 }
 
@@ -47,8 +47,8 @@ struct Answered {
 struct LineQuestion<'a> {
     /// Whether each line begins with a key and a tab.
     has_keys: bool,
-    /// Whether each line of its answer is printed as an object of JSON.
-    is_json: bool,
+    /// How each answer is printed.
+    style: Style,
     /// What its options say, or which of their values isn't read.
     settings: Result<Settings, BadValue<'a>>,
     request: TextRequest<'a>,
@@ -58,7 +58,7 @@ impl AnswersLines for LineQuestion<'_> {
     /// The worst outcome of the lines so far, if there was one.
     type State = Option<Outcome>;
 
-    ghost answers = { λ question before told printed after. AnswersNext question.has_keys question.is_json
+    ghost answers = { λ question before told printed after. AnswersNext question.has_keys question.style
         question.settings (request_of question.request) before told printed after };
 
     fn answer(
@@ -68,61 +68,62 @@ impl AnswersLines for LineQuestion<'_> {
         line: Option<&[u8]>,
         text: &mut Vec<u8>,
     ) -> Result<(), AllocError> {
-        let answered = self.answer_in(alloc, line)?;
-        let tagging = if self.has_keys {
-            Tagging::Key
-        } else {
-            Tagging::Nothing
+        let (tag, answered) = match self.answer_in(alloc, line) {
+            Ok(parts) => parts,
+            Err(error) => return Err(error),
         };
-        let printed = printed_as(alloc, self.is_json, tagging, answered.printed)?;
-        text.extend_from_slice(&printed)?;
+        push_printed(alloc, text, self.style, tag, &answered.lines)?;
         *lines = with_line(*lines, answered.outcome);
         Ok(())
     }
 }
 
 impl LineQuestion<'_> {
-    /// The answer to a line: where lines have keys and it is a key, a tab and a text, the text's, each line of which
-    /// begins with the key and the tab. One without a key is a fault.
-    fn answer_in(&self, alloc: Global, line: Option<&[u8]>) -> Result<Answered, AllocError>
+    /// The answer to a line, and its tag: where lines have keys and it is a key, a tab and a text, the text's, and the
+    /// key. One without a key is a fault.
+    fn answer_in<'b>(
+        &self,
+        alloc: Global,
+        line: Option<&'b [u8]>,
+    ) -> Result<(Tag<'b>, Answered), AllocError>
         ensures { IfOk result (λ answered. AnswersLineIn self.now.has_keys self.now.settings
             (request_of self.now.request) (option_map (λ bytes. bytes.now) line.entry)
-            answered.printed.items answered.outcome) }
+            (tag_of answered.0) answered.1.lines.items answered.1.outcome) }
     {
         if !self.has_keys {
-            return self.answer_line(alloc, line);
+            return Ok((Tag::None, self.answer_line(alloc, line)?));
         }
         let Some(bytes) = line else {
-            return self.answer_line(alloc, None);
+            return Ok((Tag::None, self.answer_line(alloc, None)?));
         };
         let Some((key, text)) = parted(bytes) else {
-            return self.ended(fault(alloc, "key", String::new(alloc))?);
+            let answer = fault(alloc, "key", String::new(alloc))?;
+            return Ok((Tag::None, self.ended(alloc, answer)?));
         };
-        let answered = self.answer_line(alloc, Some(text))?;
-        Ok(Answered {
-            printed: tagged(alloc, key, &answered.printed)?,
-            outcome: answered.outcome,
-        })
+        Ok((Tag::Key(key), self.answer_line(alloc, Some(text))?))
     }
 
     /// The answer to a line, and what follows it.
     fn answer_line(&self, alloc: Global, line: Option<&[u8]>) -> Result<Answered, AllocError>
         ensures { IfOk result (λ answered. AnswersLine self.now.settings (request_of self.now.request)
-            (option_map (λ bytes. bytes.now) line.entry) answered.printed.items answered.outcome) }
+            (option_map (λ bytes. bytes.now) line.entry) answered.lines.items answered.outcome) }
     {
-        self.ended(self.answer_told(alloc, line)?)
+        self.ended(alloc, self.answer_told(alloc, line)?)
     }
 
     /// An answer, and what follows it.
-    fn ended(&self, answer: Answer) -> Result<Answered, AllocError>
-        ensures { IfOk result (λ ended. (ended.printed.items
-            ≡ (answer_of answer).printed ++ after_answer self.now.request.question)
+    fn ended(&self, alloc: Global, answer: Answer) -> Result<Answered, AllocError>
+        ensures { IfOk result (λ ended. (ended.lines.items
+            ≡ (answer_of answer).lines ++ after_answer self.now.request.question)
             × (ended.outcome ≡ answer.outcome)) }
     {
-        let Answer { text, outcome, .. } = answer;
-        let mut printed = text.into_bytes();
-        printed.extend_from_slice(after_answer(self.request.question).as_bytes())?;
-        Ok(Answered { printed, outcome })
+        let Answer {
+            mut lines,
+            outcome,
+            ..
+        } = answer;
+        push_after_answer(alloc, &mut lines, self.request.question)?;
+        Ok(Answered { lines, outcome })
     }
 
     /// The answer to a line, of which there is no text where it is too long.
@@ -146,7 +147,7 @@ impl LineQuestion<'_> {
     }
 }
 
-/// The key of a line with the tab after it, and the text after that. `None`: no tab is there, or a line feed before it.
+/// The key of a line, and the text after its tab. `None`: no tab is there, or a line feed before it.
 fn parted(line: &[u8]) -> Option<(&[u8], &[u8])>
     ensures some { IfSome result (λ parts. (has_key line.now ≡ true) × (parts.0.now ≡ key_of line.now)
         × (parts.1.now ≡ after_key line.now)) }
@@ -154,7 +155,7 @@ fn parted(line: &[u8]) -> Option<(&[u8], &[u8])>
 {
     let len = key_len(line);
     if len < line.len() && !line[..len].contains(&b'\n') {
-        Some((&line[..len + 1], &line[len + 1..]))
+        Some((&line[..len], &line[len + 1..]))
     } else {
         None
     }
@@ -169,9 +170,13 @@ fn key_len(line: &[u8]) -> usize
     len.unwrap_or(line.len())
 }
 
-/// What follows each answer: an empty line, where an answer may have several lines.
-fn after_answer(question: TextCommand) -> &'static str
-    ensures { result.now ≡ after_answer question }
+/// Adds what follows each answer: an empty line, where an answer may have several lines.
+fn push_after_answer(
+    alloc: Global,
+    lines: &mut Vec<Line>,
+    question: TextCommand,
+) -> Result<(), AllocError>
+    ensures { OnOk result (lines.new.items ≡ lines.old.items ++ after_answer question) }
 {
     match question {
         TextCommand::Descriptor(
@@ -179,8 +184,11 @@ fn after_answer(question: TextCommand) -> &'static str
             | DescriptorCommand::Who
             | DescriptorCommand::Compare
             | DescriptorCommand::Lint,
-        ) => "\n",
-        _ => "",
+        ) => {
+            lines.push(Line::text(alloc, String::new(alloc))?)?;
+            Ok(())
+        }
+        _ => Ok(()),
     }
 }
 
@@ -243,7 +251,7 @@ pub fn answer_each<R: Read, W: Write>(
     let advice = advice_on_each(alloc, options, request)?;
     let question = LineQuestion {
         has_keys: given.key,
-        is_json: options.has(OptionName::Json),
+        style: options.style(),
         settings: options.settings(),
         request,
     };

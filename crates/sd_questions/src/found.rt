@@ -1,8 +1,8 @@
 //! Which row of the table of remedies fits a text that can't be parsed.
 
 use crate::remedies::*;
-use sd_answer::{Spelling, read_mask_in};
 use sd_commands::Settings;
+use sd_line::{Spelling, read_mask_in};
 use sd_text::{Aliases, TextError, TextFault, read_mask, read_sid_text_in};
 
 /// What was found in a descriptor's text whose first fault is at this byte.

@@ -2,10 +2,11 @@
 //! out, a token that lacks what most have. It is for people: rows of tests show each text, and no definition says one.
 
 use crate::remedies::CHILDREN;
-use sd_answer::{read_mask_in, read_sddl_argument, read_token, verdict_line};
+use sd_answer::{read_sddl_argument, read_token, verdict_line};
 use sd_arguments::TextRequest;
-use sd_check::check;
+use sd_check::{Verdict, check};
 use sd_commands::{Settings, told_line};
+use sd_line::{lines_text, read_mask_in};
 use sd_sid::Sid;
 use sd_text::{Aliases, read_sid_text_in};
 use sd_usage::{DescriptorCommand, TextCommand};
@@ -175,11 +176,21 @@ fn push_lacking(
     if verdict == other {
         return Ok(());
     }
-    let line = verdict_line(alloc, settings.spelling, other)?;
+    let line = verdict_text(alloc, settings, other)?;
     let what =
         "the token lacks WD or AU, Everyone or Authenticated Users, which most have; with both ";
     let note = format!(in alloc; "sdstore: WORD: {what}{line}")?;
     notes.push_str(note.as_str())
+}
+
+/// The line of a verdict, with its end.
+fn verdict_text(
+    alloc: Global,
+    settings: &Settings,
+    verdict: Verdict,
+) -> Result<String, AllocError> {
+    let lines = vec![in alloc; verdict_line(alloc, verdict)?]?;
+    lines_text(alloc, settings.spelling, &lines)
 }
 
 /// The words, and Everyone and Authenticated Users where none of them names these.

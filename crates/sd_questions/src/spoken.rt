@@ -29,12 +29,12 @@ pub(crate) fn answer_text(
     said(alloc, question, answer)
 }
 
-/// The answer, or a fault where it would be that nothing is printed.
+/// The answer, or a fault where it would have no line.
 fn said(alloc: Global, question: TextCommand, answer: Answer) -> Result<Answer, AllocError>
     ensures { let plain = answer_of answer in
-        IfOk result (λ said. IsSaid (asks_who question && length plain.printed == 0) plain (answer_of said)) }
+        IfOk result (λ said. IsSaid (asks_who question && length plain.lines == 0) plain (answer_of said)) }
 {
-    if asks_who(question) && answer.text.is_empty() {
+    if asks_who(question) && answer.lines.is_empty() {
         let told = told_line(alloc, "MASK", "no right is asked for")?;
         return fault(alloc, "mask", told);
     }

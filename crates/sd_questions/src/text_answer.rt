@@ -19,7 +19,7 @@ use sd_text::Aliases;
 use std::alloc::{AllocError, Global};
 use std::io::Read;
 
-/// The answer to a text, or without one to the input, before its lines are objects. Only without one it uses `reader`.
+/// The answer to a text, or without one to the input. Only without one it uses `reader`.
 pub fn answer_to<R: Read>(
     alloc: Global,
     options: Options<'_>,

@@ -11,9 +11,9 @@ pub use Rattle.sd_analysis.specs.declared.descendants.Descendant.{Descendant}
 pub use Rattle.sd_analysis.specs.declared.descendants.Descendant.TheVariants.{Container, ContainerBelow, Object, ObjectBelow}
 pub use Rattle.sd_analysis.specs.declared.descendants_compare.DescendantChange.{DescendantChange}
 pub use Rattle.sd_answer.proofs.NoLines.{no_gain_no_loss, parts_empty}
-pub use Rattle.sd_answer.specs.Descendants.{descendant_head, descendant_lines}
+pub use Rattle.sd_answer.specs.Descendants.{descendant_lines}
 pub use Rattle.sd_answer.specs.Parts.{parts_in}
-pub use Rattle.sd_answer.specs.declared.verdict_lines.Spelling.{Spelling}
+pub use Rattle.sd_line.specs.Line.{LineOf}
 pub use Rattle.sd_check.specs.Check.{is_granted}
 pub use Rattle.sd_edit.specs.Journal.{TreeValue, replay}
 pub use Rattle.sd_edit.specs.declared.edit.Edit.{Edit}
@@ -21,6 +21,7 @@ pub use Rattle.sd_edit.specs.declared.opening.Opening.{Opening}
 pub use Rattle.sd_path.specs.Names.{Names}
 pub use Rattle.sd_review.specs.Compared.{IsOf, IsRight, ReviewParts, review_parts_in}
 pub use Rattle.sd_review.specs.Laws.{AreGrantedAlike, SilentContainerPassesDownTheSame, SilentNodeGrantsTheSame}
+pub use Rattle.sd_review.specs.Lines.{with_path}
 pub use Rattle.sd_review.specs.Origin.{origin, place_before}
 pub use Rattle.sd_review.specs.Review.{Trees, trees_after}
 pub use Rattle.sd_review.specs.declared.compared.Compared.{Compared}

@@ -1,5 +1,5 @@
--- Where nothing is printed of the changes, each bit is granted as before.
-use Rattle.sd_review.proofs.Cited.{Ace, All, All-cons, All-head, All-nil, All-tail, AreDescendantChanges, AreGains, AreGrantedAlike, Bool, Change, Container, ContainerBelow, Descendant, DescendantChange, HasBase, IsDescendantChange, List, MappingValue, Object, ObjectBelow, Parts, [], arith, below_is_as_in_it, descendant_parts, descendants_of, false, flat_map, is_granted, list_of, map, one_answer, parts_empty, refl, stops_somewhere, subst, suc, sym, true, zero, ℕ, ◌||◌, ◌∷◌, ◌≡◌}
+-- Where no change has a line, each bit is granted as before.
+use Rattle.sd_review.proofs.Cited.{Ace, All, All-cons, All-head, All-nil, All-tail, AreDescendantChanges, AreGains, AreGrantedAlike, Bool, Change, Container, ContainerBelow, Descendant, DescendantChange, HasBase, IsDescendantChange, LineOf, List, MappingValue, Object, ObjectBelow, Parts, [], arith, below_is_as_in_it, descendant_parts, descendants_of, false, flat_map, is_granted, list_of, map, one_answer, parts_empty, refl, stops_somewhere, subst, suc, sym, true, zero, ◌||◌, ◌∷◌, ◌≡◌}
 
 -- without gains and losses a bit is granted by both or by neither
 pub alike : (g : MappingValue) (old new : Parts) (gained lost : List Change) → AreGains g [] old new gained → AreGains g [] new old lost
@@ -19,17 +19,17 @@ neither true y none = absurd (cc (none))
 neither false y none = (refl, none)
 
 module _ (g : MappingValue) (old new : List Ace) where
-  -- what a list prints of each change is nothing
-  all_alike : (text : DescendantChange → List ℕ)
-      → ((c : DescendantChange) → IsDescendantChange g [] old new c → text c ≡ [] → IsAlike g old new c.descendant)
-      → (changes : List DescendantChange) → All (IsDescendantChange g [] old new) changes → flat_map text changes ≡ []
+  -- no change of a list has a line
+  all_alike : (lines : DescendantChange → List LineOf)
+      → ((c : DescendantChange) → IsDescendantChange g [] old new c → lines c ≡ [] → IsAlike g old new c.descendant)
+      → (changes : List DescendantChange) → All (IsDescendantChange g [] old new) changes → flat_map lines changes ≡ []
       → All (IsAlike g old new) (map (λ (c : DescendantChange). c.descendant) changes)
-  all_alike text silent [] right none = All-nil (IsAlike g old new)
-  all_alike text silent (c ∷ changes) right none =
-      let parts = parts_empty (text c) (flat_map text changes) none in
+  all_alike lines silent [] right none = All-nil (IsAlike g old new)
+  all_alike lines silent (c ∷ changes) right none =
+      let parts = parts_empty (lines c) (flat_map lines changes) none in
       All-cons (IsAlike g old new) c.descendant (map (λ (c : DescendantChange). c.descendant) changes)
       (silent c (All-head (IsDescendantChange g [] old new) c changes right) parts.0)
-      (all_alike text silent changes (All-tail (IsDescendantChange g [] old new) c changes right) parts.1)
+      (all_alike lines silent changes (All-tail (IsDescendantChange g [] old new) c changes right) parts.1)
 
   deeper : (d e : Descendant) → list_of g d old ≡ list_of g e old → list_of g d new ≡ list_of g e new → IsAlike g old new e → IsAlike g old new d
   deeper d e was is same =
@@ -50,11 +50,11 @@ module _ (g : MappingValue) (old new : List Ace) where
       let goes = neither (stops_somewhere old) (stops_somewhere new) is in
       deeper ContainerBelow Container (below_is_as_in_it g old goes.0).1 (below_is_as_in_it g new goes.1).1 (all (suc zero) Object (omega arith))
 
-  -- where nothing is printed of the changes
-  pub each_alike : (text : DescendantChange → List ℕ)
-      → ((c : DescendantChange) → IsDescendantChange g [] old new c → text c ≡ [] → IsAlike g old new c.descendant)
-      → (changes : List DescendantChange) → AreDescendantChanges g [] old new changes → flat_map text changes ≡ []
+  -- where no change has a line
+  pub each_alike : (lines : DescendantChange → List LineOf)
+      → ((c : DescendantChange) → IsDescendantChange g [] old new c → lines c ≡ [] → IsAlike g old new c.descendant)
+      → (changes : List DescendantChange) → AreDescendantChanges g [] old new changes → flat_map lines changes ≡ []
       → (d : Descendant) → IsAlike g old new d
-  each_alike text silent changes are none =
+  each_alike lines silent changes are none =
       any_alike (stops_somewhere old || stops_somewhere new) refl
-      (subst (All (IsAlike g old new)) are.each (all_alike text silent changes are.right none))
+      (subst (All (IsAlike g old new)) are.each (all_alike lines silent changes are.right none))

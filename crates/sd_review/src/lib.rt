@@ -14,7 +14,8 @@
 //! }
 //! if let Some(compared) = &last {
 //!     // compared.comparison has the rights that some token gains, and those that some token loses
-//!     print(compared.lines(alloc, Spelling::Number, "/a ")?); // /a gained 0x2 by S-1-5-32-545
+//!     let lines = with_path(alloc, "/a", compared.lines(alloc)?)?;
+//!     print(lines_text(alloc, Spelling::Number, &lines)?); // /a gained 0x2 by S-1-5-32-545
 //! }
 //! ```
 #![tactic(auto)]
@@ -31,5 +32,6 @@ mod review;
 
 pub use compared::Compared;
 pub use laws::silent_changes_grant_the_same;
+pub use lines::with_path;
 pub use pending::Review;
 pub use review::Former;

@@ -1,5 +1,5 @@
 -- What `why` and `delete` print beside what `check` prints.
-use Rattle.sd_script.proofs.Cited.{Ace, BeginsAsCheck, Bool, CheckReply, Delete, DeletesAsChecked, Granted, IsGranted, List, Machine, MappingValue, Names, NodeRow, None, Notation, Opened, Option, Some, Spelling, TokenValue, Verdict, Why, [], answer, ap, append-nil, append_assoc, append_cancel_left, arith, by_node_line, check_line, codes, dacl_at, decimal, delete_right, deletion_line, descriptor_of_row, false, get_or, length, line, node_why_text, option_map, outcome_of, parent_grants, refl, replay, reply_for, row_at, seen_line, spelled, subst, sym, true, ℕ, ◌++◌, ◌∙◌, ◌≡◌}
+use Rattle.sd_script.proofs.Cited.{Ace, BeginsAsCheck, Bool, CheckReply, Delete, DeletesAsChecked, Granted, IsGranted, List, Machine, MappingValue, Names, NodeRow, None, Notation, Opened, Option, Some, Spelling, TokenValue, Verdict, Why, [], answer, ap, append-nil, append_assoc, append_cancel_left, arith, by_node_line, check_line, codes, dacl_at, decimal, delete_right, deletion_line, descriptor_of_row, false, get_or, length, line, node_why_text, option_map, outcome_of, parent_grants, refl, replay, reply_for, row_at, seen_line, subst, sym, true, verdict_line, whole_line, ℕ, ◌++◌, ◌∙◌, ◌≡◌}
 use Rattle.sd_edit.specs.declared.request.Request.TheVariants as requests
 use Rattle.sd_script.proofs.OneOutput.{by_reader, one_step, outcome}
 
@@ -56,7 +56,7 @@ AreAlike spelling len checked deleted =
 neither : (spelling : Spelling) (len : ℕ) (xs ys : List ℕ) → (letter 0 xs ≡ 103 → ⊥) → (letter 11 ys ≡ 110 → ⊥)
     → AreAlike spelling len (seen_line len xs) (seen_line len ys)
 neither spelling len xs ys other others = (
-  λ is. absurd (other (ap (letter 0) (after_seen len xs (line (codes "granted " ++ spelled spelling is.0)) is.1))),
+  λ is. absurd (other (ap (letter 0) (after_seen len xs (whole_line spelling (verdict_line (Granted is.0))) is.1))),
   λ is. absurd (others (ap (letter 11) (after_seen len ys (line (codes "granted by node")) is))),
 )
 

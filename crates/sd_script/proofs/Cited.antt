@@ -13,13 +13,16 @@ pub use Rattle.sd_analysis.specs.declared.who_has.Holder.TheVariants.{Everyone, 
 pub use Rattle.sd_answer.proofs.NoLines.{parts_empty}
 pub use Rattle.sd_answer.proofs.OneToken.{groups_one, groups_or_none, token_one, token_or_none}
 pub use Rattle.sd_answer.proofs.Words.{list_any-texts}
-pub use Rattle.sd_answer.proofs.WordsLeft.{one_joined}
-pub use Rattle.sd_answer.specs.Mask.{IsMaskIn, between_pluses}
+pub use Rattle.sd_line.proofs.WordsLeft.{one_joined}
+pub use Rattle.sd_line.specs.Mask.{IsMaskIn, between_pluses}
 pub use Rattle.sd_answer.specs.Parts.{parts_in}
-pub use Rattle.sd_answer.specs.VerdictLines.{line, spelled}
+pub use Rattle.sd_answer.specs.VerdictLines.{verdict_line}
+pub use Rattle.sd_line.specs.Line.{LineOf, with_head, word_part}
+pub use Rattle.sd_line.specs.Printed.{line, line_text, lines_text, whole_line}
+pub use Rattle.sd_line.specs.Spelling.{spelled}
 pub use Rattle.sd_answer.specs.Who.{rights_asked}
 pub use Rattle.sd_answer.specs.Word.{AreGroups, IsToken, texts}
-pub use Rattle.sd_answer.specs.declared.verdict_lines.Spelling.{Spelling}
+pub use Rattle.sd_line.specs.declared.spelling.Spelling.{Spelling}
 pub use Rattle.sd_check.proofs.LawProofs.{one_test}
 pub use Rattle.sd_check.specs.Check.{dacl_entries, is_granted, judged, most, verdict}
 pub use Rattle.sd_check.specs.Token.{TokenValue}
@@ -53,7 +56,7 @@ pub use Rattle.sd_path.specs.PathText.{path_of}
 pub use Rattle.sd_review.proofs.Silence.{silent_container, silent_node}
 pub use Rattle.sd_review.specs.Compared.{IsOfBoth, IsRight, is_container, review_parts_in}
 pub use Rattle.sd_review.specs.Laws.{AreGrantedAlike}
-pub use Rattle.sd_review.specs.Lines.{lines_of}
+pub use Rattle.sd_review.specs.Lines.{lines_of, with_path}
 pub use Rattle.sd_review.specs.Review.{Trees, former, stands_in, trees_of}
 pub use Rattle.sd_review.specs.declared.compared.Compared.{Compared}
 pub use Rattle.sd_review.specs.declared.review.Former.{Former}

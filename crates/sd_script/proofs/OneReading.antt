@@ -1,6 +1,6 @@
 -- A line is read as one thing, or has one fault.
 use Rattle.sd_script.proofs.Cited.{AreGroups, Argument, Arguments, Asks, Bool, Dacl, DescriptorValue, Err, Groups, Imported, IsMaskIn, IsNumber, IsPath, IsToken, LineFault, List, Mask, Names, Node, None, Notation, Number, Ok, Option, Path, PathSpelling, Percent, Plain, Reading, Result, ScriptCommand, Sid, Some, SomeOr, Spelling, Spells, Then, Token, [], ap, asks, asks_where, between_pluses, cases_Bool, command_of, dacl_of, descriptor, false, groups_one, import_of, inl, inr, is_untimely, line_asks, mask_text, no_fault, node_of, one_fault, one_joined, one_value, reading, reads, reads_where, sddl_in, sddl_without_sacl, sid_text_in, sym, token_one, true, words_of, ℕ, ◌∙◌, ◌∷◌, ◌≡◌, ◌▸◌}
-use Rattle.sd_answer.specs.declared.verdict_lines.Spelling.TheVariants as spellings
+use Rattle.sd_line.specs.declared.spelling.Spelling.TheVariants as spellings
 use Rattle.sd_script.specs.declared.fault.LineFault.TheVariants as faults
 
 -- ---- readings

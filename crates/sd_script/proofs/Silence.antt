@@ -1,6 +1,8 @@
 -- A review without lines: no check is answered otherwise.
-use Rattle.sd_script.proofs.Cited.{Ace, AreGrantedAlike, ArePrinted, Bool, Compared, Container, Descendant, DescriptorValue, Former, IsCompared, IsNodeReview, IsNodeText, IsOfBoth, IsReviewOf, List, MappingValue, Moved, Names, New, NodeRow, None, Notation, Option, Parts, Same, SilentContainerPassesDownTheSame, SilentNodeIsUnchanged, SilentReviewChangesNothing, Some, Spelling, TokenValue, Trees, Verdict, [], accepted, ap, append_cancel_right, arith, cases_Bool, codes, dacl_at, dacl_entries, descendant_parts, descriptor_of_row, entries, entries_or_none, eq_by_cmp, false, find, flat_map, former, get-entries, gone_line, has_no_words, holds, inl, inr, is_granted, is_some, is_within, judged, kind_at, length, lines_of, list_of, made_in, most, names_cmp, one_path, one_test, parts_empty, parts_in, path_word, refl, reply_in, review_parts_in, reviewed_line, row_at, silent_container, silent_node, stands_in, subst, sym, trees_in, true, verdict, ℕ, ◌++◌, ◌∙◌, ◌∷◌, ◌≡◌}
+use Rattle.sd_script.proofs.Cited.{Ace, AreGrantedAlike, ArePrinted, Bool, Compared, Container, Descendant, DescriptorValue, Former, IsCompared, IsNodeReview, IsNodeText, IsOfBoth, IsReviewOf, LineOf, List, MappingValue, Moved, Names, New, NodeRow, None, Notation, Option, Parts, Same, SilentContainerPassesDownTheSame, SilentNodeIsUnchanged, SilentReviewChangesNothing, Some, Spelling, TokenValue, Trees, Verdict, [], accepted, ap, append_cancel_right, arith, cases_Bool, codes, dacl_at, dacl_entries, descendant_parts, descriptor_of_row, entries, entries_or_none, eq_by_cmp, false, find, flat_map, former, get-entries, gone_line, has_no_words, holds, inl, inr, is_granted, is_some, is_within, judged, kind_at, length, line_text, lines_of, lines_text, list_of, made_in, most, names_cmp, one_path, one_test, parts_empty, parts_in, path_word, refl, reply_in, review_parts_in, reviewed_line, row_at, silent_container, silent_node, stands_in, subst, sym, trees_in, true, verdict, with_head, with_path, word_part, ℕ, ◌++◌, ◌∙◌, ◌∷◌, ◌≡◌}
+use Rattle.sd_answer.specs.declared.forms.TheConstants.{PATH}
 use Rattle.sd_check.specs.declared.verdict.Verdict.{Verdict as CheckVerdict}
+use Rattle.sd_review.specs.Lines.{lines}
 
 -- ---- verdicts
 
@@ -19,15 +21,21 @@ verdict_there : (g : MappingValue) (token : TokenValue) (asked : ℕ) (row : Nod
 verdict_there g token asked row None = refl
 verdict_there g token asked row (Some es) = refl
 
-silent_parts : (spelling : Spelling) (g : MappingValue) (head : List ℕ) (k : Bool) (old new : DescriptorValue) (c : Option Compared) (token : TokenValue) (asked : ℕ)
-    → holds asked 25 ≡ false → IsOfBoth g k (Some old) (Some new) c → [] ≡ lines_of spelling head c
+-- where no text is printed there is no line
+no_lines : (spelling : Spelling) (path : List ℕ) (ls : List LineOf) → [] ≡ lines_text spelling (with_path path ls) → ls ≡ []
+no_lines spelling path [] none = refl
+no_lines spelling path (l ∷ ls) none =
+    absurd (cc ((parts_empty (line_text spelling (with_head (word_part PATH.now path) l)) (10 ∷ []) (parts_empty _ _ (sym none)).0).1))
+
+silent_parts : (spelling : Spelling) (g : MappingValue) (path : List ℕ) (k : Bool) (old new : DescriptorValue) (c : Option Compared) (token : TokenValue) (asked : ℕ)
+    → holds asked 25 ≡ false → IsOfBoth g k (Some old) (Some new) c → [] ≡ lines_text spelling (with_path path (lines_of c))
     → verdict_by g token asked (parts_in old) ≡ verdict_by g token asked (parts_in new)
-silent_parts spelling g head k old new None token asked plain of is = absurd of
-silent_parts spelling g head k old new (Some c) token asked plain of is =
+silent_parts spelling g path k old new None token asked plain of is = absurd of
+silent_parts spelling g path k old new (Some c) token asked plain of is =
     let p = parts_in old in
     let q = parts_in new in
     judged_alike g (is_granted p.owner p.dacl g token) (is_granted q.owner q.dacl g token) (most p.owner p.dacl g token) (most q.owner q.dacl g token) asked plain
-    (silent_node spelling head g k (review_parts_in old) (review_parts_in new) c of (sym is) token)
+    (silent_node g k (review_parts_in old) (review_parts_in new) c of (no_lines spelling path (lines c) is) token)
 
 -- ---- one node
 
@@ -50,7 +58,7 @@ compared_alike notation ts path (Some r) s token asked plain old there new (c, o
     let was = dacl_at ts.mapping ts.old path in
     let now = dacl_at ts.mapping ts.new path in
     let change = rw (old, new) at of in
-    let same = silent_parts notation.spelling ts.mapping (path_word notation.paths path ++ codes " ") _ (descriptor_of_row r was) (descriptor_of_row s now) c token asked plain change is in
+    let same = silent_parts notation.spelling ts.mapping (path_word notation.paths path) _ (descriptor_of_row r was) (descriptor_of_row s now) c token asked plain change is in
     rw (old, new) (ap Verdict (verdict_there ts.mapping token asked r was ∙ same ∙ sym (verdict_there ts.mapping token asked s now)))
 
 pub silent_node_is_unchanged : SilentNodeIsUnchanged
@@ -76,8 +84,8 @@ passed_down notation ts path (Some r) s d kind old there new (Some c, of, is) =
     let was = dacl_at g ts.old path in
     let now = dacl_at g ts.new path in
     let change = rw (old, new, kind) at of in
-    let same = silent_container notation.spelling (path_word notation.paths path ++ codes " ") g (review_parts_in (descriptor_of_row r was))
-    (review_parts_in (descriptor_of_row s now)) c d change (sym is) in
+    let same = silent_container g (review_parts_in (descriptor_of_row r was))
+    (review_parts_in (descriptor_of_row s now)) c d change (no_lines notation.spelling (path_word notation.paths path) (lines c) is) in
     subst (λ (es : List Ace). AreGrantedAlike g (descendant_parts (list_of g d es)) (made_in g ts.new path d)) (row_entries r was)
     (subst (λ (es : List Ace). AreGrantedAlike g (descendant_parts (list_of g d (entries_or_none (dacl_entries (descriptor_of_row r was).dacl)))) (descendant_parts (list_of g d es)))
     (row_entries s now) same)

@@ -20,7 +20,7 @@ use Rattle.sd_script.specs.Fault.{Reading, SomeOr, Then}
 use Rattle.sd_script.specs.Paths.{IsPath}
 use Rattle.sd_check.specs.declared.token.GroupState.{GroupState}
 use Rattle.sd_answer.specs.Descriptor.{IsRead, IsUnreadAt}
-use Rattle.sd_answer.specs.Mask.{IsMaskIn}
+use Rattle.sd_line.specs.Mask.{IsMaskIn}
 use Rattle.sd_answer.specs.Word.{AreGroups, IsToken}
 use Rattle.sd_script.specs.declared.fault.LineFault.{LineFault}
 use Rattle.sd_script.specs.declared.fault.LineFault.TheVariants.{Number, Path, Sid, Sddl, Parts, Mask, Token}

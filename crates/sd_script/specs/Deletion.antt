@@ -9,7 +9,7 @@ use Rattle.sd_edit.specs.declared.edit.Edit.{Edit}
 use Rattle.sd_edit.specs.declared.opening.Opening.{Opening}
 use Rattle.sd_edit.specs.declared.reply.CheckReply.{CheckReply}
 use Rattle.sd_edit.specs.declared.reply.CheckReply.TheVariants.{Verdict, NoNode}
-use Rattle.sd_answer.specs.VerdictLines.{line}
+use Rattle.sd_line.specs.Printed.{line}
 use Rattle.sd_script.specs.Listing.{grants}
 
 -- DELETE ([MS-DTYP] 2.4.3)

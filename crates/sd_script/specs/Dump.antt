@@ -16,7 +16,8 @@ use Rattle.sd_inheritance.specs.declared.kind.NodeKind.TheVariants.{Container, O
 use Rattle.sd_edit.specs.declared.node.NodeRow.{NodeRow}
 use Rattle.sd_edit.specs.Machine.{Machine}
 use Rattle.sd_edit.specs.declared.request.Request.TheVariants as requests
-use Rattle.sd_answer.specs.VerdictLines.{line, fault_line}
+use Rattle.sd_line.specs.Printed.{line}
+use Rattle.sd_script.specs.Fault.{fault_text}
 use Rattle.sd_script.specs.Command.{line_asks}
 use Rattle.sd_script.specs.Lines.{is_silent}
 use Rattle.sd_script.specs.Paths.{path_word}
@@ -75,7 +76,7 @@ IsReadBack notation readers t text = AreAskedBy notation false (lines text)
 abbrev pub IsDumpOf : Notation → ℕ → PlainTree → List ℕ → Type 0
 IsDumpOf notation readers t printed =
     (IsReadBack notation readers t (dump_text notation readers t) × (printed ≡ dump_text notation readers t))
-    ⊎ ((IsReadBack notation readers t (dump_text notation readers t) → ⊥) × (printed ≡ fault_line (codes "name")))
+    ⊎ ((IsReadBack notation readers t (dump_text notation readers t) → ⊥) × (printed ≡ fault_text (codes "name")))
 
 abbrev pub IsDump : Notation → Machine → List ℕ → Type 0
 IsDump notation m printed = IsDumpOf notation (length m.floors) (replay m.opening m.published) printed

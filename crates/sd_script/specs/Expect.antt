@@ -3,7 +3,8 @@ use Rattle.std.specs.Prelude.{ℕ, ◌+◌, ◌-◌, Bool, true, false, ◌==◌
 use Rattle.std.specs.Prelude.{codes, bytes_eq, drop, length, min, slice_index, take}
 use Rattle.std.specs.List.{flat_map}
 use Rattle.std.specs.Option.{option_map_or}
-use Rattle.sd_answer.specs.VerdictLines.{line, fault_line}
+use Rattle.sd_line.specs.Printed.{line}
+use Rattle.sd_script.specs.Fault.{fault_text}
 use Rattle.sd_script.specs.Lines.{is_silent, word_len}
 
 -- the line expects the last answer: its first word is `expect`
@@ -48,4 +49,4 @@ is_met last text = option_map_or (λ answer. bytes_eq (spelled answer) (expected
 
 abbrev pub expect_line : (is_met : Bool) → List ℕ
 expect_line true = line (codes "ok")
-expect_line false = fault_line (codes "expect")
+expect_line false = fault_text (codes "expect")

@@ -12,8 +12,8 @@ use Rattle.sd_edit.specs.Journal.{replay}
 use Rattle.sd_edit.specs.Machine.{Machine, accepted}
 use Rattle.sd_edit.specs.declared.request.Reply.{Reply}
 use Rattle.sd_edit.specs.declared.request.Reply.TheVariants.{Edited}
-use Rattle.sd_answer.specs.VerdictLines.{line}
-use Rattle.sd_answer.specs.declared.verdict_lines.Spelling.{Spelling}
+use Rattle.sd_line.specs.Printed.{line}
+use Rattle.sd_line.specs.declared.spelling.Spelling.{Spelling}
 use Rattle.sd_script.specs.Argument.{entries_in}
 use Rattle.sd_script.specs.Reply.{reply_line}
 

@@ -20,9 +20,11 @@ use Rattle.sd_inheritance.specs.declared.kind.NodeKind.TheVariants.{Container}
 use Rattle.sd_analysis.specs.Descendants.{descendant_parts, list_of}
 use Rattle.sd_analysis.specs.Sufficient.{Parts, entries_or_none}
 use Rattle.sd_analysis.specs.declared.descendants.Descendant.{Descendant}
-use Rattle.sd_answer.specs.VerdictLines.{line, spelled}
+use Rattle.sd_answer.specs.VerdictLines.{verdict_line}
+use Rattle.sd_check.specs.declared.verdict.Verdict.TheVariants.{Granted}
+use Rattle.sd_line.specs.Printed.{line, whole_line}
 use Rattle.sd_answer.specs.Who.{rights_asked}
-use Rattle.sd_answer.specs.declared.verdict_lines.Spelling.{Spelling}
+use Rattle.sd_line.specs.declared.spelling.Spelling.{Spelling}
 use Rattle.sd_script.specs.Command.{line_asks}
 use Rattle.sd_script.specs.Deletion.{delete_right}
 use Rattle.sd_script.specs.Expect.{expect_line}
@@ -80,7 +82,7 @@ BeginsAsCheck =
 -- a check of a published tree of so many edits is answered by a grant
 abbrev pub IsGranted : Spelling → ℕ → List ℕ → Type 0
 IsGranted spelling len printed =
-    (mask : ℕ) × (printed ≡ seen_line len (line (codes "granted " ++ spelled spelling mask)))
+    (mask : ℕ) × (printed ≡ seen_line len (whole_line spelling (verdict_line (Granted mask))))
 
 abbrev pub by_node_line : ℕ → List ℕ
 by_node_line len = seen_line len (line (codes "granted by node"))

@@ -18,7 +18,8 @@ use Rattle.sd_edit.specs.declared.node.NodeRow.{NodeRow}
 use Rattle.sd_edit.specs.declared.opening.Opening.{Opening}
 use Rattle.sd_edit.specs.declared.reply.CheckReply.{CheckReply}
 use Rattle.sd_edit.specs.declared.reply.CheckReply.TheVariants.{Verdict}
-use Rattle.sd_answer.specs.VerdictLines.{line, fault_line}
+use Rattle.sd_line.specs.Printed.{line}
+use Rattle.sd_script.specs.Fault.{fault_text}
 use Rattle.sd_script.specs.Paths.{is_split, path_word}
 use Rattle.sd_script.specs.Reply.{shown_sddl}
 use Rattle.sd_script.specs.declared.listing.NodeFilter.{NodeFilter}
@@ -66,5 +67,5 @@ abbrev pub nodes_text : Notation → Opening → List Edit → Names → NodeFil
 nodes_text notation opening journal top which begins title =
     let t = replay opening journal in
     if is_none (kind_at t top) then begins ++ line (codes "nonode")
-    else if lacks_words notation.paths t top then fault_line (codes "name")
+    else if lacks_words notation.paths t top then fault_text (codes "name")
     else begins ++ title ++ flat_map (line_below notation opening.mapping t top which) (entries t)

@@ -6,8 +6,8 @@ use Rattle.sd_path.specs.Names.{Names}
 use Rattle.sd_edit.specs.Machine.{Machine}
 use Rattle.sd_edit.specs.declared.request.Reply.{Reply}
 use Rattle.sd_edit.specs.declared.request.Reply.TheVariants.{Edited}
-use Rattle.sd_answer.specs.VerdictLines.{line}
-use Rattle.sd_answer.specs.declared.verdict_lines.Spelling.{Spelling}
+use Rattle.sd_line.specs.Printed.{line}
+use Rattle.sd_line.specs.declared.spelling.Spelling.{Spelling}
 use Rattle.sd_script.specs.Importing.{entries_at}
 use Rattle.sd_script.specs.Reply.{reply_line}
 

@@ -4,7 +4,7 @@ use Rattle.sd_edit.specs.Answers.{answer, descriptor_at}
 use Rattle.sd_path.specs.Names.{Names}
 use Rattle.sd_edit.specs.Journal.{replay}
 use Rattle.sd_edit.specs.Machine.{Machine, with_look}
-use Rattle.sd_answer.specs.VerdictLines.{line}
+use Rattle.sd_line.specs.Printed.{line}
 use Rattle.sd_script.specs.Deletion.{delete_right, deletion_line, parent_grants}
 use Rattle.sd_script.specs.Listing.{nodes_text}
 use Rattle.sd_script.specs.Reply.{node_why_text, seen_line}

@@ -14,9 +14,11 @@ use Rattle.sd_edit.specs.declared.request.Reply.TheVariants.{Edited, Refused, Pu
 use Rattle.sd_edit.specs.declared.request.Reply.TheVariants.{Shown, NoReader, NoNotice, Memory}
 use Rattle.sd_edit.specs.declared.start.StartError.{StartError}
 use Rattle.sd_edit.specs.declared.start.StartError.TheVariants as starts
-use Rattle.sd_answer.specs.VerdictLines.{line, right_names_of, verdict_line}
-use Rattle.sd_answer.specs.Why.{why_text}
-use Rattle.sd_answer.specs.declared.verdict_lines.Spelling.{Spelling}
+use Rattle.sd_answer.specs.VerdictLines.{verdict_line}
+use Rattle.sd_answer.specs.Why.{why_lines}
+use Rattle.sd_line.specs.Printed.{line, lines_text, whole_line}
+use Rattle.sd_line.specs.Spelling.{right_names_of}
+use Rattle.sd_line.specs.declared.spelling.Spelling.{Spelling}
 
 abbrev pub refused_line : EditRefusal → List ℕ
 refused_line refusal = line (codes "refused " ++ decimal (number_of refusal) ++ codes " " ++ name_of refusal)
@@ -30,7 +32,7 @@ abbrev pub seen_line : ℕ → List ℕ → List ℕ
 seen_line seen what = codes "seen " ++ decimal seen ++ codes " " ++ what
 
 abbrev pub check_line : Spelling → CheckReply → List ℕ
-check_line spelling (checks.Verdict verdict) = verdict_line spelling verdict
+check_line spelling (checks.Verdict verdict) = whole_line spelling (verdict_line verdict)
 check_line spelling checks.NoNode = line (codes "nonode")
 
 -- a descriptor's text: a mask is a number or a name of its kind of object, as the spelling has it
@@ -67,4 +69,4 @@ start_error_line starts.Place = None
 -- the explanation by the descriptor of a node, where there is one
 abbrev pub node_why_text : Spelling → MappingValue → TokenValue → ℕ → Option DescriptorValue → List ℕ
 node_why_text spelling g t asked None = line (codes "nonode")
-node_why_text spelling g t asked (Some d) = why_text g spelling d t asked
+node_why_text spelling g t asked (Some d) = lines_text spelling (why_lines g d t asked)

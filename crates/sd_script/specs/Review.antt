@@ -9,12 +9,13 @@ use Rattle.sd_path.specs.Names.{Names, is_within}
 use Rattle.sd_edit.specs.declared.node.NodeRow.{NodeRow}
 use Rattle.sd_edit.specs.Machine.{Machine, accepted}
 use Rattle.sd_review.specs.Compared.{IsComparedAt}
-use Rattle.sd_review.specs.Lines.{lines_of}
+use Rattle.sd_review.specs.Lines.{lines_of, with_path}
 use Rattle.sd_review.specs.Review.{Trees, former, stands_in, trees_after}
 use Rattle.sd_review.specs.declared.compared.Compared.{Compared}
 use Rattle.sd_review.specs.declared.review.Former.{Former}
 use Rattle.sd_review.specs.declared.review.Former.TheVariants.{Same, Moved, New}
-use Rattle.sd_answer.specs.VerdictLines.{line, fault_line}
+use Rattle.sd_line.specs.Printed.{line, lines_text}
+use Rattle.sd_script.specs.Fault.{fault_text}
 use Rattle.sd_script.specs.Listing.{lacks_words}
 use Rattle.sd_script.specs.Paths.{path_word}
 use Rattle.sd_script.specs.declared.script_options.Notation.{Notation}
@@ -30,7 +31,7 @@ trees_in m = trees_after m.opening m.published m.pending
 abbrev pub IsCompared : Notation → Trees → Names → Names → List ℕ → Type 0
 IsCompared notation ts before path printed =
     (c : Option Compared) × IsComparedAt ts before path c
-    × (printed ≡ lines_of notation.spelling (path_word notation.paths path ++ codes " ") c)
+    × (printed ≡ lines_text notation.spelling (with_path (path_word notation.paths path) (lines_of c)))
 
 abbrev pub new_line : PathSpelling → Names → List ℕ
 new_line paths path = line (codes "new " ++ path_word paths path)
@@ -69,7 +70,7 @@ reviewed_line old new = line (codes "reviewed " ++ decimal old ++ codes " " ++ d
 
 abbrev pub IsReviewOf : Notation → Trees → Names → List ℕ → Bool → Bool → List ℕ → Type 0
 IsReviewOf notation ts top last false lacks printed = printed ≡ line (codes "nonode")
-IsReviewOf notation ts top last true true printed = printed ≡ fault_line (codes "name")
+IsReviewOf notation ts top last true true printed = printed ≡ fault_text (codes "name")
 IsReviewOf notation ts top last true false printed =
     (changes : List ℕ) × ArePrinted (IsNodeReview notation ts top) (entries ts.new) changes
     × (printed ≡ changes ++ flat_map (gone_line notation.paths ts top) (entries ts.old) ++ last)

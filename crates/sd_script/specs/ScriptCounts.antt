@@ -3,7 +3,7 @@ use Rattle.std.specs.Prelude.{ℕ, ◌+◌, ◌-◌, ◌^◌, Bool, false, not, 
 use Rattle.std.specs.Prelude.{Option, Some, None, if◌then◌else◌, codes, bytes_eq}
 use Rattle.std.specs.List.{starts_with}
 use Rattle.std.specs.Option.{option_or}
-use Rattle.sd_answer.specs.VerdictLines.{line}
+use Rattle.sd_line.specs.Printed.{line}
 use Rattle.sd_script.specs.Expect.{is_expectation}
 use Rattle.sd_script.specs.Lines.{is_silent}
 use Rattle.sd_script.specs.declared.script_counts.ScriptCounts.{ScriptCounts}

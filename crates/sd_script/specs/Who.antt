@@ -11,9 +11,9 @@ use Rattle.sd_check.specs.Check.{dacl_entries}
 use Rattle.sd_check.specs.declared.token.GroupState.{GroupState}
 use Rattle.sd_analysis.specs.Who.{AllBeyond, HasEachOnce, IsMost, IsWho, is_in_base}
 use Rattle.sd_analysis.specs.declared.who_has.Access.{Access}
-use Rattle.sd_answer.specs.VerdictLines.{line}
-use Rattle.sd_answer.specs.Who.{rights_asked, who_text}
-use Rattle.sd_answer.specs.declared.verdict_lines.Spelling.{Spelling}
+use Rattle.sd_line.specs.Printed.{line, lines_text}
+use Rattle.sd_answer.specs.Who.{rights_asked, who_lines}
+use Rattle.sd_line.specs.declared.spelling.Spelling.{Spelling}
 use Rattle.sd_script.specs.Expect.{expect_line}
 
 -- where no right is asked about, the answer says so: none is an empty line alone
@@ -31,7 +31,7 @@ IsWhoText spelling g (Some d) asked base printed =
     × IsMost d.owner (dacl_entries d.dacl) g base (rights_asked g asked) all
     × HasEachOnce (rights_asked g asked) all
     × AllBeyond base all
-    × (printed ≡ or_empty (who_text spelling all))
+    × (printed ≡ or_empty (lines_text spelling (who_lines all)))
 
 -- no right of objects is asked about, which are those below place 21
 abbrev pub asks_no_right : ℕ → Bool

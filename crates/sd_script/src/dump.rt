@@ -6,14 +6,13 @@ ghost use Rattle.sd_tree.specs.Listing.{listed};
 ghost use Rattle.sd_edit.specs.Plain.{row_at};
 ghost use Rattle.sd_script.specs.Dump.{IsAskedBy, IsDumpOf, IsReadBack, adding_word, making_line, wanted};
 
-use crate::fault::LineStop;
+use crate::fault::{LineStop, fault_text};
 use crate::line::read_line;
 use crate::lines::is_silent;
 use crate::listing::{Printer, push_lines};
 use crate::paths::path_word;
 use crate::reply::shown_sddl;
 use crate::same::is_wanted;
-use sd_answer::fault_line;
 use sd_lines::{Ending, first_line};
 use sd_tree::{NodeKind, NodeRef};
 use std::alloc::AllocError;
@@ -31,7 +30,7 @@ impl Printer<'_> {
         if self.is_read_back(readers, text.as_bytes())? {
             Ok(text)
         } else {
-            fault_line(self.alloc, "name")
+            fault_text(self.alloc, "name")
         }
     }
 

@@ -16,7 +16,7 @@ use crate::fault::{LineFault, LineStop};
 use crate::line_request::{LineRequest, Parsed};
 use crate::reply::reply_line;
 use sd_acl::{Ace, Dacl, Descriptor, canonicalize};
-use sd_answer::Spelling;
+use sd_line::Spelling;
 use sd_tree::{Edit, Entries, NodeDacl, NodeKind, Path, RootSpec, Tree, same_entries};
 use sd_versions::Reply;
 use std::alloc::{AllocError, Global};

@@ -47,7 +47,7 @@ mod who;
 
 pub use argument::number_in;
 pub use expect::{LastAnswer, expects};
-pub use fault::{LineFault, LineStop, line_of_fault};
+pub use fault::{LineFault, LineStop, fault_text, line_of_fault};
 pub use ids::{LINES, tagged};
 pub use importing::{entries_at, import_line};
 pub use laws::{

@@ -10,10 +10,10 @@ ghost use Rattle.sd_edit.specs.declared.node.NodeRow.{NodeRow};
 ghost use Rattle.sd_script.specs.Listing.{grants, is_split_below, kind_word, lacks_words, line_below};
 ghost use Rattle.sd_script.specs.Listing.{nodes_text};
 
+use crate::fault::fault_text;
 use crate::paths::{PathSpelling, is_split, path_word};
 use crate::reply::shown_sddl;
 use crate::script_options::Notation;
-use sd_answer::fault_line;
 use sd_check::{Token, Verdict};
 use sd_sid::Mask;
 use sd_tree::{CheckReply, NodeKind, NodeRef, Path, Tree};
@@ -53,7 +53,7 @@ impl Printer<'_> {
             return format!(in self.alloc; "{begins}nonode\n");
         }
         if lacks_words(self.alloc, self.notation.paths, self.tree, top)? {
-            return fault_line(self.alloc, "name");
+            return fault_text(self.alloc, "name");
         }
         let mut text = format!(in self.alloc; "{begins}{title}")?;
         push_lines(

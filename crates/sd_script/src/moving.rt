@@ -13,7 +13,7 @@ use crate::line_request::{LineRequest, Parsed};
 use crate::reply::reply_line;
 use crate::script_options::Notation;
 use sd_acl::Ace;
-use sd_answer::Spelling;
+use sd_line::Spelling;
 use sd_tree::{Edit, Path, Tree, same_entries};
 use sd_versions::{Desk, Reply, Request};
 use std::alloc::{AllocError, Global};

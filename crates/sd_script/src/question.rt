@@ -11,8 +11,9 @@ use crate::listing::{NodeFilter, Printer};
 use crate::reply::{reply_line, seen_line};
 use crate::script_options::Notation;
 use sd_acl::Descriptor;
-use sd_answer::why_text;
+use sd_answer::why_lines;
 use sd_check::Token;
+use sd_line::lines_text;
 use sd_sid::Mask;
 use sd_tree::Path;
 use sd_versions::{Desk, Reply, Request};
@@ -76,8 +77,9 @@ impl NodeQuestion {
                     return seen_line(alloc, tree.len(), "nonode\n");
                 };
                 let (mapping, spelling) = (tree.mapping(), notation.spelling);
-                let lines = why_text(alloc, mapping, spelling, descriptor, token, *asked)?;
-                seen_line(alloc, tree.len(), &lines)
+                let lines = why_lines(alloc, mapping, descriptor, token, *asked)?;
+                let text = lines_text(alloc, spelling, &lines)?;
+                seen_line(alloc, tree.len(), &text)
             }
             NodeQuestion::Find(which) => {
                 let begins = seen_line(alloc, tree.len(), "")?;

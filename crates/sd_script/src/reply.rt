@@ -5,7 +5,8 @@ ghost use Rattle.sd_script.specs.Reply.{check_line, counted_line, refused_line, 
 ghost use Rattle.sd_script.specs.Reply.{shown_sddl, start_error_line};
 
 use sd_acl::Descriptor;
-use sd_answer::{Spelling, verdict_line};
+use sd_answer::verdict_line;
+use sd_line::{Spelling, whole_line};
 use sd_text::print_sddl_in;
 use sd_tree::{CheckReply, EditRefusal};
 use sd_versions::{Reply, StartError};
@@ -75,7 +76,9 @@ fn check_line(alloc: Global, spelling: Spelling, reply: CheckReply) -> Result<St
     ensures { IfOk result (λ text. string_bytes text ≡ check_line spelling reply) }
 {
     match reply {
-        CheckReply::Verdict(verdict) => verdict_line(alloc, spelling, verdict),
+        CheckReply::Verdict(verdict) => {
+            whole_line(alloc, spelling, &verdict_line(alloc, verdict)?)
+        }
         CheckReply::NoNode => String::from_str(alloc, "nonode\n"),
     }
 }

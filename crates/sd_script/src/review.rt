@@ -8,11 +8,12 @@ ghost use Rattle.sd_review.specs.Review.{stands_in, trees_of};
 ghost use Rattle.sd_script.specs.Review.{ArePrinted, IsCompared, IsNodeReview, IsReview, IsReviewOf, gone_line};
 ghost use Rattle.sd_script.specs.Review.{has_no_words, reviewed_line};
 
+use crate::fault::fault_text;
 use crate::listing::{lacks_words, push_lines};
 use crate::paths::path_word;
 use crate::script_options::Notation;
-use sd_answer::fault_line;
-use sd_review::{Compared, Former, Review};
+use sd_line::lines_text;
+use sd_review::{Compared, Former, Review, with_path};
 use sd_tree::{NodeRef, Path};
 use sd_versions::Desk;
 use std::alloc::{AllocError, Global};
@@ -62,7 +63,7 @@ impl ReviewText<'_> {
         if lacks_words(self.alloc, paths, self.review.old, &root)?
             || lacks_words(self.alloc, paths, self.review.new, &root)?
         {
-            return fault_line(self.alloc, "name");
+            return fault_text(self.alloc, "name");
         }
         let mut text = self.changes(top)?;
         push_lines(self.review.old, &mut text, |node| self.gone_line(top, node))?;
@@ -138,8 +139,9 @@ impl ReviewText<'_> {
             return Ok(String::new(self.alloc));
         };
         let path = path_word(self.alloc, self.notation.paths, path)?;
-        let head = format!(in self.alloc; "{path} ")?;
-        let text = compared.lines(self.alloc, self.notation.spelling, &head)?;
+        let changes = compared.lines(self.alloc)?;
+        let lines = with_path(self.alloc, path.as_str(), changes)?;
+        let text = lines_text(self.alloc, self.notation.spelling, &lines)?;
         Ok(text)
     }
 

@@ -1,10 +1,10 @@
 //! How a script is carried out.
 ghost use Rattle.std.specs.Prelude.{◌≡◌, None, false};
 ghost use Rattle.sd_text.specs.Alias.{in_domain};
-ghost use Rattle.sd_answer.specs.declared.verdict_lines.Spelling.TheVariants.{Number};
+ghost use Rattle.sd_line.specs.declared.spelling.Spelling.TheVariants.{Number};
 
 use crate::paths::PathSpelling;
-use sd_answer::Spelling;
+use sd_line::Spelling;
 use sd_sid::GenericMapping;
 use sd_text::Aliases;
 use sd_tree::Limits;

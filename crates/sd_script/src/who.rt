@@ -9,7 +9,8 @@ use crate::expect::expect_line;
 use crate::view::Groups;
 use sd_acl::AceKind;
 use sd_analysis::{Access, Base, Holder, who};
-use sd_answer::{Spelling, dacl_ref, rights_asked, who_text};
+use sd_answer::{dacl_ref, rights_asked, who_lines};
+use sd_line::{Spelling, lines_text};
 use sd_sid::{Mask, OBJECT_RIGHTS};
 use sd_tree::{Path, Tree};
 use std::alloc::{AllocError, Global};
@@ -37,7 +38,7 @@ pub(crate) fn node_who_text(
     let dacl = dacl_ref(&descriptor.dacl);
     let rights = rights_asked(tree.mapping(), asked);
     let accesses = who(alloc, descriptor.owner, dacl, tree.mapping(), &base, rights)?;
-    let text = who_text(alloc, spelling, &accesses)?;
+    let text = lines_text(alloc, spelling, &who_lines(alloc, &accesses)?)?;
     or_empty(alloc, text)
 }
 

@@ -1,6 +1,6 @@
 -- What these proofs cite of other modules, passed on from one place.
 pub use Rattle.sd_acl.specs.declared.ace.Ace.{Ace}
-pub use Rattle.sd_answer.specs.declared.verdict_lines.Spelling.{Spelling}
+pub use Rattle.sd_line.specs.declared.spelling.Spelling.{Spelling}
 pub use Rattle.sd_edit.specs.Machine.{Machine, Steps, started}
 pub use Rattle.sd_edit.specs.Starts.{IsReaderCount, IsStartError}
 pub use Rattle.sd_edit.specs.declared.edit.Edit.{Edit}

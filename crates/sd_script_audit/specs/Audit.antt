@@ -9,8 +9,8 @@ use Rattle.sd_edit.specs.Machine.{accepted}
 use Rattle.sd_edit.specs.declared.request.Request.TheVariants.{Check, Edit, Publish}
 use Rattle.sd_store.specs.Audits.{reply_by}
 use Rattle.sd_store.specs.declared.query.Query.{Query}
-use Rattle.sd_answer.specs.VerdictLines.{fault_line}
-use Rattle.sd_answer.specs.declared.verdict_lines.Spelling.{Spelling}
+use Rattle.sd_script.specs.Fault.{fault_text}
+use Rattle.sd_line.specs.declared.spelling.Spelling.{Spelling}
 use Rattle.sd_lines.specs.Answers.{AreAnswered}
 use Rattle.sd_script.specs.Command.{line_asks}
 use Rattle.sd_script.specs.Expect.{expects}
@@ -39,7 +39,7 @@ unopened options = record { store = Closed options; queries = [] }
 
 -- what only a script does is a fault
 abbrev pub IsForScripts : Progress → List ℕ → Progress → Type 0
-IsForScripts old printed new = (printed ≡ fault_line (codes "audit")) × (new ≡ old)
+IsForScripts old printed new = (printed ≡ fault_text (codes "audit")) × (new ≡ old)
 
 -- it is done as in a script
 abbrev pub IsDoneAsInScript : Progress → LineRequest → List ℕ → Progress → Type 0
@@ -68,7 +68,7 @@ IsDoneInAudit workers old asked printed new = IsForScripts old printed new
 -- a line is told a text and nothing is done: it is silent, or expects an answer, which scripts alone do, or has a fault
 abbrev pub IsToldInAudit : Notation → Bool → List ℕ → List ℕ → Type 0
 IsToldInAudit notation is_open line printed =
-    MatchBool (is_silent line) (printed ≡ []) (MatchBool (expects line) (printed ≡ fault_line (codes "audit"))
+    MatchBool (is_silent line) (printed ≡ []) (MatchBool (expects line) (printed ≡ fault_text (codes "audit"))
     ((fault : LineFault) × line_asks notation is_open line (Err fault) × (printed ≡ line_of_fault fault)))
 
 -- any other line asks for something

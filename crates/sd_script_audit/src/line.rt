@@ -1,11 +1,12 @@
 //! What a line of an audit asks for.
 
 ghost use Rattle.std.specs.Prelude.{◌≡◌, IfErr, IfOk, IfSome, codes, string_bytes};
-ghost use Rattle.sd_answer.specs.VerdictLines.{fault_line};
+ghost use Rattle.sd_script.specs.Fault.{fault_text};
 ghost use Rattle.sd_script_audit.specs.Audit.{AsksInAudit, IsToldInAudit};
 
-use sd_answer::fault_line;
-use sd_script::{LineRequest, LineStop, Notation, expects, is_silent, line_of_fault, read_line};
+use sd_script::{
+    LineRequest, LineStop, Notation, expects, fault_text, is_silent, line_of_fault, read_line,
+};
 use std::alloc::{AllocError, Global};
 
 /// What a line asks for, or else what it is told: nothing if it is silent, and a fault if it expects an answer, which
@@ -37,7 +38,7 @@ pub(crate) fn asked_or_told(
 
 /// The line of a command that only a script carries out.
 pub(crate) fn only_in_scripts(alloc: Global) -> Result<String, AllocError>
-    ensures { IfOk result (λ text. string_bytes text ≡ fault_line (codes "audit")) }
+    ensures { IfOk result (λ text. string_bytes text ≡ fault_text (codes "audit")) }
 {
-    fault_line(alloc, "audit")
+    fault_text(alloc, "audit")
 }

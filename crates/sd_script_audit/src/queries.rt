@@ -11,7 +11,7 @@ ghost use Rattle.sd_script_audit.specs.Audit.{IsNextInAudit};
 ghost use Rattle.sd_script_audit.specs.Parts.{IsDoneOrTold, audited, machine_of, progress};
 
 use crate::line::{asked_or_told, only_in_scripts};
-use sd_answer::Spelling;
+use sd_line::Spelling;
 use sd_lines::AnswersLines;
 use sd_script::{
     LineRequest, Notation, ScriptCounts, entries_at, import_line, move_line, reply_line,

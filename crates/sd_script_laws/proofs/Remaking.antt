@@ -16,7 +16,7 @@ use Rattle.sd_edit.specs.Machine.{Machine}
 use Rattle.sd_edit.specs.Starts.{IsReaderCount}
 use Rattle.sd_edit.specs.declared.request.Request.TheVariants as requests
 use Rattle.sd_edit.specs.declared.request.Reply.TheVariants as replies
-use Rattle.sd_answer.specs.VerdictLines.{line}
+use Rattle.sd_line.specs.Printed.{line}
 use Rattle.sd_script.specs.Dump.{makings, dump_text, IsAskedBy, AreAskedBy, IsReadBack}
 use Rattle.sd_script.specs.Output.{is_open, script_options_of, opening_in, IsAnswered, IsDone, IsTold, closing_of}
 use Rattle.sd_script.specs.Reply.{counted_line}

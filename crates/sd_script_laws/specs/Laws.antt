@@ -4,7 +4,7 @@ use Rattle.std.specs.Str.Lines.{lines}
 use Rattle.sd_edit.specs.Journal.{replay, root_refusal, IsLawful}
 use Rattle.sd_edit.specs.Machine.{Machine}
 use Rattle.sd_edit.specs.Starts.{IsReaderCount}
-use Rattle.sd_answer.specs.VerdictLines.{fault_line}
+use Rattle.sd_script.specs.Fault.{fault_text}
 use Rattle.sd_script.specs.Expect.{expects}
 use Rattle.sd_script.specs.Output.{IsAnswered, IsDone}
 use Rattle.sd_script.specs.declared.line_request.LineRequest.TheVariants.{Viewing}
@@ -43,7 +43,7 @@ same_script_options notation m = record { mapping = m.opening.mapping; limits = 
 abbrev pub DumpMakesTheTreeAgain : Type 0
 DumpMakesTheTreeAgain =
     (notation : Notation) (m : Machine) (printed : List ℕ) (new : Session) → IsSound m
-    → IsDone (Opened notation m) (Viewing Dump) printed new → printed ≢ fault_line (codes "name")
+    → IsDone (Opened notation m) (Viewing Dump) printed new → printed ≢ fault_text (codes "name")
     → (again : Machine) × IsSameAgain m again
     × Reaches (Closed (same_script_options notation m)) (lines printed) (Opened notation again)
     × ((other : Session) → Reaches (Closed (same_script_options notation m)) (lines printed) other

@@ -12,6 +12,6 @@ returns-clause-ok c =
       d,
       base,
       read,
-      who_of_base d c.in_ok-mapping.mapping c.deref-2.result.now c.in_ok-groups.groups.items c.args.asked (string_bytes c.in_ok-who_lines.field-0)
-          c.deref-2.ensures.value c.in_ok-who_lines.ensures,
+      who_of_base d c.in_ok-mapping.mapping c.deref-2.result.now c.in_ok-groups.groups.items c.args.asked (string_bytes c.in_ok-who_text.field-0)
+          c.deref-2.ensures.value c.in_ok-who_text.ensures,
     )

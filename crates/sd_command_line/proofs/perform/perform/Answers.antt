@@ -1,8 +1,8 @@
 -- The one answer is printed.
-use Rattle.std.proofs.Common.{◌∙◌, ap, option_map}
+use Rattle.std.proofs.Common.{ap, option_map, refl}
 use Rattle.sd_lines.specs.Watched.{inner_of}
 use Rattle.sd_commands.specs.CommandAnswer.{answer_of}
-use Rattle.sd_command_line.specs.Answer.{printed_when}
+use Rattle.sd_questions.specs.TextAnswer.{printed_as}
 use Rattle.sd_arguments.specs.CommandLine.{Ask, Help, Runs, Version, request_of}
 use Rattle.sd_arguments.specs.Options.{options_of}
 use Rattle.sd_command_line.proofs.perform.perform.Goals as goal
@@ -13,20 +13,18 @@ returns-in_ok-answer-in-Runs-Ask-clause-ok g c =
     let plain = answer_of c.in_ok-answer-in-Runs-Ask.answer in
     let field = rw c.in-Runs-Ask.is at c.in-Runs-Ask.field-0-is in
     rw (c.in-Runs-Ask.is, field)
-    (c.print-in-Runs-Ask.ensures.ok (Runs (options_of c.args.line.options) (Ask text (request_of c.in-Runs-Ask.request))) _
-    (plain, c.in_ok-answer-in-Runs-Ask.ensures.ok, ap (λ is_json. printed_when is_json plain) c.has.ensures))
+    (c.print.ensures.ok (Runs (options_of c.args.line.options) (Ask text (request_of c.in-Runs-Ask.request))) _
+    (plain, c.in_ok-answer-in-Runs-Ask.ensures.ok, ap (λ style. printed_as style plain) c.style.ensures))
 
 pub returns-in_ok-help-in-Help-clause-ok : goal.returns-in_ok-help-in-Help-clause-ok
 returns-in_ok-help-in-Help-clause-ok g c =
-    let done = c.done-answer.ensures in
-    rw c.in-Help.is (c.print.ensures.ok (Help c.in-Help.command) (g.R.Read.remaining (inner_of c.args.reader.now)) (done.1, done.2))
+    rw c.in-Help.is (c.print_text.ensures.ok (Help c.in-Help.command) (g.R.Read.remaining (inner_of c.args.reader.now)) (refl, refl))
 
 pub returns-in_ok-version_text-in-Version-clause-ok : goal.returns-in_ok-version_text-in-Version-clause-ok
 returns-in_ok-version_text-in-Version-clause-ok g c =
-    let done = c.done-answer-in-Version.ensures in
     rw c.in-Version.is
-    (c.print-in-Version.ensures.ok Version (g.R.Read.remaining (inner_of c.args.reader.now))
-    (done.0 ∙ c.in_ok-version_text-in-Version.ensures, done.1, done.2))
+    (c.print_text-in-Version.ensures.ok Version (g.R.Read.remaining (inner_of c.args.reader.now))
+    (c.in_ok-version_text-in-Version.ensures, refl, refl))
 
 pub returns-in-Runs-Each-clause-ok : goal.returns-in-Runs-Each-clause-ok
 returns-in-Runs-Each-clause-ok g c =

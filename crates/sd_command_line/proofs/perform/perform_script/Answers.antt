@@ -4,7 +4,7 @@ use Rattle.std.proofs.lemmas.Result.{err_from_is_err_and}
 use Rattle.sd_commands.specs.CommandAnswer.{answer_of}
 use Rattle.sd_arguments.specs.CommandLine.{Runs, Script}
 use Rattle.sd_arguments.specs.Options.{options_of}
-use Rattle.sd_command_line.specs.Answer.{printed_when}
+use Rattle.sd_questions.specs.TextAnswer.{printed_as}
 use Rattle.sd_arguments.specs.declared.command_line.ScriptRun.TheVariants.{AtOnce, Audit}
 use Rattle.sd_command_line.proofs.Telling.{output_leaves}
 use Rattle.sd_command_line.proofs.perform.perform_script.Goals as goal
@@ -26,4 +26,4 @@ pub returns-in-Err-clause-ok : goal.returns-in-Err-clause-ok
 returns-in-Err-clause-ok g c =
     let plain = answer_of c.in_ok-answer-in-Err.answer in
     c.print.ensures.ok (Runs (options_of c.args.options) (Script c.args.script_run)) _
-    (Err c.in-Err.bad, c.in-Err.ensures, (plain, c.in_ok-answer-in-Err.ensures, ap (λ is_json. printed_when is_json plain) c.has-in-Err.ensures))
+    (Err c.in-Err.bad, c.in-Err.ensures, (plain, c.in_ok-answer-in-Err.ensures, ap (λ style. printed_as style plain) c.style.ensures))

@@ -1,5 +1,8 @@
-use Rattle.sd_commands.proofs.Cited.{answer_of, descriptor_of, inl}
+use Rattle.sd_commands.proofs.Cited.{answer_of, descriptor_of, inl, inr}
 use Rattle.sd_commands.proofs.settings.CommandContext.answer.Goals as goal
+
+pub returns-in-Refused : goal.returns-in-Refused
+returns-in-Refused c = inr (rw (c.descriptor_name-name.ensures, c.in-Refused.is) at c.in_ok-read.ensures)
 
 pub returns : goal.returns
 returns c = inl (

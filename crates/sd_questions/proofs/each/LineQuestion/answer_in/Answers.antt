@@ -1,5 +1,5 @@
--- The text after the key is answered, with the key before each line.
-use Rattle.std.proofs.Common.{◌≡◌, true, rules, tests}
+-- The text after the key is answered, and the key is the tag.
+use Rattle.std.proofs.Common.{◌≡◌, ℕ, List, Some, ap, codes, true, rules, tests}
 use Rattle.sd_questions.proofs.each.LineQuestion.answer_in.Goals as goal
 
 pub returns : goal.returns
@@ -7,4 +7,4 @@ returns c =
     let parts = c.in-Some-parted.ensures.some in
     let keyed : c.args.self.now.has_keys ≡ true = search (rules, tests) in
     rw (keyed, c.in-Some.is, parts.0)
-    (c.deref.result.now, rw (c.deref.ensures.value, ← parts.2) c.in_ok-answered.ensures, rw (← parts.1) c.in_ok-tagged.ensures)
+    (ap (λ (key : List ℕ). Some (codes "key", 9, key)) parts.1, rw (← parts.2) c.in_ok-answer_line-3.ensures)

@@ -9,5 +9,5 @@ returns-clause-text c =
     let y = descriptor_at ts.mapping ts.new c.args.path.now in (
       Some c.in-Some.compared,
       subst (IsOfBoth ts.mapping k x y) c.in-Some.is c.in_ok-compare.ensures.compared,
-      rw (c.deref.ensures, c.in_ok-head.ensures.ok, c.in_ok-path.ensures) at c.in_ok-text.ensures,
+      rw (c.deref.ensures.value, c.in_ok-lines.ensures, c.in_ok-changes.ensures, c.as_str.ensures.value, c.in_ok-path.ensures) at c.in_ok-text.ensures,
     )

@@ -1,0 +1,5 @@
+pub mod Cited
+mod RightNames
+pub mod Cuts
+pub mod WordsLeft
+mod ComeBack

@@ -1,0 +1,46 @@
+-- A line of an answer: its kind, and its parts, of which nothing is spelled.
+use Rattle.std.specs.Prelude.{ℕ, List, [], ◌∷◌, codes}
+use Rattle.std.specs.Borrow.{Bor}
+use Rattle.sd_line.specs.declared.line.Value.{Value}
+use Rattle.sd_line.specs.declared.line.Value.TheVariants.{Text}
+
+-- words in which each `{name}` stands for the next of the values
+pub record PartOf : Type 0 where
+  pub form : List ℕ
+  pub values : List Value
+
+pub record LineOf : Type 0 where
+  pub kind : List ℕ
+  pub parts : List PartOf
+
+abbrev pub part_of : List ℕ → List Value → PartOf
+part_of form values = record { form = form; values = values }
+
+-- words with one value, a word of ours
+abbrev pub word_part : List ℕ → List ℕ → PartOf
+word_part form word = part_of form (Text word ∷ [])
+
+-- a kind, and the words of a first part
+abbrev pub Form : Type 0
+Form = List ℕ × List ℕ
+
+-- the form that a constant has
+abbrev pub form : record { now : List ℕ } × record { now : List ℕ } → Form
+form row = (row.0.now, row.1.now)
+
+-- the form that a parameter has
+abbrev pub form_of : Bor (List ℕ) × Bor (List ℕ) → Form
+form_of row = (row.0.now, row.1.now)
+
+abbrev pub line_of : Form → List Value → LineOf
+line_of form values = record { kind = form.0; parts = part_of form.1 values ∷ [] }
+
+abbrev pub line_with : List ℕ → List PartOf → LineOf
+line_with kind parts = record { kind = kind; parts = parts }
+
+-- a text of no kind
+abbrev pub text_line : List ℕ → LineOf
+text_line text = line_of ([], codes "{text}") (Text text ∷ [])
+
+abbrev pub with_head : PartOf → LineOf → LineOf
+with_head head l = record { kind = l.kind; parts = head ∷ l.parts }

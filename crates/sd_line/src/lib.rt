@@ -1,0 +1,32 @@
+//! Lines of answers as values, and how they are printed: as texts, and as objects of JSON.
+//!
+//! A line is a kind and parts. A part has words, in which each `{name}` stands for the next of its values; nothing of a
+//! value is spelled before the line is printed, by the one or by the other printer (specs/Printed.antt).
+//!
+//! ```text
+//! let line = Line::new(alloc, ("granted", "granted {mask}"), vec![in alloc; Value::Mask(Mask(0x160089))]?)?;
+//! let names = Spelling::Names(Some(ObjectKind::File));
+//! whole_line(alloc, names, &line)?; // granted FR+WD
+//! // and by `push_printed`, with `is_json`: {"answer":"granted","mask":"FR+WD"}
+//! read_mask_in(names, "Full control"); // Mask(0x1F01FF)
+//! ```
+#![tactic(auto)]
+
+mod form;
+mod laws;
+mod line;
+mod mask;
+mod names;
+mod object;
+mod print;
+mod printer;
+mod rights;
+mod spelling;
+
+pub use laws::{masks_come_back, names_are_distinct};
+pub use line::{Line, LineForm, Part, SidMark, Sids, Text, Value};
+pub use mask::read_mask_in;
+pub use names::ObjectKind;
+pub use print::{Style, Tag, lines_text, push_printed, whole_line};
+pub use rights::rights_line;
+pub use spelling::{Spelling, spell};

@@ -1,0 +1,280 @@
+//! Lines of answers, before anything of them is spelled.
+
+ghost use Rattle.std.specs.Prelude.{◌≡◌, IfOk, map, string_bytes};
+ghost use Rattle.sd_acl.specs.Descriptor.{descriptor_of};
+ghost use Rattle.sd_line.specs.declared.line.Value.TheVariants as values;
+ghost use Rattle.sd_line.specs.Line.{form_of, line_of, line_with, part_of, text_line, with_head, word_part};
+
+use sd_acl::{Ace, Descriptor};
+use sd_sid::{Mask, Sid};
+use std::alloc::{AllocError, Global};
+use std::marker::Model;
+
+/// What a SID is in a token, where a line lists those of one.
+#[derive(Clone, Copy, Debug, PartialEq, Eq)]
+pub enum SidMark {
+    /// One that the token has.
+    Plain,
+    /// A group for denies alone, `=deny`.
+    Deny,
+    /// A restricting SID, `=restrict`.
+    Restrict,
+}
+
+/// A kind of line, and the words of its first part, in which each `{name}` stands for a value.
+pub type LineForm = (&'static str, &'static str);
+
+/// A text in a line. Contracts see its bytes.
+#[derive(Drop)]
+pub struct Text {
+    text: String,
+}
+
+impl Model for Text {
+    ghost use Rattle.std.specs.Prelude.{ℕ, List, string_bytes};
+
+    ghost Value = { List ℕ };
+
+    ghost view = { λ t. string_bytes t.text };
+}
+
+impl Text {
+    pub(crate) fn as_str(&self) -> &str
+        ensures { result.now ≡ self.now }
+    {
+        self.text.as_str()
+    }
+}
+
+/// SIDs in a line, of which it may have none. Contracts see the list.
+#[derive(Drop)]
+pub struct Sids {
+    sids: Vec<(Sid, SidMark)>,
+}
+
+impl Model for Sids {
+    ghost use Rattle.std.specs.Prelude.{List};
+    ghost use Rattle.sd_sid.specs.Sid.{SidValue};
+    ghost use Rattle.sd_line.specs.declared.line.SidMark.{SidMark};
+
+    ghost Value = { List (SidValue × SidMark) };
+
+    ghost view = { λ s. s.sids.items };
+}
+
+impl Sids {
+    pub(crate) fn as_slice(&self) -> &[(Sid, SidMark)]
+        ensures { result.now ≡ self.now }
+    {
+        &self.sids
+    }
+}
+
+/// Words of ours in a line, of which it may have none. Contracts see the list.
+#[derive(Drop)]
+pub struct Words {
+    words: Vec<Text>,
+}
+
+impl Model for Words {
+    ghost use Rattle.std.specs.Prelude.{ℕ, List};
+
+    ghost Value = { List (List ℕ) };
+
+    ghost view = { λ w. w.words.items };
+}
+
+impl Words {
+    pub(crate) fn as_slice(&self) -> &[Text]
+        ensures { result.now ≡ self.now }
+    {
+        &self.words
+    }
+}
+
+/// A descriptor in a line. Contracts see its value.
+#[derive(Drop)]
+pub struct Shown {
+    descriptor: Descriptor,
+}
+
+impl Model for Shown {
+    ghost use Rattle.sd_acl.specs.Descriptor.{DescriptorValue, descriptor_of};
+
+    ghost Value = { DescriptorValue };
+
+    ghost view = { λ s. descriptor_of s.descriptor };
+}
+
+impl Shown {
+    pub(crate) fn descriptor(&self) -> &Descriptor
+        ensures { descriptor_of result.now ≡ self.now }
+    {
+        &self.descriptor
+    }
+}
+
+/// What a line says, by its names: nothing of it is spelled yet.
+#[derive(Drop)]
+pub enum Value {
+    Mask(Mask),
+    Number(u64),
+    Sid(Sid),
+    Entry(Ace),
+    Descriptor(Shown),
+    Text(Text),
+    Sids(Sids),
+    Words(Words),
+}
+
+impl Value {
+    pub fn text(text: String) -> Value
+        ensures { result ≡ values.Text (string_bytes text) }
+    {
+        Value::Text(Text { text })
+    }
+
+    /// A word of ours. The only error is out of memory.
+    pub fn word(alloc: Global, word: &str) -> Result<Value, AllocError>
+        ensures { IfOk result (λ value. value ≡ values.Text word.now) }
+    {
+        let word = String::from_str(alloc, word)?;
+        Ok(Value::text(word))
+    }
+
+    pub fn sids(sids: Vec<(Sid, SidMark)>) -> Value
+        ensures { result ≡ values.Sids sids.items }
+    {
+        Value::Sids(Sids { sids })
+    }
+
+    /// Words of ours, one after the other. The only error is out of memory.
+    pub fn words(alloc: Global, words: &[&str]) -> Result<Value, AllocError>
+        ensures { IfOk result (λ value. value ≡ values.Words (map (λ word. word.now) words.now)) }
+    {
+        let mut texts = Vec::new(alloc);
+        for word in words {
+            let text = String::from_str(alloc, word)?;
+            texts.push(Text { text })?;
+        }
+        Ok(Value::Words(Words { words: texts }))
+    }
+
+    pub fn descriptor(descriptor: Descriptor) -> Value
+        ensures { result ≡ values.Descriptor (descriptor_of descriptor) }
+    {
+        Value::Descriptor(Shown { descriptor })
+    }
+}
+
+/// Words in which each `{name}` stands for the next of the values.
+#[derive(Drop)]
+pub struct Part {
+    form: &'static str,
+    values: Vec<Value>,
+}
+
+impl Model for Part {
+    ghost use Rattle.sd_line.specs.Line.{PartOf};
+
+    ghost Value = { PartOf };
+
+    ghost view = { λ p. record { form = p.form.now; values = p.values.items } };
+}
+
+impl Part {
+    /// Words with values: one for each `$name`.
+    pub fn new(form: &'static str, values: Vec<Value>) -> Part
+        ensures { result ≡ part_of form.now values.items }
+    {
+        Part { form, values }
+    }
+
+    /// Words with one value, a word of ours. The only error is out of memory.
+    pub fn word(alloc: Global, form: &'static str, word: &str) -> Result<Part, AllocError>
+        ensures { IfOk result (λ part. part ≡ word_part form.now word.now) }
+    {
+        let word = Value::word(alloc, word)?;
+        let mut values = Vec::new(alloc);
+        values.push(word)?;
+        Ok(Part { form, values })
+    }
+
+    pub(crate) fn form(&self) -> &'static str
+        ensures { result.now ≡ self.now.form }
+    {
+        self.form
+    }
+
+    pub(crate) fn values(&self) -> &[Value]
+        ensures { result.now ≡ self.now.values }
+    {
+        &self.values
+    }
+}
+
+/// A line of an answer: what kind of line it is, and its parts.
+#[derive(Drop)]
+pub struct Line {
+    kind: &'static str,
+    parts: Vec<Part>,
+}
+
+impl Model for Line {
+    ghost use Rattle.sd_line.specs.Line.{LineOf};
+
+    ghost Value = { LineOf };
+
+    ghost view = { λ l. record { kind = l.kind.now; parts = l.parts.items } };
+}
+
+impl Line {
+    /// A text of no kind, as the SDDL of a descriptor. The only error is out of memory.
+    pub fn text(alloc: Global, text: String) -> Result<Line, AllocError>
+        ensures { IfOk result (λ line. line ≡ text_line (string_bytes text)) }
+    {
+        let mut values = Vec::new(alloc);
+        values.push(Value::text(text))?;
+        Line::new(alloc, ("", "{text}"), values)
+    }
+
+    /// A line of one part. The only error is out of memory.
+    pub fn new(alloc: Global, form: LineForm, values: Vec<Value>) -> Result<Line, AllocError>
+        ensures { IfOk result (λ line. line ≡ line_of (form_of form.entry) values.items) }
+    {
+        let mut parts = Vec::new(alloc);
+        parts.push(Part::new(form.1, values))?;
+        Ok(Line {
+            kind: form.0,
+            parts,
+        })
+    }
+
+    /// A line of these parts.
+    pub fn of(kind: &'static str, parts: Vec<Part>) -> Line
+        ensures { result ≡ line_with kind.now parts.items }
+    {
+        Line { kind, parts }
+    }
+
+    /// The line with a part more before it. The only error is out of memory.
+    pub fn with_head(self, head: Part) -> Result<Line, AllocError>
+        ensures { IfOk result (λ line. line ≡ with_head head self) }
+    {
+        let Line { kind, mut parts } = self;
+        parts.insert(0, head)?;
+        Ok(Line { kind, parts })
+    }
+
+    pub(crate) fn kind(&self) -> &'static str
+        ensures { result.now ≡ self.now.kind }
+    {
+        self.kind
+    }
+
+    pub(crate) fn parts(&self) -> &[Part]
+        ensures { result.now ≡ self.now.parts }
+    {
+        &self.parts
+    }
+}

@@ -1,0 +1,148 @@
+//! Answers as they are printed: each line a text, or an object of JSON (JSON Lines).
+
+ghost use Rattle.std.specs.Prelude.{◌≡◌, ◌++◌, IfOk, OnOk, codes, string_bytes};
+ghost use Rattle.sd_json.specs.Json.{json_string};
+ghost use Rattle.sd_line.specs.Printed.{head_text, lines_text, object, printed, printed_line, tag_members, tag_of};
+ghost use Rattle.sd_line.specs.Printed.{whole_line};
+
+use crate::line::Line;
+use crate::printer::Printer;
+use crate::spelling::Spelling;
+use sd_json::push_string;
+use std::alloc::{AllocError, Global};
+
+/// What each line of an answer begins with.
+#[derive(Clone, Copy)]
+pub enum Tag<'a> {
+    /// Nothing.
+    None,
+    /// A key, and a tab.
+    Key(&'a [u8]),
+    /// An id, and a space.
+    Id(&'a [u8]),
+}
+
+/// How an answer is printed.
+#[derive(Clone, Copy, Debug, PartialEq, Eq)]
+pub struct Style {
+    /// How masks are spelled.
+    pub spelling: Spelling,
+    /// Whether each line is an object of JSON.
+    pub is_json: bool,
+}
+
+/// The text of a line, with its end. The only error is out of memory.
+pub fn whole_line(alloc: Global, spelling: Spelling, line: &Line) -> Result<String, AllocError>
+    ensures { IfOk result (λ text. string_bytes text ≡ whole_line spelling line.now) }
+{
+    let printer = Printer { alloc, spelling };
+    let mut text = String::new(alloc);
+    printer.push_text(&mut text, line)?;
+    text.push_str("\n")?;
+    Ok(text)
+}
+
+/// The texts of lines, each with its end. The only error is out of memory.
+pub fn lines_text(alloc: Global, spelling: Spelling, lines: &[Line]) -> Result<String, AllocError>
+    ensures { IfOk result (λ text. string_bytes text ≡ lines_text spelling lines.now) }
+{
+    let printer = Printer { alloc, spelling };
+    let mut text = String::new(alloc);
+    for line in lines {
+        let line = whole_line(alloc, spelling, line)?;
+        text.push_str(line.as_str())?;
+    }
+    Ok(text)
+}
+
+/// Adds lines as they are printed, each after a tag. The only error is out of memory.
+pub fn push_printed(
+    alloc: Global,
+    out: &mut Vec<u8>,
+    style: Style,
+    tag: Tag<'_>,
+    lines: &[Line],
+) -> Result<(), AllocError>
+    ensures { OnOk result (out.new.items ≡ out.old.items ++ printed style (tag_of tag.entry) lines.now) }
+{
+    for line in lines {
+        push_printed_line(alloc, out, style, tag, line)?;
+    }
+    Ok(())
+}
+
+fn push_printed_line(
+    alloc: Global,
+    out: &mut Vec<u8>,
+    style: Style,
+    tag: Tag<'_>,
+    line: &Line,
+) -> Result<(), AllocError>
+    ensures { OnOk result (out.new.items ≡ out.old.items ++ printed_line style (tag_of tag.entry) line.now) }
+{
+    let printer = Printer {
+        alloc,
+        spelling: style.spelling,
+    };
+    if style.is_json {
+        printer.push_object(out, tag, line)?;
+    } else {
+        push_head(out, tag)?;
+        let mut text = String::new(alloc);
+        printer.push_text(&mut text, line)?;
+        out.extend_from_slice(text.as_bytes())?;
+    }
+    out.push(b'\n')?;
+    Ok(())
+}
+
+/// Adds the tag of a text.
+fn push_head(out: &mut Vec<u8>, tag: Tag<'_>) -> Result<(), AllocError>
+    ensures { OnOk result (out.new.items ≡ out.old.items ++ head_text (tag_of tag.entry)) }
+{
+    match tag {
+        Tag::None => Ok(()),
+        Tag::Key(key) => {
+            out.extend_from_slice(key)?;
+            out.push(b'\t')?;
+            Ok(())
+        }
+        Tag::Id(id) => {
+            out.extend_from_slice(id)?;
+            out.push(b' ')?;
+            Ok(())
+        }
+    }
+}
+
+/// Adds the tag of an object, its first member.
+fn push_tag(out: &mut Vec<u8>, tag: Tag<'_>) -> Result<(), AllocError>
+    ensures { OnOk result (out.new.items ≡ out.old.items ++ tag_members (tag_of tag.entry)) }
+{
+    match tag {
+        Tag::None => Ok(()),
+        Tag::Key(key) => push_tag_member(out, b"\"key\":", key),
+        Tag::Id(id) => push_tag_member(out, b"\"id\":", id),
+    }
+}
+
+fn push_tag_member(out: &mut Vec<u8>, name: &[u8], tag: &[u8]) -> Result<(), AllocError>
+    ensures { OnOk result (out.new.items ≡ out.old.items ++ name.now ++ json_string tag.now ++ codes ",") }
+{
+    out.extend_from_slice(name)?;
+    push_string(out, tag)?;
+    out.push(b',')?;
+    Ok(())
+}
+
+impl Printer {
+    fn push_object(&self, out: &mut Vec<u8>, tag: Tag<'_>, line: &Line) -> Result<(), AllocError>
+        ensures { OnOk result (out.new.items ≡ out.old.items ++ object self.now.spelling (tag_of tag.entry) line.now) }
+    {
+        out.push(b'{')?;
+        push_tag(out, tag)?;
+        self.push_members(out, line)?;
+        out.push(b'}')?;
+        Ok(())
+    }
+}
