@@ -2,8 +2,8 @@
 """Answers with `--json` beside those without: `objects.py PROGRAM`. The last line is 'N passed, M failed'.
 
 Each row of tests/ whose command takes `--json`, and whose input has less than 64 KiB, is run with it and without:
-its status and its standard error are the same, and each line of its output is made again from its object, by the table
-of crates/sd_json/src/table.rt; tests/rows validates the object. Keys of all bytes are tried beside them.
+its status and its standard error are the same, and each line of its output is made again from its object, by the forms
+of crates/sd_answer/src/forms.rt; tests/rows validates the object. Keys of all bytes are tried beside them.
 """
 import importlib.machinery
 import importlib.util
@@ -15,6 +15,7 @@ from pathlib import Path
 
 TOP = Path(__file__).resolve().parents[2]
 sys.path.append(str(TOP / "tests"))
+from forms import LINES, line_of, names  # noqa: E402
 from tally import close, holds  # noqa: E402
 
 PROGRAM = sys.argv[1]
@@ -31,16 +32,12 @@ def load(path):
     return module
 
 
-ROWS, KINDS = load("tests/rows"), load("tests/pages/json")
-MARKS = KINDS.MARKS
+ROWS = load("tests/rows")
+#: The words of a line by its kind and the names of its values.
+WORDS = {(kind, tuple(names(words))): words for kind, words in LINES}
 
 
-def table_of_kinds():
-    """The words of a line by its kind and names."""
-    return {(kind, tuple(KINDS.members(words))): words for kind, words in KINDS.rows()}
-
-
-def line_of(object_, table):
+def line_again(object_):
     """The line that an object was made of."""
     members = dict(object_)
     tag = "".join(members.pop(name) + end for name, end in (("key", "\t"), ("id", " ")) if name in members)
@@ -48,26 +45,14 @@ def line_of(object_, table):
         assert list(members) == ["text"]
         return tag + members["text"]
     kind = members.pop("answer")
-    words = []
-    for word in table[kind, tuple(members)].split(" "):
-        value = members[word[1:]] if word[0] in MARKS else word
-        if word[0] == "#":
-            assert type(value) is int
-            words.append(str(value))
-        elif word[0] == "*":
-            assert value and all(type(each) is str for each in value)
-            words += value
-        else:
-            assert type(value) is str
-            words.append(value + (word[0] if word[0] in ",:" else ""))
-    return tag + " ".join(words)
+    return tag + line_of(WORDS[kind, tuple(members)], members)
 
 
-def lines_of(output, table):
+def lines_of(output):
     """The lines that the objects of an output were made of. Bytes that are no UTF-8 are surrogates, and so are they."""
     assert output.endswith(b"\n") or not output
     objects = output.decode("ascii" if output.isascii() else "utf-8").split("\n")[:-1]
-    lines = [line_of(json.loads(each), table) + "\n" for each in objects]
+    lines = [line_again(json.loads(each)) + "\n" for each in objects]
     return "".join(lines).encode("utf-8", "surrogateescape")
 
 
@@ -75,7 +60,7 @@ def run(arguments, input_):
     return subprocess.run([PROGRAM, *arguments], input=input_, capture_output=True, timeout=120)
 
 
-def compare(arguments, input_, table):
+def compare(arguments, input_):
     """What differs between an answer and the one that its objects make again, or an object outside of the schema."""
     plain = run(arguments, input_)
     shown = run(["--json", *arguments], input_)
@@ -83,7 +68,7 @@ def compare(arguments, input_, table):
         return None
     try:
         same = (shown.returncode, shown.stderr) == (plain.returncode, plain.stderr)
-        if same and lines_of(shown.stdout, table) == plain.stdout:
+        if same and lines_of(shown.stdout) == plain.stdout:
             return "".join(ROWS.outside(shown.stdout)[:1])
     except (AssertionError, KeyError, ValueError) as error:
         return "%s: %r: %r" % (arguments, error, shown.stdout[:300])
@@ -113,9 +98,8 @@ def cases():
 
 
 def main():
-    table = table_of_kinds()
     with ThreadPoolExecutor() as processors:
-        for found in processors.map(lambda case: compare(*case, table), cases()):
+        for found in processors.map(lambda case: compare(*case), cases()):
             holds("objects.py", not found, found)
     return close()
 

@@ -28,7 +28,7 @@ pub const WITHOUT: &str = " without {without}";
 pub const BEYOND: &str = " beyond {beyond}";
 
 pub const AS: &str = " as {as}";
-// Those of the second pass, after one of the first.
+// Reasons of the second pass of a restricted token, after a reason of the first pass.
 pub const SECOND_BY_ENTRY: &str =
     ", restricted by entry {second_entry} {second_ace} as {second_sid}";
 

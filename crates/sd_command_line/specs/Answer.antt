@@ -1,11 +1,10 @@
 -- What the program prints for a command line, and whether it did what was asked for.
-use Rattle.std.specs.Prelude.{◌≡◌, ℕ, Bool, ◌||◌, List, [], Option, MatchResult, Result}
-use Rattle.sd_script.specs.Output.{PrintsAndCounts}
+use Rattle.std.specs.Prelude.{◌≡◌, ℕ, Bool, false, ◌||◌, List, [], Option, MatchResult, Result}
 use Rattle.sd_lines.specs.Output.{IsOutput}
 use Rattle.sd_script.specs.declared.script_options.ScriptOptions.{ScriptOptions}
 use Rattle.sd_script.specs.declared.script_counts.ScriptCounts.{ScriptCounts}
 use Rattle.sd_script_audit.specs.Audit.{PrintsAuditAndCounts}
-use Rattle.sd_script.specs.Printed.{PrintsAndCountsServed, PrintsAs}
+use Rattle.sd_script.specs.Printed.{PrintsAndCountsServed}
 use Rattle.sd_usage.specs.declared.row.OptionName.TheVariants.{Strict, StrictStatus}
 use Rattle.sd_arguments.specs.CommandLine.{CommandLineValue, Ask, Each, Help, Runs, Script, Version}
 use Rattle.sd_arguments.specs.Options.{OptionsValue, GivesScriptOptions, has, style_of}
@@ -28,9 +27,9 @@ IsPrinted options Answers answer =
 
 -- what is printed and counted of a text that is a script
 abbrev pub PrintsRun : ScriptRun → ScriptOptions → List ℕ → List ℕ → ScriptCounts → Type 0
-PrintsRun AtOnce run_options = PrintsAs run_options.notation.is_json (PrintsAndCounts run_options)
-PrintsRun (LineByLine has_ids) run_options = PrintsAndCountsServed has_ids run_options.notation.is_json run_options
-PrintsRun (Audit workers) run_options = PrintsAs run_options.notation.is_json (PrintsAuditAndCounts run_options workers)
+PrintsRun AtOnce run_options = PrintsAndCountsServed false run_options
+PrintsRun (LineByLine has_ids) run_options = PrintsAndCountsServed has_ids run_options
+PrintsRun (Audit workers) run_options = PrintsAuditAndCounts run_options workers
 
 -- a fault of a line is told, and isn't success
 abbrev pub is_strict : OptionsValue → Bool

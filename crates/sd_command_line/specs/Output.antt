@@ -41,7 +41,7 @@ abbrev pub LeavesLinesOf : CommandLineValue → Option (List ℕ) → Option (Li
     → RunError → Type 0
 LeavesLinesOf (Runs options (Script (LineByLine has_ids))) input left old new error =
     (run_options : ScriptOptions) × AreScriptOptions options run_options
-    × LeavesAnswers LINES (PrintsServed has_ids run_options.notation.is_json run_options) input left old new error
+    × LeavesAnswers LINES (PrintsServed has_ids run_options) input left old new error
 LeavesLinesOf (Runs options (Each given request)) input left old new error =
     LeavesEach options given request input left old new error
 LeavesLinesOf line input left old new error = ⊥

@@ -1,4 +1,5 @@
 pub mod Form
+pub mod Json
 pub mod Laws
 pub mod Line
 pub mod Mask

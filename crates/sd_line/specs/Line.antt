@@ -1,8 +1,9 @@
 -- A line of an answer: its kind, and its parts, of which nothing is spelled.
-use Rattle.std.specs.Prelude.{ℕ, List, [], ◌∷◌, codes}
+use Rattle.std.specs.Prelude.{ℕ, Bool, false, List, [], ◌∷◌, codes, bytes_eq}
+use Rattle.std.specs.List.{list_any}
 use Rattle.std.specs.Borrow.{Bor}
 use Rattle.sd_line.specs.declared.line.Value.{Value}
-use Rattle.sd_line.specs.declared.line.Value.TheVariants.{Text}
+use Rattle.sd_line.specs.declared.line.Value.TheVariants.{Text, Words}
 
 -- words in which each `{name}` stands for the next of the values
 pub record PartOf : Type 0 where
@@ -44,3 +45,19 @@ text_line text = line_of ([], codes "{text}") (Text text ∷ [])
 
 abbrev pub with_head : PartOf → LineOf → LineOf
 with_head head l = record { kind = l.kind; parts = head ∷ l.parts }
+
+-- the line is of this kind
+abbrev pub is_of : List ℕ → LineOf → Bool
+is_of kind l = bytes_eq l.kind kind
+
+-- a value is words of which one is this
+abbrev pub value_says : List ℕ → Value → Bool
+value_says word (Words words) = list_any (bytes_eq word) words
+value_says word value = false
+
+abbrev pub part_says : List ℕ → PartOf → Bool
+part_says word p = list_any (value_says word) p.values
+
+-- one of the line's words is this
+abbrev pub says : List ℕ → LineOf → Bool
+says word l = list_any (part_says word) l.parts

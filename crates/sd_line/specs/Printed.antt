@@ -5,7 +5,7 @@ use Rattle.std.specs.List.{flat_map}
 use Rattle.sd_sid.specs.Sid.{SidValue}
 use Rattle.sd_text.specs.Canon.{canon_in, entry_canon_in, full_canon}
 use Rattle.sd_line.specs.Form.{name_in, pieces_of, words_in}
-use Rattle.sd_json.specs.Json.{json_string, named, strings, then_named}
+use Rattle.sd_line.specs.Json.{json_string, named, strings, then_named}
 use Rattle.sd_line.specs.Line.{LineOf, PartOf}
 use Rattle.sd_line.specs.Spelling.{right_names_of, spelled}
 use Rattle.sd_line.specs.declared.line.SidMark.{SidMark}

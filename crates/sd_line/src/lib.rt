@@ -22,6 +22,7 @@ mod print;
 mod printer;
 mod rights;
 mod spelling;
+mod string;
 
 pub use laws::{masks_come_back, names_are_distinct};
 pub use line::{Line, LineForm, Part, SidMark, Sids, Text, Value};

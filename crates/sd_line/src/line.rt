@@ -1,9 +1,11 @@
 //! Lines of answers, before anything of them is spelled.
 
-ghost use Rattle.std.specs.Prelude.{◌≡◌, IfOk, map, string_bytes};
+ghost use Rattle.std.specs.Prelude.{◌≡◌, IfOk, bytes_eq, map, string_bytes};
+ghost use Rattle.std.specs.List.{list_any};
 ghost use Rattle.sd_acl.specs.Descriptor.{descriptor_of};
 ghost use Rattle.sd_line.specs.declared.line.Value.TheVariants as values;
-ghost use Rattle.sd_line.specs.Line.{form_of, line_of, line_with, part_of, text_line, with_head, word_part};
+ghost use Rattle.sd_line.specs.Line.{form_of, is_of, line_of, line_with, part_of, part_says, says, text_line};
+ghost use Rattle.sd_line.specs.Line.{value_says, with_head, word_part};
 
 use sd_acl::{Ace, Descriptor};
 use sd_sid::{Mask, Sid};
@@ -85,6 +87,14 @@ impl Model for Words {
 }
 
 impl Words {
+    fn has(&self, word: &str) -> bool
+        ensures { result ≡ list_any (bytes_eq word.now) self.now }
+    {
+        self.words
+            .iter()
+            .any(|text| word.as_bytes() == text.as_str().as_bytes())
+    }
+
     pub(crate) fn as_slice(&self) -> &[Text]
         ensures { result.now ≡ self.now }
     {
@@ -160,6 +170,16 @@ impl Value {
         Ok(Value::Words(Words { words: texts }))
     }
 
+    /// Whether it is words of which one is this.
+    fn says(&self, word: &str) -> bool
+        ensures { result ≡ value_says word.now self.now }
+    {
+        match self {
+            Value::Words(words) => words.has(word),
+            _ => false,
+        }
+    }
+
     pub fn descriptor(descriptor: Descriptor) -> Value
         ensures { result ≡ values.Descriptor (descriptor_of descriptor) }
     {
@@ -183,7 +203,7 @@ impl Model for Part {
 }
 
 impl Part {
-    /// Words with values: one for each `$name`.
+    /// Words with values: one for each `{name}`.
     pub fn new(form: &'static str, values: Vec<Value>) -> Part
         ensures { result ≡ part_of form.now values.items }
     {
@@ -204,6 +224,13 @@ impl Part {
         ensures { result.now ≡ self.now.form }
     {
         self.form
+    }
+
+    /// Whether one of its words is this.
+    fn says(&self, word: &str) -> bool
+        ensures { result ≡ part_says word.now self.now }
+    {
+        self.values.iter().any(|value| value.says(word))
     }
 
     pub(crate) fn values(&self) -> &[Value]
@@ -264,6 +291,20 @@ impl Line {
         let Line { kind, mut parts } = self;
         parts.insert(0, head)?;
         Ok(Line { kind, parts })
+    }
+
+    /// Whether the line is of this kind.
+    pub fn is_of(&self, kind: &str) -> bool
+        ensures { result ≡ is_of kind.now self.now }
+    {
+        self.kind.as_bytes() == kind.as_bytes()
+    }
+
+    /// Whether one of the line's words is this.
+    pub fn says(&self, word: &str) -> bool
+        ensures { result ≡ says word.now self.now }
+    {
+        self.parts.iter().any(|part| part.says(word))
     }
 
     pub(crate) fn kind(&self) -> &'static str

@@ -2,14 +2,14 @@
 
 ghost use Rattle.std.specs.Prelude.{◌≡◌, ◌++◌, ℕ, List, OnOk, codes, flat_map, map, option_map, string_bytes};
 ghost use Rattle.sd_line.specs.Form.{pieces_after};
-ghost use Rattle.sd_json.specs.Json.{json_string, named, strings, then_named};
+ghost use Rattle.sd_line.specs.Json.{json_string, named, strings, then_named};
 ghost use Rattle.sd_line.specs.Printed.{line_members, line_text, list_member, member, part_members};
 ghost use Rattle.sd_line.specs.Printed.{value_text, values_members};
 
 use crate::form::{first_words, name_and_words};
 use crate::line::{Line, Part, Value};
 use crate::printer::Printer;
-use sd_json::push_string;
+use crate::string::push_string;
 use std::alloc::AllocError;
 
 impl Printer {

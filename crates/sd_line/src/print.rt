@@ -1,14 +1,14 @@
 //! Answers as they are printed: each line a text, or an object of JSON (JSON Lines).
 
 ghost use Rattle.std.specs.Prelude.{◌≡◌, ◌++◌, IfOk, OnOk, codes, string_bytes};
-ghost use Rattle.sd_json.specs.Json.{json_string};
+ghost use Rattle.sd_line.specs.Json.{json_string};
 ghost use Rattle.sd_line.specs.Printed.{head_text, lines_text, object, printed, printed_line, tag_members, tag_of};
 ghost use Rattle.sd_line.specs.Printed.{whole_line};
 
 use crate::line::Line;
 use crate::printer::Printer;
 use crate::spelling::Spelling;
-use sd_json::push_string;
+use crate::string::push_string;
 use std::alloc::{AllocError, Global};
 
 /// What each line of an answer begins with.
@@ -46,7 +46,6 @@ pub fn whole_line(alloc: Global, spelling: Spelling, line: &Line) -> Result<Stri
 pub fn lines_text(alloc: Global, spelling: Spelling, lines: &[Line]) -> Result<String, AllocError>
     ensures { IfOk result (λ text. string_bytes text ≡ lines_text spelling lines.now) }
 {
-    let printer = Printer { alloc, spelling };
     let mut text = String::new(alloc);
     for line in lines {
         let line = whole_line(alloc, spelling, line)?;

@@ -17,9 +17,10 @@ pub use Rattle.sd_line.proofs.WordsLeft.{one_joined}
 pub use Rattle.sd_line.specs.Mask.{IsMaskIn, between_pluses}
 pub use Rattle.sd_answer.specs.Parts.{parts_in}
 pub use Rattle.sd_answer.specs.VerdictLines.{verdict_line}
-pub use Rattle.sd_line.specs.Line.{LineOf, with_head, word_part}
-pub use Rattle.sd_line.specs.Printed.{line, line_text, lines_text, whole_line}
+pub use Rattle.sd_line.specs.Line.{LineOf, form, line_with, with_head, word_part}
+pub use Rattle.sd_line.specs.Printed.{printed}
 pub use Rattle.sd_line.specs.Spelling.{spelled}
+pub use Rattle.sd_line.specs.declared.print.Style.{Style}
 pub use Rattle.sd_answer.specs.Who.{rights_asked}
 pub use Rattle.sd_answer.specs.Word.{AreGroups, IsToken, texts}
 pub use Rattle.sd_line.specs.declared.spelling.Spelling.{Spelling}
@@ -63,22 +64,22 @@ pub use Rattle.sd_review.specs.declared.review.Former.{Former}
 pub use Rattle.sd_review.specs.declared.review.Former.TheVariants.{Moved, New, Same}
 pub use Rattle.sd_script.specs.Argument.{IsNumber, dacl_of, descriptor, import_of, node_of, path}
 pub use Rattle.sd_script.specs.Command.{Argument, Arguments, Asks, Dacl, Groups, Imported, Mask, Node, Number, Parses, Path, Sid, Token, Value, asks, asks_where, command_named, command_of, is_empty, is_untimely, line_asks, names, reading, reads, reads_where, value_named, ◌▸◌}
-pub use Rattle.sd_script.specs.Deletion.{delete_right, deletion_line, parent_grants}
+pub use Rattle.sd_script.specs.Deletion.{delete_right, deletion_line, granted_by, parent_grants}
 pub use Rattle.sd_script.specs.Dump.{AreAskedBy, IsAskedBy, IsReadBack, making, makings, wanted}
 pub use Rattle.sd_script.specs.Expect.{expect_line, expects, is_met, last_after, spelled_byte}
 pub use Rattle.sd_script.specs.Fault.{Reading, SomeOr, Then, UnlessMemory, line_of_fault}
-pub use Rattle.sd_script.specs.Ids.{IsNextIn, NoCommandWithoutAnId, asked_of, is_id, tag_of, tagged}
-pub use Rattle.sd_script.specs.Importing.{IsImported, entries_at, imported_line}
-pub use Rattle.sd_script.specs.Laws.{AsksNoAnalysis, BeginsAsCheck, DeletesAsChecked, HasOneAnswer, HasOneOf, HasOneOutput, IsGranted, OnlyTheseAreGranted, SilentContainerPassesDownTheSame, SilentNodeIsUnchanged, SilentReviewChangesNothing, by_node_line, is_analysis, made_in}
+pub use Rattle.sd_script.specs.Ids.{asked_of, is_id}
+pub use Rattle.sd_script.specs.Importing.{IsImported, entries_at, imported_words}
+pub use Rattle.sd_script.specs.Laws.{AsksNoAnalysis, BeginsAsCheck, DeletesAsChecked, HasOneAnswer, HasOneOf, HasOneOutput, IsGranted, NoCommandWithoutAnId, OnlyTheseAreGranted, SilentContainerPassesDownTheSame, SilentNodeIsUnchanged, SilentReviewChangesNothing, by_node, is_analysis, made_in}
 pub use Rattle.sd_script.specs.Lines.{is_silent, word_len, words_of}
 pub use Rattle.sd_script.specs.Listing.{is_split_below}
-pub use Rattle.sd_script.specs.Moving.{IsMoved, moved_line}
+pub use Rattle.sd_script.specs.Moving.{IsMoved, moved_words}
 pub use Rattle.sd_script.specs.Output.{IsAnswered, IsDone, IsMade, IsNext, IsOpened, IsTold, IsUntold, before_first_line, closing_of, is_open, opens, script_options_of}
 pub use Rattle.sd_script.specs.Paths.{IsPath, path_word}
-pub use Rattle.sd_script.specs.Printed.{IsNextServed}
+pub use Rattle.sd_script.specs.Printed.{IsNextServed, PrintsServed, asked_in, style_in, tag_in}
 pub use Rattle.sd_script.specs.Question.{for_reader, outcome_of}
-pub use Rattle.sd_script.specs.Reply.{check_line, counted_line, node_why_text, refused_line, reply_line, seen_line, shown_line, start_error_line}
-pub use Rattle.sd_script.specs.Review.{ArePrinted, IsCompared, IsNodeReview, IsNodeText, IsReviewOf, gone_line, has_no_words, reviewed_line, trees_in}
+pub use Rattle.sd_script.specs.Reply.{alone, check_line, counted_line, node_why_lines, ok_line, plain_line, refused_line, reply_line, seen_line, seen_lines, shown_line, start_error_line}
+pub use Rattle.sd_script.specs.Review.{AreNodeLines, AreTold, IsCompared, IsNodeReview, IsReviewOf, gone_lines, has_no_words, reviewed_line, trees_in}
 pub use Rattle.sd_script.specs.ScriptCounts.{tallied}
 pub use Rattle.sd_script.specs.View.{IsViewed}
 pub use Rattle.sd_script.specs.Who.{are_for, asks_no_right, is_for}
@@ -109,7 +110,7 @@ pub use Rattle.sd_text.specs.Sacl.{sddl_without_sacl}
 pub use Rattle.sd_text.specs.Sddl.{sddl_in}
 pub use Rattle.sd_text.specs.Sid.{sid_text_in}
 pub use Rattle.sd_tree.specs.Listing.{listed}
-pub use Rattle.std.proofs.Common.{Bool, Err, List, None, Ok, OnErr, Option, Result, Some, [], add-one, ap, append-nil, append_assoc, arith, drop, false, inl, inr, length, lit<, not, refl, rules, string_bytes, subst, suc, sym, tests, true, zero, ℕ, ◌++◌, ◌+◌, ◌<◌, ◌==◌, ◌||◌, ◌∙◌, ◌∷◌, ◌≡◌, ◌≤◌}
+pub use Rattle.std.proofs.Common.{Bool, Err, List, None, Ok, OnErr, OnOk, Option, Result, Some, [], add-one, ap, append-nil, append_assoc, arith, drop, false, inl, inr, length, lit<, not, refl, rules, string_bytes, subst, suc, sym, tests, true, zero, ℕ, ◌++◌, ◌+◌, ◌<◌, ◌==◌, ◌||◌, ◌∙◌, ◌∷◌, ◌≡◌, ◌≤◌}
 pub use Rattle.std.proofs.Math.ListN.{drop_of_length-le, length-map}
 pub use Rattle.std.proofs.Math.Seq.{drop-cons}
 pub use Rattle.std.proofs.lemmas.Bool.{and_parts, cases_Bool, cases_lt, false_from_ne_true, false≢true, le-ltb, lt-ltb}

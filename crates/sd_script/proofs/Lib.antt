@@ -2,6 +2,7 @@ pub mod Cited
 pub mod AsChecked
 pub mod Askings
 pub mod Dumping
+pub mod FirstKind
 pub mod NoId
 pub mod OneOutput
 pub mod OneReading

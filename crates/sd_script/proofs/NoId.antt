@@ -1,5 +1,5 @@
 -- A line whose first word is no id is no command, nor is one that expects an answer.
-use Rattle.sd_script.proofs.Cited.{Bool, IsAnswered, LineRequest, List, NoCommandWithoutAnId, None, Notation, Ok, Option, Session, [], and_parts, ap, arith, asked_of, bytes_eq, bytes_eq-Decides, cases_Bool, cases_lt, codes, command_named, command_of, expects, fails_before_first, false, false_from_ne_true, if◌then◌else◌, inl, inr, is_empty, is_id, is_open, is_silent, length, line_asks, list_all, list_any, names, option_map, refl, script_options_of, slice_split_first, slice_split_none, sym, take, take_all, true, value_named, word_len, words_of, ℕ, ◌==◌, ◌∙◌, ◌∷◌, ◌≡◌}
+use Rattle.sd_script.proofs.Cited.{Bool, IsAnswered, LineOf, LineRequest, List, NoCommandWithoutAnId, None, Notation, Ok, Option, Session, [], and_parts, ap, arith, asked_of, bytes_eq, bytes_eq-Decides, cases_Bool, cases_lt, codes, command_named, command_of, expects, fails_before_first, false, false_from_ne_true, if◌then◌else◌, inl, inr, is_empty, is_id, is_open, is_silent, length, line_asks, list_all, list_any, names, option_map, refl, script_options_of, slice_split_first, slice_split_none, sym, take, take_all, true, value_named, word_len, words_of, ℕ, ◌==◌, ◌∙◌, ◌∷◌, ◌≡◌}
 
 -- a word that is no id is none of a table of ids
 beside_none : {A : Type 0} (word : List ℕ) (rows : List (List ℕ × A)) → list_all (λ (row : List ℕ × A). is_id row.0) rows ≡ true
@@ -51,7 +51,7 @@ asks_and_expects_nothing notation is_open line asked asks = false_from_ne_true (
 
 -- ---- a line whose first word is no id
 
-unchanged : (old new : Session) (line answer : List ℕ)
+unchanged : (old new : Session) (line : List ℕ) (answer : List LineOf)
     → is_id (take (word_len line) line) ≡ false → IsAnswered old line answer new → new ≡ old
 unchanged old new line answer none answered = elim (cases_Bool (is_silent line)) [
   | inl silent ↦ let said = rw silent at answered in said.1
@@ -63,7 +63,7 @@ unchanged old new line answer none answered = elim (cases_Bool (is_silent line))
 ]
 
 pub no_command_without_an_id : NoCommandWithoutAnId
-no_command_without_an_id old new line printed none next =
+no_command_without_an_id style old new line text none next =
     let whole : asked_of line ≡ line = rw none refl in
     let answered = rw whole at next.1.answered in
     elim (cases_Bool (expects line)) [

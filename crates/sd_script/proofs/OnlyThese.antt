@@ -1,6 +1,7 @@
 -- Where each alternative is for one of the groups, whoever is granted a right has one of them.
-use Rattle.sd_script.proofs.Cited.{Access, Alternative, Bool, Everyone, GroupState, HasOneOf, Holder, List, OnlyTheseAreGranted, Owner, SidValue, TokenValue, [], and_parts, are_for, asks_no_right, cases_Bool, expect_line, false, has_right, holds_for, inl, inr, is_for, is_held_by, is_in_base, list_all, list_any, refl, rights_asked, true, ℕ, ◌∷◌, ◌≡◌}
+use Rattle.sd_script.proofs.Cited.{Access, Alternative, Bool, Everyone, GroupState, HasOneOf, Holder, List, OnlyTheseAreGranted, Owner, SidValue, TokenValue, [], and_parts, ap, are_for, asks_no_right, cases_Bool, codes, expect_line, false, has_right, holds_for, inl, inr, is_for, is_held_by, is_in_base, list_all, list_any, refl, rights_asked, true, ℕ, ◌∷◌, ◌≡◌}
 use Rattle.std.specs.Prelude.{not}
+use Rattle.sd_script.proofs.FirstKind.{first_kind}
 use Rattle.sd_analysis.specs.declared.who_has.Holder.TheVariants.{Sid}
 
 module _ (groups : List (SidValue × GroupState)) (t : TokenValue) where
@@ -28,9 +29,9 @@ module _ (groups : List (SidValue × GroupState)) (t : TokenValue) where
         | inr other ↦ by_accesses b all both.1 (rw other at any)
       ]
 
-met : (is_met : Bool) → expect_line true ≡ expect_line is_met → is_met ≡ true
+met : (is_met : Bool) → expect_line true ∷ [] ≡ expect_line is_met ∷ [] → is_met ≡ true
 met true same = refl
-met false same = absurd (cc same)
+met false same = let kinds : codes "ok" ≡ codes "fault" = ap first_kind same in absurd (cc kinds)
 
 pub only_these_are_granted : OnlyTheseAreGranted
 only_these_are_granted g d groups t asked b (all, exact, most, once, said) plain low holding granted =

@@ -1,9 +1,7 @@
--- What `dump` prints: the published tree as lines of a script, that of its root first and a parent before what it
--- holds. They are printed only where each is parsed to what makes its node.
+-- What `dump` is answered by: the published tree as lines of a script, that of its root first and a parent before what
+-- it holds. They are the answer only where the text of each is parsed to what makes its node.
 use Rattle.std.specs.Prelude.{◌≡◌, ◌⊎◌, ⊤, ℕ, Bool, true, false, List, [], ◌∷◌, ◌++◌, length, map, Option, Some}
 use Rattle.std.specs.Prelude.{None, Ok, if◌then◌else◌, codes}
-use Rattle.std.specs.List.{flat_map}
-use Rattle.std.specs.Fmt.{decimal}
 use Rattle.std.specs.FinMap.{entries}
 use Rattle.std.specs.Str.Lines.{lines}
 use Rattle.sd_edit.specs.Additions.{addition_of, root_of}
@@ -16,14 +14,18 @@ use Rattle.sd_inheritance.specs.declared.kind.NodeKind.TheVariants.{Container, O
 use Rattle.sd_edit.specs.declared.node.NodeRow.{NodeRow}
 use Rattle.sd_edit.specs.Machine.{Machine}
 use Rattle.sd_edit.specs.declared.request.Request.TheVariants as requests
-use Rattle.sd_line.specs.Printed.{line}
-use Rattle.sd_script.specs.Fault.{fault_text}
+use Rattle.sd_answer.specs.VerdictLines.{fault_line}
+use Rattle.sd_answer.specs.declared.forms.TheConstants.{ADD_CONTAINER, ADD_OBJECT, OPEN, PUBLISH}
+use Rattle.sd_line.specs.Line.{Form, LineOf, form, line_of}
+use Rattle.sd_line.specs.Printed.{lines_text}
+use Rattle.sd_line.specs.declared.line.Value.TheVariants.{Descriptor, Number, Text}
 use Rattle.sd_script.specs.Command.{line_asks}
 use Rattle.sd_script.specs.Lines.{is_silent}
 use Rattle.sd_script.specs.Paths.{path_word}
-use Rattle.sd_script.specs.Reply.{shown_sddl}
+use Rattle.sd_script.specs.Reply.{plain_line}
 use Rattle.sd_script.specs.declared.line_request.LineRequest.{LineRequest}
 use Rattle.sd_script.specs.declared.line_request.LineRequest.TheVariants.{Opening, Asking}
+use Rattle.sd_script.specs.declared.paths.PathSpelling.{PathSpelling}
 use Rattle.sd_script.specs.declared.script_options.Notation.{Notation}
 
 -- ---- what makes a node, and the line that asks for it
@@ -33,15 +35,15 @@ abbrev pub making : ℕ → Names → NodeRow → LineRequest
 making readers [] row = Opening readers (root_of row)
 making readers (name ∷ names) row = Asking (requests.Edit (addition_of row.kind (name ∷ names) row))
 
-abbrev pub adding_word : NodeKind → List ℕ
-adding_word Container = codes "addc"
-adding_word Object = codes "addo"
+abbrev pub adding_form : NodeKind → Form
+adding_form Container = form ADD_CONTAINER
+adding_form Object = form ADD_OBJECT
 
-abbrev pub making_line : Notation → ℕ → Names × NodeRow → List ℕ
-making_line notation readers node =
-    let sddl = shown_sddl notation.spelling (own_descriptor_of_row node.1) in
-    if is_root node.0 then line (codes "open " ++ decimal readers ++ codes " " ++ sddl)
-    else line (adding_word node.1.kind ++ codes " " ++ path_word notation.paths node.0 ++ codes " " ++ sddl)
+abbrev pub making_line : PathSpelling → ℕ → Names × NodeRow → LineOf
+making_line paths readers node =
+    if is_root node.0 then line_of (form OPEN) (Number readers ∷ Descriptor (own_descriptor_of_row node.1) ∷ [])
+    else line_of (adding_form node.1.kind)
+    (Text (path_word paths node.0) ∷ Descriptor (own_descriptor_of_row node.1) ∷ [])
 
 -- ---- the whole tree
 
@@ -65,18 +67,22 @@ AreAskedBy notation is_open (text ∷ texts) (asked ∷ more) =
 AreAskedBy notation is_open texts more = ⊥
 
 -- the nodes' lines, and then the publish
+abbrev pub dump_lines : PathSpelling → ℕ → PlainTree → List LineOf
+dump_lines paths readers t = map (making_line paths readers) (entries t) ++ plain_line (form PUBLISH) ∷ []
+
 abbrev pub dump_text : Notation → ℕ → PlainTree → List ℕ
-dump_text notation readers t = flat_map (making_line notation readers) (entries t) ++ line (codes "publish")
+dump_text notation readers t = lines_text notation.spelling (dump_lines notation.paths readers t)
 
 abbrev pub IsReadBack : Notation → ℕ → PlainTree → List ℕ → Type 0
 IsReadBack notation readers t text = AreAskedBy notation false (lines text)
     (makings readers (entries t) ++ Asking requests.Publish ∷ [])
 
 -- a name that can't stand in a script is a fault, and so is an entry's flag without a name
-abbrev pub IsDumpOf : Notation → ℕ → PlainTree → List ℕ → Type 0
-IsDumpOf notation readers t printed =
-    (IsReadBack notation readers t (dump_text notation readers t) × (printed ≡ dump_text notation readers t))
-    ⊎ ((IsReadBack notation readers t (dump_text notation readers t) → ⊥) × (printed ≡ fault_text (codes "name")))
+abbrev pub IsDumpOf : Notation → ℕ → PlainTree → List LineOf → Type 0
+IsDumpOf notation readers t answer =
+    (IsReadBack notation readers t (dump_text notation readers t) × (answer ≡ dump_lines notation.paths readers t))
+    ⊎ ((IsReadBack notation readers t (dump_text notation readers t) → ⊥)
+    × (answer ≡ fault_line (codes "name") ∷ []))
 
-abbrev pub IsDump : Notation → Machine → List ℕ → Type 0
-IsDump notation m printed = IsDumpOf notation (length m.floors) (replay m.opening m.published) printed
+abbrev pub IsDump : Notation → Machine → List LineOf → Type 0
+IsDump notation m answer = IsDumpOf notation (length m.floors) (replay m.opening m.published) answer

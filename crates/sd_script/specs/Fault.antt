@@ -1,29 +1,24 @@
 -- What is wrong with a line, and the line of its answer. Of several faults the first is reported.
-use Rattle.std.specs.Prelude.{◌≡◌, ⊤, ◌⊎◌, ℕ, List, Result, Ok, Err, codes}
+use Rattle.std.specs.Prelude.{◌≡◌, ⊤, ◌⊎◌, Result, Ok, Err, codes}
 use Rattle.sd_answer.specs.VerdictLines.{fault_line, sddl_fault_line}
-use Rattle.sd_line.specs.Printed.{whole_line}
-use Rattle.sd_line.specs.declared.spelling.Spelling.TheVariants as spellings
+use Rattle.sd_line.specs.Line.{LineOf}
 use Rattle.sd_script.specs.declared.fault.LineFault.{LineFault}
 use Rattle.sd_script.specs.declared.fault.LineFault.TheVariants.{Utf8, Words, Open, Number, Path, Sid, Sddl, Parts}
 use Rattle.sd_script.specs.declared.fault.LineFault.TheVariants.{Mask, Token}
 use Rattle.sd_script.specs.declared.fault.LineStop.{LineStop}
 use Rattle.sd_script.specs.declared.fault.LineStop.TheVariants.{Fault, Memory}
 
--- the text of the line of an invalid argument, in which no mask is spelled
-abbrev pub fault_text : List ℕ → List ℕ
-fault_text what = whole_line spellings.Number (fault_line what)
-
-abbrev pub line_of_fault : LineFault → List ℕ
-line_of_fault Utf8 = fault_text (codes "utf8")
-line_of_fault Words = fault_text (codes "words")
-line_of_fault Open = fault_text (codes "open")
-line_of_fault Number = fault_text (codes "number")
-line_of_fault Path = fault_text (codes "path")
-line_of_fault Sid = fault_text (codes "sid")
-line_of_fault (Sddl fault place) = whole_line spellings.Number (sddl_fault_line fault place)
-line_of_fault Parts = fault_text (codes "parts")
-line_of_fault Mask = fault_text (codes "mask")
-line_of_fault Token = fault_text (codes "token")
+abbrev pub line_of_fault : LineFault → LineOf
+line_of_fault Utf8 = fault_line (codes "utf8")
+line_of_fault Words = fault_line (codes "words")
+line_of_fault Open = fault_line (codes "open")
+line_of_fault Number = fault_line (codes "number")
+line_of_fault Path = fault_line (codes "path")
+line_of_fault Sid = fault_line (codes "sid")
+line_of_fault (Sddl fault place) = sddl_fault_line fault place
+line_of_fault Parts = fault_line (codes "parts")
+line_of_fault Mask = fault_line (codes "mask")
+line_of_fault Token = fault_line (codes "token")
 
 -- what a part of a line is parsed to: a value, or the first thing that is wrong with it
 abbrev pub Reading : Type 0 → Type 1

@@ -1,5 +1,5 @@
--- What follows from the output of a script.
-use Rattle.std.specs.Prelude.{◌≡◌, ℕ, ◌<◌, Bool, true, false, List, [], ◌++◌, length, Some, Ok, codes}
+-- What follows from what the lines of a script are answered by.
+use Rattle.std.specs.Prelude.{◌≡◌, ℕ, ◌<◌, Bool, true, false, List, [], ◌∷◌, ◌++◌, length, Some, Ok, codes}
 use Rattle.std.specs.List.{All}
 use Rattle.std.specs.Str.Lines.{lines}
 use Rattle.sd_sid.specs.Mapping.{MappingValue}
@@ -22,13 +22,17 @@ use Rattle.sd_analysis.specs.Sufficient.{Parts, entries_or_none}
 use Rattle.sd_analysis.specs.declared.descendants.Descendant.{Descendant}
 use Rattle.sd_answer.specs.VerdictLines.{verdict_line}
 use Rattle.sd_check.specs.declared.verdict.Verdict.TheVariants.{Granted}
-use Rattle.sd_line.specs.Printed.{line, whole_line}
+use Rattle.sd_line.specs.Line.{LineOf}
 use Rattle.sd_answer.specs.Who.{rights_asked}
-use Rattle.sd_line.specs.declared.spelling.Spelling.{Spelling}
 use Rattle.sd_script.specs.Command.{line_asks}
-use Rattle.sd_script.specs.Deletion.{delete_right}
+use Rattle.sd_script.specs.Deletion.{delete_right, granted_by}
 use Rattle.sd_script.specs.Expect.{expect_line}
-use Rattle.sd_script.specs.Output.{IsAnswered, IsDone, Prints}
+use Rattle.sd_script.specs.Ids.{has_id}
+use Rattle.sd_script.specs.Output.{IsAnswered, IsDone}
+use Rattle.sd_script.specs.Printed.{IsNextServed, PrintsServed}
+use Rattle.sd_script.specs.declared.paths.PathSpelling.{PathSpelling}
+use Rattle.sd_script.specs.declared.script_state.ScriptState.{ScriptState}
+use Rattle.sd_line.specs.declared.print.Style.{Style}
 use Rattle.sd_review.specs.Laws.{AreGrantedAlike}
 use Rattle.sd_review.specs.Review.{Trees}
 use Rattle.sd_script.specs.Reply.{seen_line}
@@ -60,7 +64,7 @@ AsksNoAnalysis line =
 -- a line leaves one store, and unless it asks for an analysis it has one answer
 abbrev pub HasOneAnswer : Type 0
 HasOneAnswer =
-    (old : Session) (line one other : List ℕ) (new next : Session) → IsAnswered old line one new
+    (old : Session) (line : List ℕ) (one other : List LineOf) (new next : Session) → IsAnswered old line one new
     → IsAnswered old line other next
     → (AsksNoAnalysis line → one ≡ other) × (new ≡ next)
 
@@ -68,42 +72,41 @@ HasOneAnswer =
 abbrev pub HasOneOutput : Type 0
 HasOneOutput =
     (options : ScriptOptions) (text one other : List ℕ) → All AsksNoAnalysis (lines text)
-    → Prints options text one → Prints options text other → one ≡ other
+    → PrintsServed false options text one → PrintsServed false options text other → one ≡ other
 
 -- the answer to `why` begins with that to `check`, and after both the store is the same
 abbrev pub BeginsAsCheck : Type 0
 BeginsAsCheck =
     (notation : Notation) (old : Machine) (reader : ℕ) (path : Names) (token : TokenValue) (asked : ℕ)
-    (checked explained : List ℕ) (one other : Session)
+    (checked explained : List LineOf) (one other : Session)
     → IsDone (Opened notation old) (Asking (Check reader path token asked)) checked one
     → IsDone (Opened notation old) (AskingNode reader path (Why token asked)) explained other
-    → ((reasons : List ℕ) × (explained ≡ checked ++ reasons)) × (other ≡ one)
+    → ((reasons : List LineOf) × (explained ≡ checked ++ reasons)) × (other ≡ one)
 
 -- a check of a published tree of so many edits is answered by a grant
-abbrev pub IsGranted : Spelling → ℕ → List ℕ → Type 0
-IsGranted spelling len printed =
-    (mask : ℕ) × (printed ≡ seen_line len (whole_line spelling (verdict_line (Granted mask))))
+abbrev pub IsGranted : ℕ → List LineOf → Type 0
+IsGranted len answer = (mask : ℕ) × (answer ≡ seen_line len (verdict_line (Granted mask)) ∷ [])
 
-abbrev pub by_node_line : ℕ → List ℕ
-by_node_line len = seen_line len (line (codes "granted by node"))
+abbrev pub by_node : ℕ → List LineOf
+by_node len = seen_line len (granted_by (codes "node")) ∷ []
 
 -- `delete` is granted by the node just where `check` for DELETE is granted, and leaves the same store
 abbrev pub DeletesAsChecked : Type 0
 DeletesAsChecked =
     (notation : Notation) (old : Machine) (reader : ℕ) (path : Names) (token : TokenValue)
-    (checked deleted : List ℕ) (one other : Session)
+    (checked deleted : List LineOf) (one other : Session)
     → IsDone (Opened notation old) (Asking (Check reader path token delete_right)) checked one
     → IsDone (Opened notation old) (AskingNode reader path (Delete token)) deleted other
-    → (IsGranted notation.spelling (length old.published) checked → deleted ≡ by_node_line (length old.published))
-    × (deleted ≡ by_node_line (length old.published) → IsGranted notation.spelling (length old.published) checked)
+    → (IsGranted (length old.published) checked → deleted ≡ by_node (length old.published))
+    × (deleted ≡ by_node (length old.published) → IsGranted (length old.published) checked)
     × (other ≡ one)
 
 -- a node of the new tree for which a review prints no line: no check of it is answered otherwise, whatever the token
 -- is. Each bit of a request counts; MAXIMUM_ALLOWED, place 25, is none that is granted
 abbrev pub SilentNodeIsUnchanged : Type 0
 SilentNodeIsUnchanged =
-    (notation : Notation) (ts : Trees) (top path : Names) (row : NodeRow) (token : TokenValue) (asked : ℕ)
-    → IsNodeReview notation ts top (path, row) [] → is_within top path ≡ true → row_at ts.new path ≡ Some row
+    (paths : PathSpelling) (ts : Trees) (top path : Names) (row : NodeRow) (token : TokenValue) (asked : ℕ)
+    → IsNodeReview paths ts top (path, row) [] → is_within top path ≡ true → row_at ts.new path ≡ Some row
     → holds asked 25 ≡ false
     → reply_in ts.mapping ts.old path token asked ≡ reply_in ts.mapping ts.new path token asked
 
@@ -115,16 +118,16 @@ made_in g t path d = descendant_parts (list_of g d (entries_or_none (dacl_at g t
 -- and if it is a container, no bit of what is made in it is granted otherwise
 abbrev pub SilentContainerPassesDownTheSame : Type 0
 SilentContainerPassesDownTheSame =
-    (notation : Notation) (ts : Trees) (top path : Names) (row : NodeRow) (d : Descendant)
-    → IsNodeReview notation ts top (path, row) [] → is_within top path ≡ true → row_at ts.new path ≡ Some row
+    (paths : PathSpelling) (ts : Trees) (top path : Names) (row : NodeRow) (d : Descendant)
+    → IsNodeReview paths ts top (path, row) [] → is_within top path ≡ true → row_at ts.new path ≡ Some row
     → row.kind ≡ Container
     → AreGrantedAlike ts.mapping (made_in ts.mapping ts.old path d) (made_in ts.mapping ts.new path d)
 
 -- a review that prints its last line alone: no check at or below its path is
 abbrev pub SilentReviewChangesNothing : Type 0
 SilentReviewChangesNothing =
-    (notation : Notation) (m : Machine) (top path : Names) (token : TokenValue) (asked : ℕ)
-    → IsReview notation m top (reviewed_line (length m.published) (length (accepted m)))
+    (paths : PathSpelling) (m : Machine) (top path : Names) (token : TokenValue) (asked : ℕ)
+    → IsReview paths m top (reviewed_line (length m.published) (length (accepted m)) ∷ [])
     → is_within top path ≡ true → holds asked 25 ≡ false
     → answer m.opening m.published path token asked ≡ answer m.opening (accepted m) path token asked
 
@@ -138,6 +141,11 @@ HasOneOf groups t =
 abbrev pub OnlyTheseAreGranted : Type 0
 OnlyTheseAreGranted =
     (g : MappingValue) (d : DescriptorValue) (groups : List (SidValue × GroupState)) (t : TokenValue) (asked b : ℕ)
-    → IsOnly g (Some d) asked groups (expect_line true) → t.privileges ≡ no_privileges → b < 21
+    → IsOnly g (Some d) asked groups (expect_line true ∷ []) → t.privileges ≡ no_privileges → b < 21
     → holds (rights_asked g asked) b ≡ true → is_granted d.owner (dacl_entries d.dacl) g t b ≡ true
     → HasOneOf groups t
+
+-- with ids, a line whose first word is no id changes nothing
+abbrev pub NoCommandWithoutAnId : Type 0
+NoCommandWithoutAnId = (style : Style) (old new : ScriptState) (line text : List ℕ)
+    → has_id line ≡ false → IsNextServed true style old line text new → new.session ≡ old.session

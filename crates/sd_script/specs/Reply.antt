@@ -1,10 +1,8 @@
 -- The line of each reply of a store.
-use Rattle.std.specs.Prelude.{ℕ, List, ◌++◌, Option, Some, None, option_map, codes}
-use Rattle.std.specs.Fmt.{decimal}
+use Rattle.std.specs.Prelude.{ℕ, List, [], ◌∷◌, Option, Some, None, option_map, codes}
 use Rattle.sd_acl.specs.Descriptor.{DescriptorValue, descriptor_of}
 use Rattle.sd_check.specs.Token.{TokenValue}
 use Rattle.sd_sid.specs.Mapping.{MappingValue}
-use Rattle.sd_text.specs.Canon.{canon_in}
 use Rattle.sd_edit.specs.Refusals.{number_of, name_of}
 use Rattle.sd_edit.specs.declared.refusal.EditRefusal.{EditRefusal}
 use Rattle.sd_edit.specs.declared.reply.CheckReply.{CheckReply}
@@ -16,57 +14,71 @@ use Rattle.sd_edit.specs.declared.start.StartError.{StartError}
 use Rattle.sd_edit.specs.declared.start.StartError.TheVariants as starts
 use Rattle.sd_answer.specs.VerdictLines.{verdict_line}
 use Rattle.sd_answer.specs.Why.{why_lines}
-use Rattle.sd_line.specs.Printed.{line, lines_text, whole_line}
-use Rattle.sd_line.specs.Spelling.{right_names_of}
-use Rattle.sd_line.specs.declared.spelling.Spelling.{Spelling}
+use Rattle.sd_answer.specs.declared.forms.TheConstants.{LEARNED, NO_NODE, NO_NOTICE, NO_READER, OK, PUBLISHED}
+use Rattle.sd_answer.specs.declared.forms.TheConstants.{REFUSED, REFUSED_NAMED, SEEN, SHOWN, TOLD}
+use Rattle.sd_line.specs.Line.{Form, LineOf, form, line_of, part_of, with_head}
+use Rattle.sd_line.specs.declared.line.Value.TheVariants.{Descriptor, Number, Text, Words}
 
-abbrev pub refused_line : EditRefusal → List ℕ
-refused_line refusal = line (codes "refused " ++ decimal (number_of refusal) ++ codes " " ++ name_of refusal)
+-- a line without a value
+abbrev pub plain_line : Form → LineOf
+plain_line f = line_of f []
 
--- a word and a number
-abbrev pub counted_line : List ℕ → ℕ → List ℕ
-counted_line word n = line (word ++ codes " " ++ decimal n)
+-- a line of a number
+abbrev pub counted_line : Form → ℕ → LineOf
+counted_line f n = line_of f (Number n ∷ [])
 
--- by how long a journal, and what it gives to the end of the line
-abbrev pub seen_line : ℕ → List ℕ → List ℕ
-seen_line seen what = codes "seen " ++ decimal seen ++ codes " " ++ what
+-- `ok`, and what it says of entries
+abbrev pub ok_line : List (List ℕ) → LineOf
+ok_line words = line_of (form OK) (Words words ∷ [])
 
-abbrev pub check_line : Spelling → CheckReply → List ℕ
-check_line spelling (checks.Verdict verdict) = whole_line spelling (verdict_line verdict)
-check_line spelling checks.NoNode = line (codes "nonode")
+abbrev pub refused_line : EditRefusal → LineOf
+refused_line refusal =
+    line_of (form REFUSED_NAMED) (Number (number_of refusal) ∷ Text (name_of refusal) ∷ [])
 
--- a descriptor's text: a mask is a number or a name of its kind of object, as the spelling has it
-abbrev pub shown_sddl : Spelling → DescriptorValue → List ℕ
-shown_sddl spelling d = canon_in (right_names_of spelling) d
+-- after by how long a journal it is answered
+abbrev pub seen_line : ℕ → LineOf → LineOf
+seen_line seen what = with_head (part_of SEEN.now (Number seen ∷ [])) what
 
-abbrev pub shown_line : Spelling → Option DescriptorValue → List ℕ
-shown_line spelling (Some d) = line (codes "shown " ++ shown_sddl spelling d)
-shown_line spelling None = line (codes "nonode")
+abbrev pub check_line : CheckReply → LineOf
+check_line (checks.Verdict verdict) = verdict_line verdict
+check_line checks.NoNode = plain_line (form NO_NODE)
+
+abbrev pub shown_line : Option DescriptorValue → LineOf
+shown_line (Some d) = line_of (form SHOWN) (Descriptor d ∷ [])
+shown_line None = plain_line (form NO_NODE)
 
 -- out of memory has no line
-abbrev pub reply_line : Spelling → Reply → Option (List ℕ)
-reply_line spelling Edited = Some (line (codes "ok"))
-reply_line spelling (Refused refusal) = Some (refused_line refusal)
-reply_line spelling (Published len) = Some (counted_line (codes "published") len)
-reply_line spelling (Told len) = Some (counted_line (codes "told") len)
-reply_line spelling (Learned floor) = Some (counted_line (codes "learned") floor)
-reply_line spelling (Answered answer) = Some (seen_line answer.seen (check_line spelling answer.reply))
-reply_line spelling (Shown seen descriptor) =
-    Some (seen_line seen (shown_line spelling (option_map descriptor_of descriptor)))
-reply_line spelling NoReader = Some (line (codes "noreader"))
-reply_line spelling NoNotice = Some (line (codes "nonotice"))
-reply_line spelling Memory = None
+abbrev pub reply_line : Reply → Option LineOf
+reply_line Edited = Some (ok_line [])
+reply_line (Refused refusal) = Some (refused_line refusal)
+reply_line (Published len) = Some (counted_line (form PUBLISHED) len)
+reply_line (Told len) = Some (counted_line (form TOLD) len)
+reply_line (Learned floor) = Some (counted_line (form LEARNED) floor)
+reply_line (Answered answer) = Some (seen_line answer.seen (check_line answer.reply))
+reply_line (Shown seen descriptor) = Some (seen_line seen (shown_line (option_map descriptor_of descriptor)))
+reply_line NoReader = Some (plain_line (form NO_READER))
+reply_line NoNotice = Some (plain_line (form NO_NOTICE))
+reply_line Memory = None
 
 -- nor has the error that a store of one thread never returns
-abbrev pub start_error_line : StartError → Option (List ℕ)
-start_error_line starts.Readers = Some (line (codes "refused readers"))
+abbrev pub start_error_line : StartError → Option LineOf
+start_error_line starts.Readers = Some (line_of (form REFUSED) (Text (codes "readers") ∷ []))
 start_error_line (starts.Root refusal) = Some (refused_line refusal)
 start_error_line starts.Memory = None
 start_error_line starts.Place = None
 
--- ---- why
+-- an answer of one line, where there is one
+abbrev pub alone : Option LineOf → Option (List LineOf)
+alone line = option_map (λ (l : LineOf). l ∷ []) line
+
+-- ---- several lines
+
+-- the first of them after by how long a journal they are
+abbrev pub seen_lines : ℕ → List LineOf → List LineOf
+seen_lines seen [] = []
+seen_lines seen (first ∷ more) = seen_line seen first ∷ more
 
 -- the explanation by the descriptor of a node, where there is one
-abbrev pub node_why_text : Spelling → MappingValue → TokenValue → ℕ → Option DescriptorValue → List ℕ
-node_why_text spelling g t asked None = line (codes "nonode")
-node_why_text spelling g t asked (Some d) = lines_text spelling (why_lines g d t asked)
+abbrev pub node_why_lines : MappingValue → TokenValue → ℕ → Option DescriptorValue → List LineOf
+node_why_lines g t asked None = plain_line (form NO_NODE) ∷ []
+node_why_lines g t asked (Some d) = why_lines g d t asked

@@ -1,9 +1,9 @@
 -- What is counted of a script's lines, beside what they are answered by.
 use Rattle.std.specs.Prelude.{ℕ, ◌+◌, ◌-◌, ◌^◌, Bool, false, not, ◌&&◌, ◌||◌, ◌==◌, nat_eq, List, [], ◌∷◌, min}
-use Rattle.std.specs.Prelude.{Option, Some, None, if◌then◌else◌, codes, bytes_eq}
+use Rattle.std.specs.Prelude.{Option, Some, None, if◌then◌else◌, codes}
 use Rattle.std.specs.List.{starts_with}
 use Rattle.std.specs.Option.{option_or}
-use Rattle.sd_line.specs.Printed.{line}
+use Rattle.sd_line.specs.Line.{LineOf, is_of, says}
 use Rattle.sd_script.specs.Expect.{is_expectation}
 use Rattle.sd_script.specs.Lines.{is_silent}
 use Rattle.sd_script.specs.declared.script_counts.ScriptCounts.{ScriptCounts}
@@ -22,18 +22,26 @@ no_lines = record {
   begins_as_utf16 = false;
 }
 
+-- the answer has a first line, and this holds of it
+abbrev pub first_is : (LineOf → Bool) → List LineOf → Bool
+first_is test [] = false
+first_is test (first ∷ more) = test first
+
 -- the answer is a fault or a refusal
-abbrev pub tells_fault : List ℕ → Bool
-tells_fault answer = starts_with nat_eq answer (codes "fault ") || starts_with nat_eq answer (codes "refused ")
+abbrev pub tells_fault : List LineOf → Bool
+tells_fault answer = first_is (λ l. is_of (codes "fault") l || is_of (codes "refused") l) answer
+
+-- the answer is `ok` with this word
+abbrev pub is_ok_and : List ℕ → List LineOf → Bool
+is_ok_and word answer = first_is (λ l. is_of (codes "ok") l && says word l) answer
 
 -- the answer says that an imported node inherits otherwise than it did
-abbrev pub tells_difference : List ℕ → Bool
-tells_difference answer = starts_with nat_eq answer (codes "ok differs")
+abbrev pub tells_difference : List LineOf → Bool
+tells_difference answer = is_ok_and (codes "differs") answer
 
 -- the answer says that the own entries of an imported node were put in another order
-abbrev pub tells_order : List ℕ → Bool
-tells_order answer =
-    bytes_eq answer (line (codes "ok reordered")) || bytes_eq answer (line (codes "ok differs reordered"))
+abbrev pub tells_order : List LineOf → Bool
+tells_order answer = is_ok_and (codes "reordered") answer
 
 -- UTF-8's byte order mark
 abbrev pub has_mark : List ℕ → Bool
@@ -54,11 +62,11 @@ abbrev pub is_utf16 : List ℕ → Bool
 is_utf16 text = has_utf16_mark text || alternates_with_zero text
 
 -- the line was carried out: it asks for something, which is neither a fault nor refused
-abbrev pub is_carried_out : List ℕ → List ℕ → Bool
+abbrev pub is_carried_out : List ℕ → List LineOf → Bool
 is_carried_out text answer = not (is_silent text) && not (tells_fault answer)
 
 -- the line expects an answer, and isn't answered by it
-abbrev pub is_unmet : List ℕ → List ℕ → Bool
+abbrev pub is_unmet : List ℕ → List LineOf → Bool
 is_unmet text answer = is_expectation text && tells_fault answer
 
 -- one more, as far as 64 bits count
@@ -81,7 +89,7 @@ abbrev pub begins : ScriptCounts → Bool → Bool → Bool
 begins t before holds = before || (t.lines == 0 && holds)
 
 -- with one line more, and what it is answered by
-abbrev pub tallied : List ℕ → List ℕ → ScriptCounts → ScriptCounts
+abbrev pub tallied : List ℕ → List LineOf → ScriptCounts → ScriptCounts
 tallied text answer t = record {
   lines = next_number t;
   carried_out = one_more_where (is_carried_out text answer) t.carried_out;

@@ -1,7 +1,6 @@
--- What `who` prints of a node: whom its descriptor grants which rights, of all tokens that have a base. And what
+-- What `who` answers of a node: whom its descriptor grants which rights, of all tokens that have a base. And what
 -- `expect-only` does: whether it grants them to given groups alone.
-use Rattle.std.specs.Prelude.{◌≡◌, ℕ, ◌==◌, Bool, false, not, ◌&&◌, List, [], length, Option, Some, None}
-use Rattle.std.specs.Prelude.{if◌then◌else◌, codes}
+use Rattle.std.specs.Prelude.{◌≡◌, ℕ, ◌==◌, Bool, false, not, ◌&&◌, List, [], ◌∷◌, Option, Some, None}
 use Rattle.std.specs.List.{list_all}
 use Rattle.sd_sid.specs.Mask.{holds, mask_of}
 use Rattle.sd_sid.specs.Mapping.{MappingValue}
@@ -11,27 +10,28 @@ use Rattle.sd_check.specs.Check.{dacl_entries}
 use Rattle.sd_check.specs.declared.token.GroupState.{GroupState}
 use Rattle.sd_analysis.specs.Who.{AllBeyond, HasEachOnce, IsMost, IsWho, is_in_base}
 use Rattle.sd_analysis.specs.declared.who_has.Access.{Access}
-use Rattle.sd_line.specs.Printed.{line, lines_text}
+use Rattle.sd_answer.specs.declared.forms.TheConstants.{EMPTY, NO_NODE}
+use Rattle.sd_line.specs.Line.{LineOf, form}
 use Rattle.sd_answer.specs.Who.{rights_asked, who_lines}
-use Rattle.sd_line.specs.declared.spelling.Spelling.{Spelling}
 use Rattle.sd_script.specs.Expect.{expect_line}
+use Rattle.sd_script.specs.Reply.{plain_line}
 
--- where no right is asked about, the answer says so: none is an empty line alone
-abbrev pub or_empty : List ℕ → List ℕ
-or_empty text = if length text == 0 then line (codes "empty") else text
+-- where no right is asked about, the answer says so
+abbrev pub or_empty : List LineOf → List LineOf
+or_empty [] = plain_line (form EMPTY) ∷ []
+or_empty (first ∷ more) = first ∷ more
 
 -- the lines of accesses that say exactly who is granted each right once: of tokens with the base, as `who` of
 -- sd_analysis promises. A node that isn't there has its own answer
-abbrev pub IsWhoText : Spelling → MappingValue → Option DescriptorValue → ℕ → List (SidValue × GroupState) → List ℕ
-    → Type 0
-IsWhoText spelling g None asked base printed = printed ≡ line (codes "nonode")
-IsWhoText spelling g (Some d) asked base printed =
+abbrev pub IsWhoAnswer : MappingValue → Option DescriptorValue → ℕ → List (SidValue × GroupState) → List LineOf → Type 0
+IsWhoAnswer g None asked base answer = answer ≡ plain_line (form NO_NODE) ∷ []
+IsWhoAnswer g (Some d) asked base answer =
     (all : List Access)
     × IsWho d.owner (dacl_entries d.dacl) g base (rights_asked g asked) all
     × IsMost d.owner (dacl_entries d.dacl) g base (rights_asked g asked) all
     × HasEachOnce (rights_asked g asked) all
     × AllBeyond base all
-    × (printed ≡ or_empty (lines_text spelling (who_lines all)))
+    × (answer ≡ or_empty (who_lines all))
 
 -- no right of objects is asked about, which are those below place 21
 abbrev pub asks_no_right : ℕ → Bool
@@ -46,11 +46,11 @@ are_for groups all = list_all (is_for groups) all
 
 -- `ok` where the node is there, a right is asked about, and accesses that say exactly who of all tokens is granted each
 -- right once are for the groups alone
-abbrev pub IsOnly : MappingValue → Option DescriptorValue → ℕ → List (SidValue × GroupState) → List ℕ → Type 0
-IsOnly g None asked groups printed = printed ≡ expect_line false
-IsOnly g (Some d) asked groups printed =
+abbrev pub IsOnly : MappingValue → Option DescriptorValue → ℕ → List (SidValue × GroupState) → List LineOf → Type 0
+IsOnly g None asked groups answer = answer ≡ expect_line false ∷ []
+IsOnly g (Some d) asked groups answer =
     (all : List Access)
     × IsWho d.owner (dacl_entries d.dacl) g [] (rights_asked g asked) all
     × IsMost d.owner (dacl_entries d.dacl) g [] (rights_asked g asked) all
     × HasEachOnce (rights_asked g asked) all
-    × (printed ≡ expect_line (not (asks_no_right (rights_asked g asked)) && are_for groups all))
+    × (answer ≡ expect_line (not (asks_no_right (rights_asked g asked)) && are_for groups all) ∷ [])

@@ -1,9 +1,12 @@
 //! Whether a user may delete a node, as NTFS judges it.
 ghost use Rattle.std.specs.Prelude.{◌≡◌, IfOk};
-ghost use Rattle.sd_script.specs.Deletion.{deletion_line, parent_grants, parent_of};
+ghost use Rattle.sd_script.specs.Deletion.{deletion_line, granted_by, parent_grants, parent_of};
 
 use crate::listing::grants;
+use crate::reply::plain_line;
+use sd_answer::{DENIED_ALL, GRANTED_BY, NO_NODE};
 use sd_check::Token;
+use sd_line::{Line, Value};
 use sd_path::MAX_NAMES;
 use sd_sid::Mask;
 use sd_tree::{CheckReply, Path, Tree};
@@ -43,14 +46,25 @@ fn parent_of(alloc: Global, path: &Path) -> Result<Option<Path>, AllocError>
     Ok(Some(parent))
 }
 
-/// Which descriptor grants the deletion: the node's own first.
-pub(crate) fn deletion_line(reply: CheckReply, by_parent: bool) -> &'static str
-    ensures { result.now ≡ deletion_line reply by_parent }
+/// Which descriptor grants the deletion: the node's own first. The only error is out of memory.
+pub(crate) fn deletion_line(
+    alloc: Global,
+    reply: CheckReply,
+    by_parent: bool,
+) -> Result<Line, AllocError>
+    ensures { IfOk result (λ line. line ≡ deletion_line reply by_parent) }
 {
     match reply {
-        CheckReply::NoNode => "nonode\n",
-        CheckReply::Verdict(_) if grants(reply) => "granted by node\n",
-        CheckReply::Verdict(_) if by_parent => "granted by parent\n",
-        CheckReply::Verdict(_) => "denied\n",
+        CheckReply::NoNode => plain_line(alloc, NO_NODE),
+        CheckReply::Verdict(_) if grants(reply) => granted_by(alloc, "node"),
+        CheckReply::Verdict(_) if by_parent => granted_by(alloc, "parent"),
+        CheckReply::Verdict(_) => plain_line(alloc, DENIED_ALL),
     }
+}
+
+fn granted_by(alloc: Global, whom: &str) -> Result<Line, AllocError>
+    ensures { IfOk result (λ line. line ≡ granted_by whom.now) }
+{
+    let whom = Value::word(alloc, whom)?;
+    Line::new(alloc, GRANTED_BY, vec![in alloc; whom]?)
 }

@@ -4,19 +4,23 @@ ghost use Rattle.sd_script.specs.Expect.{expect_line, expects, is_expectation, i
 ghost use Rattle.sd_script.specs.Expect.{spelled_byte, without_feed};
 
 use crate::lines::{head_len, word_len};
+use crate::reply::ok_line;
+use sd_answer::fault_line;
+use sd_line::{Line, Spelling, lines_text};
 use std::alloc::{AllocError, Global};
 use std::marker::Model;
 
-/// The last answer, if any line was answered. Contracts see its bytes.
-#[derive(Debug, Drop)]
+/// The last answer, if any line was answered. Contracts see its lines.
+#[derive(Drop)]
 pub struct LastAnswer {
-    answer: Option<Vec<u8>>,
+    answer: Option<Vec<Line>>,
 }
 
 impl Model for LastAnswer {
-    ghost use Rattle.std.specs.Prelude.{ℕ, List, Option, option_map};
+    ghost use Rattle.std.specs.Prelude.{List, Option, option_map};
+    ghost use Rattle.sd_line.specs.Line.{LineOf};
 
-    ghost Value = { Option (List ℕ) };
+    ghost Value = { Option (List LineOf) };
 
     ghost view = { λ a. option_map (λ answer. answer.items) a.answer };
 }
@@ -29,22 +33,29 @@ impl LastAnswer {
         LastAnswer { answer: None }
     }
 
-    /// This whole answer, with all its lines. The only error is out of memory.
-    pub(crate) fn of(alloc: Global, answer: &[u8]) -> Result<LastAnswer, AllocError>
-        ensures { IfOk result (λ last. last ≡ Some answer.now) }
+    /// This whole answer, with all its lines.
+    pub(crate) fn of(answer: Vec<Line>) -> LastAnswer
+        ensures { result ≡ Some answer.items }
     {
-        let answer = Some(Vec::from_slice(alloc, answer)?);
-        Ok(LastAnswer { answer })
+        LastAnswer {
+            answer: Some(answer),
+        }
     }
 
-    /// Whether all that comes after the first word and a space of a line spells this answer. The only error is out of
-    /// memory.
-    pub(crate) fn meets(&self, alloc: Global, line: &[u8]) -> Result<bool, AllocError>
-        ensures { IfOk result (λ met. met ≡ is_met self.now line.now) }
+    /// Whether all that comes after the first word and a space of a line spells this answer, with masks in this
+    /// spelling. The only error is out of memory.
+    pub(crate) fn meets(
+        &self,
+        alloc: Global,
+        spelling: Spelling,
+        line: &[u8],
+    ) -> Result<bool, AllocError>
+        ensures { IfOk result (λ met. met ≡ is_met spelling self.now line.now) }
     {
         match &self.answer {
             Some(answer) => {
-                let text = spelled(alloc, answer)?;
+                let text = lines_text(alloc, spelling, answer)?;
+                let text = spelled(alloc, text.as_bytes())?;
                 Ok(text.as_slice() == &line[head_len(line)..])
             }
             None => Ok(false),
@@ -52,16 +63,15 @@ impl LastAnswer {
     }
 }
 
-/// How an answer is expected: all its lines in one, joined by `\n`.
-fn spelled(alloc: Global, answer: &[u8]) -> Result<Vec<u8>, AllocError>
-    ensures { IfOk result (λ text. text.items ≡ spelled answer.now) }
+/// How the text of an answer is expected: all its lines in one, joined by `\n`.
+fn spelled(alloc: Global, text: &[u8]) -> Result<Vec<u8>, AllocError>
+    ensures { IfOk result (λ one. one.items ≡ spelled text.now) }
 {
-    let lines = lines_of(answer);
-    let mut text = Vec::new(alloc);
-    for byte in lines {
-        push_spelled(&mut text, *byte)?;
+    let mut one = Vec::new(alloc);
+    for byte in lines_of(text) {
+        push_spelled(&mut one, *byte)?;
     }
-    Ok(text)
+    Ok(one)
 }
 
 fn push_spelled(text: &mut Vec<u8>, byte: u8) -> Result<(), AllocError>
@@ -74,11 +84,11 @@ fn push_spelled(text: &mut Vec<u8>, byte: u8) -> Result<(), AllocError>
     }
 }
 
-/// An answer without the end of its last line, and without the empty line that ends several.
-fn lines_of(answer: &[u8]) -> &[u8]
-    ensures { result.now ≡ lines_of answer.now }
+/// The text of an answer without the end of its last line, and without the empty line that ends several.
+fn lines_of(text: &[u8]) -> &[u8]
+    ensures { result.now ≡ lines_of text.now }
 {
-    without_feed(without_feed(answer))
+    without_feed(without_feed(text))
 }
 
 fn without_feed(text: &[u8]) -> &[u8]
@@ -90,11 +100,15 @@ fn without_feed(text: &[u8]) -> &[u8]
     }
 }
 
-/// What a line is answered by whose expectation is met, or isn't.
-pub(crate) fn expect_line(is_met: bool) -> &'static str
-    ensures { result.now ≡ expect_line is_met }
+/// What a line is answered by whose expectation is met, or isn't. The only error is out of memory.
+pub(crate) fn expect_line(alloc: Global, is_met: bool) -> Result<Line, AllocError>
+    ensures { IfOk result (λ line. line ≡ expect_line is_met) }
 {
-    if is_met { "ok\n" } else { "fault expect\n" }
+    if is_met {
+        ok_line(alloc, &[])
+    } else {
+        fault_line(alloc, "expect")
+    }
 }
 
 /// Whether a line expects the last answer, by its first word.

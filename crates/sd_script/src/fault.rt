@@ -1,10 +1,10 @@
 //! What is wrong with a line.
-ghost use Rattle.std.specs.Prelude.{◌≡◌, IfOk, string_bytes};
-ghost use Rattle.sd_script.specs.Fault.{fault_text, line_of_fault};
+ghost use Rattle.std.specs.Prelude.{◌≡◌, IfOk};
+ghost use Rattle.sd_script.specs.Fault.{line_of_fault};
 ghost use Rattle.sd_script.specs.declared.fault.LineStop.TheVariants as stops;
 
 use sd_answer::{fault_line, sddl_fault_line};
-use sd_line::{Spelling, whole_line};
+use sd_line::Line;
 use sd_text::TextFault;
 use std::alloc::{AllocError, Global};
 
@@ -58,30 +58,20 @@ impl From<AllocError> for LineStop {
     }
 }
 
-/// The line of the fault, as `fault words`.
-pub fn line_of_fault(alloc: Global, fault: LineFault) -> Result<String, AllocError>
-    ensures { IfOk result (λ text. string_bytes text ≡ line_of_fault fault) }
+/// The line of the fault, as `fault words`. The only error is out of memory.
+pub fn line_of_fault(alloc: Global, fault: LineFault) -> Result<Line, AllocError>
+    ensures { IfOk result (λ line. line ≡ line_of_fault fault) }
 {
     match fault {
-        LineFault::Utf8 => fault_text(alloc, "utf8"),
-        LineFault::Words => fault_text(alloc, "words"),
-        LineFault::Open => fault_text(alloc, "open"),
-        LineFault::Number => fault_text(alloc, "number"),
-        LineFault::Path => fault_text(alloc, "path"),
-        LineFault::Sid => fault_text(alloc, "sid"),
-        LineFault::Sddl { fault, place } => {
-            let line = sddl_fault_line(alloc, fault, place)?;
-            whole_line(alloc, Spelling::Number, &line)
-        }
-        LineFault::Parts => fault_text(alloc, "parts"),
-        LineFault::Mask => fault_text(alloc, "mask"),
-        LineFault::Token => fault_text(alloc, "token"),
+        LineFault::Utf8 => fault_line(alloc, "utf8"),
+        LineFault::Words => fault_line(alloc, "words"),
+        LineFault::Open => fault_line(alloc, "open"),
+        LineFault::Number => fault_line(alloc, "number"),
+        LineFault::Path => fault_line(alloc, "path"),
+        LineFault::Sid => fault_line(alloc, "sid"),
+        LineFault::Sddl { fault, place } => sddl_fault_line(alloc, fault, place),
+        LineFault::Parts => fault_line(alloc, "parts"),
+        LineFault::Mask => fault_line(alloc, "mask"),
+        LineFault::Token => fault_line(alloc, "token"),
     }
-}
-
-/// The text of the line of an invalid argument, as `fault sid`.
-pub fn fault_text(alloc: Global, what: &str) -> Result<String, AllocError>
-    ensures { IfOk result (λ text. string_bytes text ≡ fault_text what.now) }
-{
-    whole_line(alloc, Spelling::Number, &fault_line(alloc, what)?)
 }

@@ -1,14 +1,14 @@
-//! How each line of a script is answered; with ids, each line of its answer begins with the line's id, or is an object
-//! of JSON that has the id.
+//! How each line of a script is answered; with ids, each line of its answer has the line's id.
 
-ghost use Rattle.std.specs.Prelude.{◌≡◌, ◌≤◌, true, length, IfOk, IfSome};
-ghost use Rattle.sd_script.specs.Ids.{IsNextIn, has_id, tag_len, tagged};
-ghost use Rattle.sd_script.specs.Printed.{IsNextServed, served_tagging};
+ghost use Rattle.std.specs.Prelude.{◌≡◌, ◌≤◌, true, length, IfSome};
+ghost use Rattle.sd_line.specs.Printed.{tag_of};
+ghost use Rattle.sd_script.specs.Ids.{has_id, tag_len};
+ghost use Rattle.sd_script.specs.Printed.{IsNextServed, asked_in, tag_in};
 
 use crate::lines::{head_len, is_silent, word_len};
-use crate::script::answer_line;
+use crate::script::push_answer;
 use crate::script_state::ScriptState;
-use sd_json::{Tagging, printed_as};
+use sd_line::{Style, Tag};
 use sd_lines::{AnswersLines, Ending, Form};
 use std::alloc::{AllocError, Global};
 
@@ -25,15 +25,15 @@ pub const LINES: Form = Form {
 pub(crate) struct Script {
     /// Whether its lines begin with ids: `serve` has more on them.
     pub(crate) has_ids: bool,
-    /// Whether each line of an answer is printed as an object of JSON.
-    pub(crate) is_json: bool,
+    /// How each answer is printed.
+    pub(crate) style: Style,
 }
 
 impl AnswersLines for Script {
     type State = ScriptState;
 
     ghost answers = { λ script old line printed new. IfSome line
-        (λ text. IsNextServed script.has_ids script.is_json old text printed new) };
+        (λ text. IsNextServed script.has_ids script.style old text printed new) };
 
     fn answer(
         &self,
@@ -46,43 +46,31 @@ impl AnswersLines for Script {
             // (a line that is too long has ended the script)
             return Ok(());
         };
-        let plain = answer_next(alloc, self.has_ids, state, line)?;
-        let printed = printed_as(alloc, self.is_json, self.tagging(line), plain)?;
-        text.extend_from_slice(&printed)
+        let (tag, asked) = (tag_in(self.has_ids, line), asked_in(self.has_ids, line));
+        push_answer(alloc, state, self.style, tag, asked, text)
     }
 }
 
-impl Script {
-    /// What each line of the answer to a line begins with.
-    fn tagging(&self, line: &[u8]) -> Tagging
-        ensures { result ≡ served_tagging self.now.has_ids line.now }
-    {
-        if self.has_ids && has_id(line) {
-            Tagging::Id
-        } else {
-            Tagging::Nothing
-        }
-    }
-}
-
-/// What a line is answered by, and counted: as in a script, or with ids what it asks, with its id. The only error is
-/// out of memory.
-fn answer_next(
-    alloc: Global,
-    has_ids: bool,
-    state: &mut ScriptState,
-    line: &[u8],
-) -> Result<Vec<u8>, AllocError>
-    ensures { IfOk result (λ printed. IsNextIn has_ids state.old line.now printed.items state.new) }
+/// What each line of the answer to a line begins with.
+fn tag_in(has_ids: bool, line: &[u8]) -> Tag<'_>
+    ensures { tag_of result ≡ tag_in has_ids line.now }
 {
-    if !has_ids {
-        let answer = answer_line(alloc, state, line)?;
-        return Ok(answer.into_bytes());
+    if has_ids && has_id(line) {
+        Tag::Id(&line[..word_len(line)])
+    } else {
+        Tag::None
     }
-    let (tag, asked) = line.split_at(tag_len(line));
-    let answer = answer_line(alloc, state, asked)?;
-    let printed = tagged(alloc, tag, answer.as_bytes())?;
-    Ok(printed)
+}
+
+/// What a line asks: with ids what comes after its id.
+fn asked_in(has_ids: bool, line: &[u8]) -> &[u8]
+    ensures { result.now ≡ asked_in has_ids line.now }
+{
+    if has_ids {
+        &line[tag_len(line)..]
+    } else {
+        line
+    }
 }
 
 /// The bytes of a line's id and of the space after it: none where its first word is no id.
@@ -100,20 +88,4 @@ fn has_id(line: &[u8]) -> bool
 {
     let word = &line[..word_len(line)];
     !is_silent(word) && word.iter().all(|b| b.is_ascii_graphic())
-}
-
-/// A text, each line of which begins with the tag. The only error is out of memory.
-pub fn tagged(alloc: Global, tag: &[u8], text: &[u8]) -> Result<Vec<u8>, AllocError>
-    ensures { IfOk result (λ lines. lines.items ≡ tagged tag.now true text.now) }
-{
-    let mut lines = Vec::new(alloc);
-    let mut begins = true;
-    for byte in text {
-        if begins {
-            lines.extend_from_slice(tag)?;
-        }
-        lines.push(*byte)?;
-        begins = *byte == b'\n';
-    }
-    Ok(lines)
 }

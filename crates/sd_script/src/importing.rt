@@ -1,12 +1,12 @@
 //! A node that comes with the descriptor that it had elsewhere.
-ghost use Rattle.std.specs.Prelude.{◌≡◌, [], IfOk, Some, filter, string_bytes};
+ghost use Rattle.std.specs.Prelude.{◌≡◌, [], IfOk, Some, filter, map};
 ghost use Rattle.std.specs.Bool.{Decides};
 ghost use Rattle.std.specs.Option.{unwrap_or};
 ghost use Rattle.sd_acl.specs.Canonical.{is_explicit, is_inherited};
 ghost use Rattle.sd_script.specs.Argument.{entries_in, given_in, imported, imported_dacl};
 ghost use Rattle.sd_script.specs.Command.{Parses, imports};
 ghost use Rattle.sd_script.specs.Fault.{UnlessMemory};
-ghost use Rattle.sd_script.specs.Importing.{AreOrderedAlike, InheritAlike, IsImported, entries_by, imported_line};
+ghost use Rattle.sd_script.specs.Importing.{AreOrderedAlike, InheritAlike, IsImported, entries_by, imported_words};
 ghost use Rattle.sd_edit.specs.Machine.{Machine, accepted};
 ghost use Rattle.sd_edit.specs.Answers.{descriptor_at};
 ghost use Rattle.sd_edit.specs.Journal.{replay};
@@ -14,9 +14,9 @@ ghost use Rattle.sd_edit.specs.Journal.{replay};
 use crate::argument::Parser;
 use crate::fault::{LineFault, LineStop};
 use crate::line_request::{LineRequest, Parsed};
-use crate::reply::reply_line;
+use crate::reply::{alone, ok_line, reply_line};
 use sd_acl::{Ace, Dacl, Descriptor, canonicalize};
-use sd_line::Spelling;
+use sd_line::Line;
 use sd_tree::{Edit, Entries, NodeDacl, NodeKind, Path, RootSpec, Tree, same_entries};
 use sd_versions::Reply;
 use std::alloc::{AllocError, Global};
@@ -103,29 +103,29 @@ fn explicit_in(alloc: Global, entries: &[Ace]) -> Result<Vec<Ace>, AllocError>
     Ok(explicit.copied().collect(alloc)?)
 }
 
-/// The line of the reply to an edit that imports the node of a path. Of one that was accepted it says whether the node,
-/// in the tree of all accepted edits, inherits what it had inherited elsewhere, where it had a DACL, and whether its
-/// own entries have the order that they had there. Out of memory has none.
-pub fn import_line(
+/// The answer to an edit that imports the node of a path. Of one that was accepted it says whether the node, in the
+/// tree of all accepted edits, inherits what it had inherited elsewhere, where it had a DACL, and whether its own
+/// entries have the order that they had there. Out of memory has none.
+pub fn import_answer(
     alloc: Global,
-    spelling: Spelling,
     tree: &Tree,
     path: &Path,
     given: &Option<Entries>,
-    reply: &Reply,
-) -> Result<String, AllocError>
+    reply: Reply,
+) -> Result<Vec<Line>, AllocError>
     ensures { (m : Machine) → m.opening ≡ tree.now.opening → accepted m ≡ tree.now.journal
-        → IfOk result (λ text. IsImported spelling m path.now given.now reply.now (string_bytes text)) }
+        → IfOk result (λ answer. IsImported m path.now given.now reply answer.items) }
 {
-    match reply {
+    let line = match reply {
         Reply::Edited => {
             let stored = entries_at(alloc, tree, path)?;
             let inherits = inherits_alike(alloc, &stored, given)?;
             let is_ordered = is_ordered_alike(alloc, &stored, given)?;
-            String::from_str(alloc, imported_line(inherits, is_ordered))
+            ok_line(alloc, imported_words(inherits, is_ordered))?
         }
-        _ => reply_line(alloc, spelling, reply),
-    }
+        reply => reply_line(alloc, reply)?,
+    };
+    alone(alloc, line)
 }
 
 /// Whether a node inherits what it had inherited elsewhere. One that had no DACL, which grants everything, doesn't.
@@ -166,14 +166,14 @@ fn entries_or_none(given: &Option<Entries>) -> &[Ace]
     }
 }
 
-fn imported_line(inherits_alike: bool, is_ordered_alike: bool) -> &'static str
-    ensures { result.now ≡ imported_line inherits_alike is_ordered_alike }
+fn imported_words(inherits_alike: bool, is_ordered_alike: bool) -> &'static [&'static str]
+    ensures { map (λ word. word.now) result.now ≡ imported_words inherits_alike is_ordered_alike }
 {
     match (inherits_alike, is_ordered_alike) {
-        (true, true) => "ok\n",
-        (true, false) => "ok reordered\n",
-        (false, true) => "ok differs\n",
-        (false, false) => "ok differs reordered\n",
+        (true, true) => &[],
+        (true, false) => &["reordered"],
+        (false, true) => &["differs"],
+        (false, false) => &["differs", "reordered"],
     }
 }
 

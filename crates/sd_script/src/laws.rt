@@ -1,8 +1,7 @@
-//! What follows from the output of a script. A law is the contract of a function that does nothing.
-ghost use Rattle.sd_script.specs.Ids.{NoCommandWithoutAnId};
+//! What follows from the answers of a script. A law is the contract of a function that does nothing.
 ghost use Rattle.sd_script.specs.Laws.{BeginsAsCheck, DeletesAsChecked, HasOneAnswer, HasOneOutput};
-ghost use Rattle.sd_script.specs.Laws.{OnlyTheseAreGranted, SilentContainerPassesDownTheSame, SilentNodeIsUnchanged};
-ghost use Rattle.sd_script.specs.Laws.{SilentReviewChangesNothing};
+ghost use Rattle.sd_script.specs.Laws.{NoCommandWithoutAnId, OnlyTheseAreGranted, SilentContainerPassesDownTheSame};
+ghost use Rattle.sd_script.specs.Laws.{SilentNodeIsUnchanged, SilentReviewChangesNothing};
 
 /// A line leaves one store and has one answer, unless it asks who is granted a right, or who is by the pending edits:
 /// those lines are exact in what they say.

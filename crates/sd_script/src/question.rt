@@ -1,20 +1,22 @@
 //! What a reader asks about the node of a path, beside a check and its descriptor.
-ghost use Rattle.std.specs.Prelude.{◌≡◌, ◌⊎◌, ℕ, List, IfOk, OnErr, option_map, string_bytes};
+ghost use Rattle.std.specs.Prelude.{◌≡◌, ◌⊎◌, List, IfOk, OnErr, option_map};
 ghost use Rattle.sd_acl.specs.Descriptor.{descriptor_of};
 ghost use Rattle.sd_edit.specs.Answers.{descriptor_at};
 ghost use Rattle.sd_edit.specs.Journal.{replay};
-ghost use Rattle.sd_script.specs.Question.{IsSeen, question_text};
+ghost use Rattle.sd_line.specs.Line.{LineOf};
+ghost use Rattle.sd_script.specs.Question.{IsSeen, question_lines};
+ghost use Rattle.sd_script.specs.Reply.{node_why_lines, seen_lines};
 ghost use Rattle.sd_script.specs.declared.session.Session.TheVariants.{Opened};
 
 use crate::deletion::{DELETE, deletion_line, parent_grants};
-use crate::listing::{NodeFilter, Printer};
-use crate::reply::{reply_line, seen_line};
+use crate::listing::{Lister, NodeFilter};
+use crate::reply::{alone, plain_line, reply_line, seen_line};
 use crate::script_options::Notation;
 use sd_acl::Descriptor;
-use sd_answer::why_lines;
+use sd_answer::{FOUND, NO_NODE, why_lines};
 use sd_check::Token;
-use sd_line::lines_text;
-use sd_sid::Mask;
+use sd_line::Line;
+use sd_sid::{GenericMapping, Mask};
 use sd_tree::Path;
 use sd_versions::{Desk, Reply, Request};
 use std::alloc::{AllocError, Global};
@@ -40,61 +42,89 @@ impl NodeQuestion {
         desk: &mut Desk,
         reader: u64,
         path: &Path,
-    ) -> Result<String, AllocError>
-        ensures done { IfOk result (λ text. IsSeen notation desk.old reader path.now self.now
-            (string_bytes text) (Opened notation desk.new)) }
-        ensures failed { OnErr result ((desk.new ≡ desk.old) ⊎ ((printed : List ℕ)
-            × IsSeen notation desk.old reader path.now self.now printed (Opened notation desk.new))) }
+    ) -> Result<Vec<Line>, AllocError>
+        ensures done { IfOk result (λ answer. IsSeen notation desk.old reader path.now self.now
+            answer.items (Opened notation desk.new)) }
+        ensures failed { OnErr result ((desk.new ≡ desk.old) ⊎ ((answer : List LineOf)
+            × IsSeen notation desk.old reader path.now self.now answer (Opened notation desk.new))) }
     {
         let path_asked = path.copy(alloc)?;
         let reply = desk.step(&Request::Show {
             reader,
             path: path_asked,
         });
-        match &reply {
-            Reply::Shown { descriptor, .. } => self.text(alloc, notation, desk, path, descriptor),
-            _ => reply_line(alloc, notation.spelling, &reply),
+        match reply {
+            Reply::Shown { descriptor, .. } => {
+                self.lines(alloc, notation, desk, path, &descriptor)
+            }
+            reply => alone(alloc, reply_line(alloc, reply)?),
         }
     }
 
-    /// What is printed for a reader that is there, by the descriptor of the node.
-    fn text(
+    /// The answer to a reader that is there, by the descriptor of the node.
+    fn lines(
         &self,
         alloc: Global,
         notation: Notation,
         desk: &Desk,
         path: &Path,
         descriptor: &Option<Descriptor>,
-    ) -> Result<String, AllocError>
+    ) -> Result<Vec<Line>, AllocError>
         requires { option_map descriptor_of descriptor.now ≡ descriptor_at desk.now.opening.mapping
             (replay desk.now.opening desk.now.published) path.now }
-        ensures { IfOk result (λ text. string_bytes text ≡ question_text notation desk.now path.now self.now) }
+        ensures { IfOk result (λ lines. lines.items ≡ question_lines notation desk.now path.now self.now) }
     {
         let tree = desk.published();
         match self {
             NodeQuestion::Why { token, asked } => {
-                let Some(descriptor) = descriptor else {
-                    return seen_line(alloc, tree.len(), "nonode\n");
-                };
-                let (mapping, spelling) = (tree.mapping(), notation.spelling);
-                let lines = why_lines(alloc, mapping, descriptor, token, *asked)?;
-                let text = lines_text(alloc, spelling, &lines)?;
-                seen_line(alloc, tree.len(), &text)
+                let lines = node_why_lines(alloc, tree.mapping(), token, *asked, descriptor)?;
+                seen_lines(alloc, tree.len(), lines)
             }
             NodeQuestion::Find(which) => {
-                let begins = seen_line(alloc, tree.len(), "")?;
-                let printer = Printer {
+                let no_node = seen_line(alloc, tree.len(), plain_line(alloc, NO_NODE)?)?;
+                let found = seen_line(alloc, tree.len(), plain_line(alloc, FOUND)?)?;
+                let lister = Lister {
                     alloc,
                     notation,
                     tree,
                 };
-                printer.nodes_text(path, which, &begins, "found\n")
+                lister.nodes_lines(path, which, no_node, alone(alloc, found)?)
             }
             NodeQuestion::Delete { token } => {
                 let by_parent = parent_grants(alloc, tree, path, token)?;
-                let what = deletion_line(tree.check(path, token, DELETE), by_parent);
-                seen_line(alloc, tree.len(), what)
+                let what = deletion_line(alloc, tree.check(path, token, DELETE), by_parent)?;
+                alone(alloc, seen_line(alloc, tree.len(), what)?)
             }
         }
     }
+}
+
+/// The explanation by the descriptor of a node, where there is one ([MS-DTYP] 2.5.3.2).
+fn node_why_lines(
+    alloc: Global,
+    mapping: &GenericMapping,
+    token: &Token,
+    asked: Mask,
+    descriptor: &Option<Descriptor>,
+) -> Result<Vec<Line>, AllocError>
+    ensures { IfOk result (λ lines. lines.items
+        ≡ node_why_lines mapping.now token.now asked (option_map descriptor_of descriptor.now)) }
+{
+    match descriptor {
+        Some(descriptor) => why_lines(alloc, mapping, descriptor, token, asked),
+        None => alone(alloc, plain_line(alloc, NO_NODE)?),
+    }
+}
+
+/// Lines of which the first says by how long a journal they are.
+fn seen_lines(alloc: Global, seen: u64, lines: Vec<Line>) -> Result<Vec<Line>, AllocError>
+    ensures { IfOk result (λ answer. answer.items ≡ seen_lines seen lines.items) }
+{
+    let mut lines = lines;
+    if lines.is_empty() {
+        return Ok(lines);
+    }
+    let first = lines.remove(0);
+    lines.insert(0, seen_line(alloc, seen, first)?)?;
+    Ok(lines)
 }

@@ -1,112 +1,119 @@
 //! The line of each reply of a store.
-ghost use Rattle.std.specs.Prelude.{◌≡◌, Some, IfOk, option_map, string_bytes};
+ghost use Rattle.std.specs.Prelude.{◌≡◌, ◌∷◌, [], Some, IfOk, map, option_map};
 ghost use Rattle.sd_acl.specs.Descriptor.{descriptor_of};
-ghost use Rattle.sd_script.specs.Reply.{check_line, counted_line, refused_line, reply_line, seen_line, shown_line};
-ghost use Rattle.sd_script.specs.Reply.{shown_sddl, start_error_line};
+ghost use Rattle.sd_line.specs.Line.{form_of};
+ghost use Rattle.sd_script.specs.Reply.{check_line, counted_line, ok_line, plain_line, refused_line, reply_line};
+ghost use Rattle.sd_script.specs.Reply.{seen_line, shown_line, start_error_line};
 
 use sd_acl::Descriptor;
-use sd_answer::verdict_line;
-use sd_line::{Spelling, whole_line};
-use sd_text::print_sddl_in;
+use sd_answer::{
+    LEARNED, NO_NODE, NO_NOTICE, NO_READER, OK, PUBLISHED, REFUSED, REFUSED_NAMED, SEEN, SHOWN,
+    TOLD, verdict_line,
+};
+use sd_line::{Line, LineForm, Part, Value};
 use sd_tree::{CheckReply, EditRefusal};
 use sd_versions::{Reply, StartError};
 use std::alloc::{AllocError, Global};
 
-/// The line of a reply, a mask in this spelling. Out of memory has none: it is an error.
-pub fn reply_line(alloc: Global, spelling: Spelling, reply: &Reply) -> Result<String, AllocError>
-    ensures { IfOk result (λ text. reply_line spelling reply.now ≡ Some (string_bytes text)) }
+/// The line of a reply. Out of memory has none: it is an error.
+pub fn reply_line(alloc: Global, reply: Reply) -> Result<Line, AllocError>
+    ensures { IfOk result (λ line. reply_line reply ≡ Some line) }
 {
     match reply {
-        Reply::Edited => String::from_str(alloc, "ok\n"),
-        Reply::Refused(refusal) => refused_line(alloc, *refusal),
-        Reply::Published(len) => counted_line(alloc, "published", *len),
-        Reply::Told(len) => counted_line(alloc, "told", *len),
-        Reply::Learned(floor) => counted_line(alloc, "learned", *floor),
+        Reply::Edited => ok_line(alloc, &[]),
+        Reply::Refused(refusal) => refused_line(alloc, refusal),
+        Reply::Published(len) => counted_line(alloc, PUBLISHED, len),
+        Reply::Told(len) => counted_line(alloc, TOLD, len),
+        Reply::Learned(floor) => counted_line(alloc, LEARNED, floor),
         Reply::Answered(answer) => {
-            let what = check_line(alloc, spelling, answer.reply)?;
-            seen_line(alloc, answer.seen, &what)
+            let what = check_line(alloc, answer.reply)?;
+            seen_line(alloc, answer.seen, what)
         }
         Reply::Shown { seen, descriptor } => {
-            let what = shown_line(alloc, spelling, descriptor)?;
-            seen_line(alloc, *seen, &what)
+            let what = shown_line(alloc, descriptor)?;
+            seen_line(alloc, seen, what)
         }
-        Reply::NoReader => String::from_str(alloc, "noreader\n"),
-        Reply::NoNotice => String::from_str(alloc, "nonotice\n"),
+        Reply::NoReader => plain_line(alloc, NO_READER),
+        Reply::NoNotice => plain_line(alloc, NO_NOTICE),
         Reply::Memory => Err(AllocError),
     }
 }
 
 /// The line for a store that wasn't opened. Out of memory has none: it is an error.
-pub fn start_error_line(alloc: Global, error: StartError) -> Result<String, AllocError>
-    ensures { IfOk result (λ text. start_error_line error ≡ Some (string_bytes text)) }
+pub fn start_error_line(alloc: Global, error: StartError) -> Result<Line, AllocError>
+    ensures { IfOk result (λ line. start_error_line error ≡ Some line) }
 {
     match error {
-        StartError::Readers => String::from_str(alloc, "refused readers\n"),
+        StartError::Readers => {
+            let of = Value::word(alloc, "readers")?;
+            Line::new(alloc, REFUSED, vec![in alloc; of]?)
+        }
         StartError::Root(refusal) => refused_line(alloc, refusal),
         StartError::Memory | StartError::Place => Err(AllocError),
     }
 }
 
-/// The line of a word and a number, as `published 1`.
-pub fn counted_line(alloc: Global, word: &str, number: u64) -> Result<String, AllocError>
-    ensures { IfOk result (λ text. string_bytes text ≡ counted_line word.now number) }
+/// A line of a number, as `published 1`. The only error is out of memory.
+pub fn counted_line(alloc: Global, form: LineForm, number: u64) -> Result<Line, AllocError>
+    ensures { IfOk result (λ line. line ≡ counted_line (form_of form.entry) number) }
 {
-    let text = format!(in alloc; "{word} {number}\n")?;
-    Ok(text)
+    Line::new(alloc, form, vec![in alloc; Value::Number(number)]?)
 }
 
-fn refused_line(alloc: Global, refusal: EditRefusal) -> Result<String, AllocError>
-    ensures { IfOk result (λ text. string_bytes text ≡ refused_line refusal) }
+/// A line without a value, as `nonode`. The only error is out of memory.
+pub(crate) fn plain_line(alloc: Global, form: LineForm) -> Result<Line, AllocError>
+    ensures { IfOk result (λ line. line ≡ plain_line (form_of form.entry)) }
 {
-    let number = refusal.number();
-    let name = refusal.name();
-    let text = format!(in alloc; "refused {number} {name}\n")?;
-    Ok(text)
+    Line::new(alloc, form, Vec::new(alloc))
 }
 
-/// By how long a journal, and what it gives to the end of the line.
-pub(crate) fn seen_line(alloc: Global, seen: u64, what: &str) -> Result<String, AllocError>
-    ensures { IfOk result (λ text. string_bytes text ≡ seen_line seen what.now) }
+/// `ok`, and what it says of entries. The only error is out of memory.
+pub(crate) fn ok_line(alloc: Global, words: &[&str]) -> Result<Line, AllocError>
+    ensures { IfOk result (λ line. line ≡ ok_line (map (λ word. word.now) words.now)) }
 {
-    let text = format!(in alloc; "seen {seen} {what}")?;
-    Ok(text)
+    let words = Value::words(alloc, words)?;
+    Line::new(alloc, OK, vec![in alloc; words]?)
 }
 
-fn check_line(alloc: Global, spelling: Spelling, reply: CheckReply) -> Result<String, AllocError>
-    ensures { IfOk result (λ text. string_bytes text ≡ check_line spelling reply) }
+/// An answer of one line. The only error is out of memory.
+pub fn alone(alloc: Global, line: Line) -> Result<Vec<Line>, AllocError>
+    ensures { IfOk result (λ answer. answer.items ≡ line ∷ []) }
+{
+    Ok(vec![in alloc; line]?)
+}
+
+fn refused_line(alloc: Global, refusal: EditRefusal) -> Result<Line, AllocError>
+    ensures { IfOk result (λ line. line ≡ refused_line refusal) }
+{
+    let number = Value::Number(u64::from(refusal.number()));
+    let name = Value::word(alloc, refusal.name())?;
+    Line::new(alloc, REFUSED_NAMED, vec![in alloc; number, name]?)
+}
+
+/// A line after by how long a journal it is answered.
+pub(crate) fn seen_line(alloc: Global, seen: u64, what: Line) -> Result<Line, AllocError>
+    ensures { IfOk result (λ line. line ≡ seen_line seen what) }
+{
+    what.with_head(Part::new(SEEN, vec![in alloc; Value::Number(seen)]?))
+}
+
+fn check_line(alloc: Global, reply: CheckReply) -> Result<Line, AllocError>
+    ensures { IfOk result (λ line. line ≡ check_line reply) }
 {
     match reply {
-        CheckReply::Verdict(verdict) => {
-            whole_line(alloc, spelling, &verdict_line(alloc, verdict)?)
-        }
-        CheckReply::NoNode => String::from_str(alloc, "nonode\n"),
+        CheckReply::Verdict(verdict) => verdict_line(alloc, verdict),
+        CheckReply::NoNode => plain_line(alloc, NO_NODE),
     }
 }
 
-/// The text of a descriptor ([MS-DTYP] 2.5.1), whose masks have the names of their kind of object alone where the
-/// spelling has names.
-pub(crate) fn shown_sddl(
-    alloc: Global,
-    spelling: Spelling,
-    descriptor: &Descriptor,
-) -> Result<String, AllocError>
-    ensures { IfOk result (λ text. string_bytes text ≡ shown_sddl spelling (descriptor_of descriptor.now)) }
-{
-    print_sddl_in(alloc, spelling.right_names(), descriptor)
-}
-
-fn shown_line(
-    alloc: Global,
-    spelling: Spelling,
-    descriptor: &Option<Descriptor>,
-) -> Result<String, AllocError>
-    ensures { IfOk result (λ text. string_bytes text ≡ shown_line spelling (option_map descriptor_of descriptor.now)) }
+fn shown_line(alloc: Global, descriptor: Option<Descriptor>) -> Result<Line, AllocError>
+    ensures { IfOk result (λ line. line ≡ shown_line (option_map descriptor_of descriptor)) }
 {
     match descriptor {
-        None => String::from_str(alloc, "nonode\n"),
+        None => plain_line(alloc, NO_NODE),
         Some(descriptor) => {
-            let sddl = shown_sddl(alloc, spelling, descriptor)?;
-            format!(in alloc; "shown {sddl}\n")
+            let shown = Value::descriptor(descriptor);
+            Line::new(alloc, SHOWN, vec![in alloc; shown]?)
         }
     }
 }

@@ -2,10 +2,11 @@
 ghost use Rattle.std.specs.Prelude.{◌≡◌};
 ghost use Rattle.sd_script.specs.ScriptCounts.{alternates_with_zero, begins, has_mark, has_utf16_mark, is_carried_out};
 ghost use Rattle.sd_script.specs.ScriptCounts.{is_unmet, is_utf16, no_lines, one_more_where, tallied, tells_fault};
-ghost use Rattle.sd_script.specs.ScriptCounts.{tells_order};
+ghost use Rattle.sd_script.specs.ScriptCounts.{is_ok_and};
 
 use crate::expect::is_expectation;
 use crate::lines::is_silent;
+use sd_line::Line;
 
 /// What is counted of a script beside its output. Lines are counted from 1, as far as 64 bits count.
 #[derive(Clone, Copy, Debug, PartialEq, Eq)]
@@ -52,7 +53,7 @@ impl ScriptCounts {
     }
 
     /// With one line more, and what it is answered by.
-    pub fn with(self, line: &[u8], answer: &[u8]) -> ScriptCounts
+    pub fn with(self, line: &[u8], answer: &[Line]) -> ScriptCounts
         ensures { result ≡ tallied line.now answer.now self }
     {
         let number = self.lines.saturating_add(1);
@@ -63,10 +64,10 @@ impl ScriptCounts {
             first_fault: self.first_fault.or(tells_fault(answer).then_some(number)),
             first_difference: self
                 .first_difference
-                .or(answer.starts_with(b"ok differs").then_some(number)),
+                .or(is_ok_and("differs", answer).then_some(number)),
             first_reordered: self
                 .first_reordered
-                .or(tells_order(answer).then_some(number)),
+                .or(is_ok_and("reordered", answer).then_some(number)),
             expected: one_more_where(is_expectation(line), self.expected),
             unmet: one_more_where(is_unmet, self.unmet),
             first_unmet: self.first_unmet.or(is_unmet.then_some(number)),
@@ -95,31 +96,37 @@ fn one_more_where(holds: bool, count: u64) -> u64
 }
 
 /// Whether the answer is a fault or a refusal.
-fn tells_fault(answer: &[u8]) -> bool
+fn tells_fault(answer: &[Line]) -> bool
     ensures { result ≡ tells_fault answer.now }
 {
-    answer.starts_with(b"fault ") || answer.starts_with(b"refused ")
+    match answer {
+        [first, ..] => first.is_of("fault") || first.is_of("refused"),
+        [] => false,
+    }
 }
 
 /// Whether a line was carried out: it asks for something, which is neither a fault nor refused.
-fn is_carried_out(line: &[u8], answer: &[u8]) -> bool
+fn is_carried_out(line: &[u8], answer: &[Line]) -> bool
     ensures { result ≡ is_carried_out line.now answer.now }
 {
     !is_silent(line) && !tells_fault(answer)
 }
 
 /// Whether a line expects an answer, and isn't answered by it.
-fn is_unmet(line: &[u8], answer: &[u8]) -> bool
+fn is_unmet(line: &[u8], answer: &[Line]) -> bool
     ensures { result ≡ is_unmet line.now answer.now }
 {
     is_expectation(line) && tells_fault(answer)
 }
 
-/// Whether the answer says that an imported node's own entries were put in another order.
-fn tells_order(answer: &[u8]) -> bool
-    ensures { result ≡ tells_order answer.now }
+/// Whether the answer is `ok` with this word.
+fn is_ok_and(word: &str, answer: &[Line]) -> bool
+    ensures { result ≡ is_ok_and word.now answer.now }
 {
-    answer == b"ok reordered\n".as_slice() || answer == b"ok differs reordered\n".as_slice()
+    match answer {
+        [first, ..] => first.is_of("ok") && first.says(word),
+        [] => false,
+    }
 }
 
 fn has_mark(line: &[u8]) -> bool

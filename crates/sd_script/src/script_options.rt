@@ -1,10 +1,11 @@
 //! How a script is carried out.
 ghost use Rattle.std.specs.Prelude.{◌≡◌, None, false};
 ghost use Rattle.sd_text.specs.Alias.{in_domain};
+ghost use Rattle.sd_script.specs.Printed.{style_in};
 ghost use Rattle.sd_line.specs.declared.spelling.Spelling.TheVariants.{Number};
 
 use crate::paths::PathSpelling;
-use sd_line::Spelling;
+use sd_line::{Spelling, Style};
 use sd_sid::GenericMapping;
 use sd_text::Aliases;
 use sd_tree::Limits;
@@ -53,6 +54,16 @@ impl Notation {
             aliases: Aliases::in_domain(None),
             without_sacl: false,
             is_json: false,
+        }
+    }
+
+    /// How answers are printed.
+    pub fn style(&self) -> Style
+        ensures { result ≡ style_in self.now }
+    {
+        Style {
+            spelling: self.spelling,
+            is_json: self.is_json,
         }
     }
 }

@@ -1,22 +1,19 @@
 //! A script over streams.
 
-ghost use Rattle.std.specs.Prelude.{◌≡◌, ◌≢◌, ◌||◌, Err, IfErr, IfOk};
+ghost use Rattle.std.specs.Prelude.{◌≡◌, ◌≢◌, ◌||◌, Err, IfErr, IfOk, false};
 ghost use Rattle.sd_lines.specs.Watched.{inner_of, has_failed};
 ghost use Rattle.sd_lines.specs.Streams.{is_read_error, is_write_error, ReadsPart};
-ghost use Rattle.sd_script.specs.Output.{PrintsAndCounts};
-ghost use Rattle.sd_script.specs.Printed.{PrintsAndCountsServed, PrintsAs, PrintsServed};
+ghost use Rattle.sd_script.specs.Printed.{PrintsAndCountsServed, PrintsServed};
 ghost use Rattle.sd_lines.specs.Output.{AppendsOutput, LeavesAnswers, LeavesOutput};
 ghost use Rattle.sd_script.specs.declared.ids.TheConstants.{LINES};
 ghost use Rattle.sd_script.specs.declared.script_counts.ScriptCounts.{ScriptCounts};
 
 use crate::ids::{LINES, Script};
-use crate::script::script_output;
 use crate::script_counts::ScriptCounts;
 use crate::script_options::ScriptOptions;
 use crate::script_state::ScriptState;
-use sd_json::{Tagging, printed_as};
-use sd_lines::{RunError, Watched, answer_lines, read_whole, write_whole};
-use std::alloc::Global;
+use sd_lines::{RunError, Watched, answer_lines, answer_text, read_whole, write_whole};
+use std::alloc::{AllocError, Global};
 use std::io::{Read, Write};
 
 /// Reads a whole script, writes its whole output in this manner, each line as an object of JSON where that is asked
@@ -37,11 +34,11 @@ pub fn run<R: Read, W: Write>(
     writer: &mut Watched<W>,
 ) -> Result<ScriptCounts, RunError>
     ensures ok { IfOk result (λ counts. AppendsOutput
-        (λ text printed. PrintsAs options.now.notation.is_json (PrintsAndCounts options.now) text printed counts)
+        (λ text printed. PrintsAndCountsServed false options.now text printed counts)
         (R.remaining (inner_of reader.old))
         (W.contents (inner_of writer.old)) (W.contents (inner_of writer.new))) }
     ensures err { IfErr result (LeavesOutput (λ text printed. (counts : ScriptCounts)
-        × PrintsAs options.now.notation.is_json (PrintsAndCounts options.now) text printed counts)
+        × PrintsAndCountsServed false options.now text printed counts)
         (R.remaining (inner_of reader.old))
         (W.contents (inner_of writer.old)) (W.contents (inner_of writer.new))) }
     ensures too_long { result ≡ Err RunError.TooLong
@@ -51,8 +48,7 @@ pub fn run<R: Read, W: Write>(
     ensures write { has_failed writer.new ≡ (has_failed writer.old || is_write_error result) }
 {
     let text = read_whole(alloc, reader)?;
-    let (plain, counts) = script_output(alloc, options, &text)?;
-    let printed = printed_as(alloc, options.notation.is_json, Tagging::Nothing, plain)?;
+    let (printed, counts) = script_output(alloc, options, &text)?;
     write_whole(writer, &printed)?;
     Ok(counts)
 }
@@ -77,10 +73,10 @@ pub fn serve<R: Read, W: Write>(
     writer: &mut Watched<W>,
 ) -> Result<ScriptCounts, RunError>
     ensures ok { IfOk result (λ counts. AppendsOutput
-        (λ text printed. PrintsAndCountsServed has_ids options.now.notation.is_json options.now text printed counts)
+        (λ text printed. PrintsAndCountsServed has_ids options.now text printed counts)
         (R.remaining (inner_of reader.old))
         (W.contents (inner_of writer.old)) (W.contents (inner_of writer.new))) }
-    ensures err { IfErr result (LeavesAnswers LINES (PrintsServed has_ids options.now.notation.is_json options.now)
+    ensures err { IfErr result (LeavesAnswers LINES (PrintsServed has_ids options.now)
         (R.remaining (inner_of reader.old)) (R.remaining (inner_of reader.new))
         (W.contents (inner_of writer.old)) (W.contents (inner_of writer.new))) }
     ensures read { has_failed reader.new ≡ (has_failed reader.old || is_read_error result) }
@@ -88,9 +84,28 @@ pub fn serve<R: Read, W: Write>(
 {
     let script = Script {
         has_ids,
-        is_json: options.notation.is_json,
+        style: options.notation.style(),
     };
     let mut state = ScriptState::before_first_line(options);
     answer_lines(alloc, &script, &mut state, LINES, reader, writer)?;
     Ok(state.counts)
+}
+
+/// The whole output of a script that is carried out in this manner, and what is counted of its lines. The only error is
+/// out of memory.
+fn script_output(
+    alloc: Global,
+    options: &ScriptOptions,
+    text: &[u8],
+) -> Result<(Vec<u8>, ScriptCounts), AllocError>
+    ensures { IfOk result (λ output. PrintsAndCountsServed false options.now text.now output.0.items output.1) }
+{
+    let script = Script {
+        has_ids: false,
+        style: options.notation.style(),
+    };
+    let mut state = ScriptState::before_first_line(options);
+    let mut printed = Vec::new(alloc);
+    answer_text(alloc, &script, &mut state, LINES, text, &mut printed)?;
+    Ok((printed, state.counts))
 }

@@ -1,12 +1,15 @@
 //! What a script sees of the store at once, and no reader asks for.
-ghost use Rattle.std.specs.Prelude.{◌≡◌, IfOk, string_bytes};
+ghost use Rattle.std.specs.Prelude.{◌≡◌, IfOk};
 ghost use Rattle.sd_script.specs.View.{IsViewed};
 
-use crate::listing::{NodeFilter, Printer};
-use crate::review::review_text;
+use crate::listing::{Lister, NodeFilter};
+use crate::reply::{alone, plain_line};
+use crate::review::review_lines;
 use crate::script_options::Notation;
-use crate::who::{node_who_text, only_line};
+use crate::who::{node_who_lines, only_line};
+use sd_answer::NO_NODE;
 use sd_check::GroupState;
+use sd_line::Line;
 use sd_sid::{Mask, Sid};
 use sd_tree::Path;
 use sd_versions::Desk;
@@ -71,33 +74,36 @@ pub enum ViewRequest {
 }
 
 /// The lines of a view. The only error is out of memory.
-pub(crate) fn view_text(
+pub(crate) fn view_lines(
     alloc: Global,
     notation: Notation,
     desk: &Desk,
     view: &ViewRequest,
-) -> Result<String, AllocError>
-    ensures { IfOk result (λ text. IsViewed notation desk.now view.now (string_bytes text)) }
+) -> Result<Vec<Line>, AllocError>
+    ensures { IfOk result (λ lines. IsViewed notation desk.now view.now lines.items) }
 {
     let tree = desk.published();
-    let printer = Printer {
+    let lister = Lister {
         alloc,
         notation,
         tree,
     };
     match view {
-        ViewRequest::List { path } => printer.nodes_text(path, &NodeFilter::All, "", ""),
-        ViewRequest::Dump => printer.dump_text(desk.readers()),
+        ViewRequest::List { path } => {
+            let no_node = plain_line(alloc, NO_NODE)?;
+            lister.nodes_lines(path, &NodeFilter::All, no_node, Vec::new(alloc))
+        }
+        ViewRequest::Dump => lister.dump(desk.readers()),
         ViewRequest::Who {
             path,
             groups,
             asked,
-        } => node_who_text(alloc, notation.spelling, tree, path, groups, *asked),
+        } => node_who_lines(alloc, tree, path, groups, *asked),
         ViewRequest::Only {
             path,
             groups,
             asked,
-        } => only_line(alloc, tree, path, groups, *asked),
-        ViewRequest::Review { path } => review_text(alloc, notation, desk, path),
+        } => alone(alloc, only_line(alloc, tree, path, groups, *asked)?),
+        ViewRequest::Review { path } => review_lines(alloc, notation.paths, desk, path),
     }
 }

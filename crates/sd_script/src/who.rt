@@ -1,36 +1,36 @@
 //! Who is granted which rights by a node of the published tree.
-ghost use Rattle.std.specs.Prelude.{◌≡◌, IfOk, string_bytes};
+ghost use Rattle.std.specs.Prelude.{◌≡◌, ◌∷◌, [], IfOk};
 ghost use Rattle.sd_analysis.specs.Who.{is_in_base};
 ghost use Rattle.sd_edit.specs.Answers.{descriptor_at};
 ghost use Rattle.sd_edit.specs.Journal.{replay};
-ghost use Rattle.sd_script.specs.Who.{IsOnly, IsWhoText, are_for, asks_no_right, is_for, or_empty};
+ghost use Rattle.sd_script.specs.Who.{IsOnly, IsWhoAnswer, are_for, asks_no_right, is_for, or_empty};
 
 use crate::expect::expect_line;
+use crate::reply::{alone, plain_line};
 use crate::view::Groups;
 use sd_acl::AceKind;
 use sd_analysis::{Access, Base, Holder, who};
-use sd_answer::{dacl_ref, rights_asked, who_lines};
-use sd_line::{Spelling, lines_text};
+use sd_answer::{EMPTY, NO_NODE, dacl_ref, rights_asked, who_lines};
+use sd_line::Line;
 use sd_sid::{Mask, OBJECT_RIGHTS};
 use sd_tree::{Path, Tree};
 use std::alloc::{AllocError, Global};
 
 /// The lines of the node of a path: whom its descriptor grants which of the rights, of the tokens that have these
 /// groups ([MS-DTYP] 2.5.3.2). `nonode` where none stands there, and `empty` where no right is asked about.
-pub(crate) fn node_who_text(
+pub(crate) fn node_who_lines(
     alloc: Global,
-    spelling: Spelling,
     tree: &Tree,
     path: &Path,
     groups: &Groups,
     asked: Mask,
-) -> Result<String, AllocError>
-    ensures { IfOk result (λ text. IsWhoText spelling tree.now.opening.mapping
+) -> Result<Vec<Line>, AllocError>
+    ensures { IfOk result (λ lines. IsWhoAnswer tree.now.opening.mapping
         (descriptor_at tree.now.opening.mapping (replay tree.now.opening tree.now.journal) path.now)
-        asked groups.now (string_bytes text)) }
+        asked groups.now lines.items) }
 {
     let Some(descriptor) = tree.descriptor(path)? else {
-        return String::from_str(alloc, "nonode\n");
+        return alone(alloc, plain_line(alloc, NO_NODE)?);
     };
     let base = Base {
         groups: groups.as_slice(),
@@ -38,18 +38,17 @@ pub(crate) fn node_who_text(
     let dacl = dacl_ref(&descriptor.dacl);
     let rights = rights_asked(tree.mapping(), asked);
     let accesses = who(alloc, descriptor.owner, dacl, tree.mapping(), &base, rights)?;
-    let text = lines_text(alloc, spelling, &who_lines(alloc, &accesses)?)?;
-    or_empty(alloc, text)
+    or_empty(alloc, who_lines(alloc, &accesses)?)
 }
 
-/// The text, or `empty` where it has no line: where no right was asked about.
-fn or_empty(alloc: Global, text: String) -> Result<String, AllocError>
-    ensures { IfOk result (λ line. string_bytes line ≡ or_empty (string_bytes text)) }
+/// The lines, or `empty` where there is none: where no right was asked about.
+fn or_empty(alloc: Global, lines: Vec<Line>) -> Result<Vec<Line>, AllocError>
+    ensures { IfOk result (λ answer. answer.items ≡ or_empty lines.items) }
 {
-    if text.is_empty() {
-        String::from_str(alloc, "empty\n")
+    if lines.is_empty() {
+        alone(alloc, plain_line(alloc, EMPTY)?)
     } else {
-        Ok(text)
+        Ok(lines)
     }
 }
 
@@ -61,13 +60,13 @@ pub(crate) fn only_line(
     path: &Path,
     groups: &Groups,
     asked: Mask,
-) -> Result<String, AllocError>
-    ensures { IfOk result (λ text. IsOnly tree.now.opening.mapping
+) -> Result<Line, AllocError>
+    ensures { IfOk result (λ line. IsOnly tree.now.opening.mapping
         (descriptor_at tree.now.opening.mapping (replay tree.now.opening tree.now.journal) path.now)
-        asked groups.now (string_bytes text)) }
+        asked groups.now (line ∷ [])) }
 {
     let Some(descriptor) = tree.descriptor(path)? else {
-        return String::from_str(alloc, expect_line(false));
+        return expect_line(alloc, false);
     };
     let everyone = Base { groups: &[] };
     let dacl = dacl_ref(&descriptor.dacl);
@@ -84,7 +83,7 @@ pub(crate) fn only_line(
         groups: groups.as_slice(),
     };
     let is_met = !asks_no_right(rights) && are_for(&groups, &accesses);
-    String::from_str(alloc, expect_line(is_met))
+    expect_line(alloc, is_met)
 }
 
 /// Whether no right of objects is among these, below bit 21.

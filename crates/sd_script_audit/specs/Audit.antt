@@ -1,7 +1,7 @@
 -- The output of an audit: a script whose checks are kept as queries, and answered at the end by all that was published.
 -- By how many workers they are answered is not a word of it, but for the line of an opening.
-use Rattle.std.specs.Prelude.{◌≡◌, ◌⊎◌, ℕ, Bool, false, List, [], ◌∷◌, ◌++◌, length, Ok, Err, MatchBool, codes}
-use Rattle.std.specs.List.{flat_map}
+use Rattle.std.specs.Prelude.{◌≡◌, ◌⊎◌, ℕ, Bool, false, List, [], ◌∷◌, ◌++◌, length, map, None, Ok, Err, MatchBool}
+use Rattle.std.specs.Prelude.{codes}
 use Rattle.std.specs.Str.Lines.{lines}
 use Rattle.sd_edit.specs.declared.edit.Edit.{Edit as Edits}
 use Rattle.sd_edit.specs.declared.opening.Opening.{Opening}
@@ -9,14 +9,18 @@ use Rattle.sd_edit.specs.Machine.{accepted}
 use Rattle.sd_edit.specs.declared.request.Request.TheVariants.{Check, Edit, Publish}
 use Rattle.sd_store.specs.Audits.{reply_by}
 use Rattle.sd_store.specs.declared.query.Query.{Query}
-use Rattle.sd_script.specs.Fault.{fault_text}
-use Rattle.sd_line.specs.declared.spelling.Spelling.{Spelling}
+use Rattle.sd_answer.specs.VerdictLines.{fault_line}
+use Rattle.sd_answer.specs.declared.forms.TheConstants.{PUBLISHED, TOLD}
+use Rattle.sd_line.specs.Line.{LineOf, form}
+use Rattle.sd_line.specs.Printed.{printed}
+use Rattle.sd_line.specs.declared.print.Style.{Style}
 use Rattle.sd_lines.specs.Answers.{AreAnswered}
 use Rattle.sd_script.specs.Command.{line_asks}
 use Rattle.sd_script.specs.Expect.{expects}
 use Rattle.sd_script.specs.Fault.{line_of_fault}
 use Rattle.sd_script.specs.Lines.{is_silent}
 use Rattle.sd_script.specs.Output.{IsDone, IsOpened, is_open, script_options_of}
+use Rattle.sd_script.specs.Printed.{style_in}
 use Rattle.sd_script.specs.Reply.{check_line, counted_line, seen_line}
 use Rattle.sd_script.specs.ScriptCounts.{no_lines, tallied}
 use Rattle.sd_script.specs.declared.line_request.LineRequest.{LineRequest}
@@ -38,38 +42,39 @@ abbrev pub unopened : ScriptOptions → Progress
 unopened options = record { store = Closed options; queries = [] }
 
 -- what only a script does is a fault
-abbrev pub IsForScripts : Progress → List ℕ → Progress → Type 0
-IsForScripts old printed new = (printed ≡ fault_text (codes "audit")) × (new ≡ old)
+abbrev pub IsForScripts : Progress → List LineOf → Progress → Type 0
+IsForScripts old answer new = (answer ≡ fault_line (codes "audit") ∷ []) × (new ≡ old)
 
 -- it is done as in a script
-abbrev pub IsDoneAsInScript : Progress → LineRequest → List ℕ → Progress → Type 0
-IsDoneAsInScript old asked printed new = IsDone old.store asked printed new.store × (new.queries ≡ old.queries)
+abbrev pub IsDoneAsInScript : Progress → LineRequest → List LineOf → Progress → Type 0
+IsDoneAsInScript old asked answer new = IsDone old.store asked answer new.store × (new.queries ≡ old.queries)
 
 -- what is asked is done as in a script, but that a store is opened for the workers, that a check is kept, and that an
 -- audit has no notices and no answers to readers, explains and finds nothing, and has no views
-abbrev pub IsDoneInAudit : ℕ → Progress → LineRequest → List ℕ → Progress → Type 0
-IsDoneInAudit workers old (Opens readers root) printed new = IsOpened
-    (script_options_of old.store) workers root printed new.store × (new.queries ≡ old.queries)
-IsDoneInAudit workers old (Asking (Check reader path token asked)) printed new =
-    (printed ≡ []) × (new
+abbrev pub IsDoneInAudit : ℕ → Progress → LineRequest → List LineOf → Progress → Type 0
+IsDoneInAudit workers old (Opens readers root) answer new = IsOpened
+    (script_options_of old.store) workers root answer new.store × (new.queries ≡ old.queries)
+IsDoneInAudit workers old (Asking (Check reader path token asked)) answer new =
+    (answer ≡ []) × (new
     ≡ record {
       store = old.store;
       queries = old.queries ++ record { path = path; token = token; asked = asked }
           ∷ [];
     })
-IsDoneInAudit workers old (Asking (Edit edit)) printed new = IsDoneAsInScript old (Asking (Edit edit)) printed new
-IsDoneInAudit workers old (Asking Publish) printed new = IsDoneAsInScript old (Asking Publish) printed new
-IsDoneInAudit workers old (Importing edit path given) printed new =
-    IsDoneAsInScript old (Importing edit path given) printed new
-IsDoneInAudit workers old (Moving edit source target) printed new =
-    IsDoneAsInScript old (Moving edit source target) printed new
-IsDoneInAudit workers old asked printed new = IsForScripts old printed new
+IsDoneInAudit workers old (Asking (Edit edit)) answer new = IsDoneAsInScript old (Asking (Edit edit)) answer new
+IsDoneInAudit workers old (Asking Publish) answer new = IsDoneAsInScript old (Asking Publish) answer new
+IsDoneInAudit workers old (Importing edit path given) answer new =
+    IsDoneAsInScript old (Importing edit path given) answer new
+IsDoneInAudit workers old (Moving edit source target) answer new =
+    IsDoneAsInScript old (Moving edit source target) answer new
+IsDoneInAudit workers old asked answer new = IsForScripts old answer new
 
--- a line is told a text and nothing is done: it is silent, or expects an answer, which scripts alone do, or has a fault
-abbrev pub IsToldInAudit : Notation → Bool → List ℕ → List ℕ → Type 0
-IsToldInAudit notation is_open line printed =
-    MatchBool (is_silent line) (printed ≡ []) (MatchBool (expects line) (printed ≡ fault_text (codes "audit"))
-    ((fault : LineFault) × line_asks notation is_open line (Err fault) × (printed ≡ line_of_fault fault)))
+-- a line is told something and nothing is done: it is silent, or expects an answer, which scripts alone do, or has a
+-- fault
+abbrev pub IsToldInAudit : Notation → Bool → List ℕ → List LineOf → Type 0
+IsToldInAudit notation is_open line told =
+    MatchBool (is_silent line) (told ≡ []) (MatchBool (expects line) (told ≡ fault_line (codes "audit") ∷ [])
+    ((fault : LineFault) × line_asks notation is_open line (Err fault) × (told ≡ line_of_fault fault ∷ [])))
 
 -- any other line asks for something
 abbrev pub AsksInAudit : Notation → Bool → List ℕ → LineRequest → Type 0
@@ -77,29 +82,28 @@ AsksInAudit notation is_open line asked =
     (is_silent line ≡ false) × (expects line ≡ false) × line_asks notation is_open line (Ok asked)
 
 -- a line is answered: it is told, or what it asks for is done
-abbrev pub IsAnsweredInAudit : ℕ → Progress → List ℕ → List ℕ → Progress → Type 0
-IsAnsweredInAudit workers old line printed new =
-    (IsToldInAudit (script_options_of old.store).notation (is_open old.store) line printed × (new ≡ old))
+abbrev pub IsAnsweredInAudit : ℕ → Progress → List ℕ → List LineOf → Progress → Type 0
+IsAnsweredInAudit workers old line answer new =
+    (IsToldInAudit (script_options_of old.store).notation (is_open old.store) line answer × (new ≡ old))
     ⊎ ((asked : LineRequest) × AsksInAudit (script_options_of old.store).notation (is_open old.store) line asked
-    × IsDoneInAudit workers old asked printed new)
+    × IsDoneInAudit workers old asked answer new)
 
--- what a last publish prints, where edits wait
-abbrev pub last_publish : List Edits → ℕ → List ℕ
+-- the line of a last publish, where edits wait
+abbrev pub last_publish : List Edits → ℕ → List LineOf
 last_publish [] len = []
-last_publish (edit ∷ edits) len = counted_line (codes "published") len
+last_publish (edit ∷ edits) len = counted_line (form PUBLISHED) len ∷ []
 
 -- the answer to a query by a journal
-abbrev pub answer_line : Spelling → Opening → List Edits → Query → List ℕ
-answer_line spelling opening journal query =
-    seen_line (length journal) (check_line spelling (reply_by opening journal query))
+abbrev pub answer_line : Opening → List Edits → Query → LineOf
+answer_line opening journal query = seen_line (length journal) (check_line (reply_by opening journal query))
 
--- what is printed after the last line: where a store is open, all that was accepted is published, its length is
--- printed, and it answers each query
-abbrev pub end_of : Session → List Query → List ℕ
+-- the lines after the last line's answer: where a store is open, all that was accepted is published, its length is
+-- told, and it answers each query
+abbrev pub end_of : Session → List Query → List LineOf
 end_of (Closed options) queries = []
 end_of (Opened notation m) queries =
-    last_publish m.pending (length (accepted m)) ++ counted_line (codes "told") (length (accepted m))
-    ++ flat_map (answer_line notation.spelling m.opening (accepted m)) queries
+    last_publish m.pending (length (accepted m)) ++ counted_line (form TOLD) (length (accepted m))
+    ∷ map (answer_line m.opening (accepted m)) queries
 
 -- ---- an audit, as far as it is carried out
 
@@ -112,21 +116,29 @@ abbrev pub before_first_line : ScriptOptions → Audited
 before_first_line options = record { progress = unopened options; counts = no_lines }
 
 -- a line is answered, and counted: a check that is kept by what it is answered by at its place, which is nothing
-pub record IsNextInAudit (workers : ℕ) (old : Audited) (line printed : List ℕ) (new : Audited) : Type 0 where
-  pub answered : IsAnsweredInAudit workers old.progress line printed new.progress
-  pub counted : new.counts ≡ tallied line printed old.counts
+pub record IsNextInAudit (workers : ℕ) (old : Audited) (line : List ℕ) (answer : List LineOf) (new : Audited)
+    : Type 0 where
+  pub answered : IsAnsweredInAudit workers old.progress line answer new.progress
+  pub counted : new.counts ≡ tallied line answer old.counts
+
+-- and its answer is printed in this style
+abbrev pub PrintsNextInAudit : Style → ℕ → Audited → List ℕ → List ℕ → Audited → Type 0
+PrintsNextInAudit style workers old line text new =
+    (answer : List LineOf) × IsNextInAudit workers old line answer new × (text ≡ printed style None answer)
 
 -- one line after the other, and then the end, which is no line's answer and isn't counted
-abbrev pub AreAnsweredInAudit : ℕ → Audited → List (List ℕ) → List ℕ → ScriptCounts → Type 0
-AreAnsweredInAudit workers old lines printed counts =
-    (last : Audited) × (answers : List ℕ) × AreAnswered (IsNextInAudit workers) old lines answers last
-    × (printed ≡ answers ++ end_of last.progress.store last.progress.queries) × (counts ≡ last.counts)
+abbrev pub AreAnsweredInAudit : Style → ℕ → Audited → List (List ℕ) → List ℕ → ScriptCounts → Type 0
+AreAnsweredInAudit style workers old lines output counts =
+    (last : Audited) × (answers : List ℕ) × AreAnswered (PrintsNextInAudit style workers) old lines answers last
+    × (output ≡ answers ++ printed style None (end_of last.progress.store last.progress.queries))
+    × (counts ≡ last.counts)
 
--- the whole output of an audit by so many workers that is carried out in this manner, and what is counted of it
+-- the whole output of an audit by so many workers that is carried out and printed in this manner, and what is counted
+-- of it
 abbrev pub PrintsAuditAndCounts : ScriptOptions → ℕ → List ℕ → List ℕ → ScriptCounts → Type 0
-PrintsAuditAndCounts options workers text printed counts = AreAnsweredInAudit workers (before_first_line options)
-    (lines text) printed counts
+PrintsAuditAndCounts options workers text output counts = AreAnsweredInAudit (style_in options.notation)
+    workers (before_first_line options) (lines text) output counts
 
 abbrev pub PrintsAudit : ScriptOptions → ℕ → List ℕ → List ℕ → Type 0
-PrintsAudit options workers text printed =
-    (counts : ScriptCounts) × PrintsAuditAndCounts options workers text printed counts
+PrintsAudit options workers text output =
+    (counts : ScriptCounts) × PrintsAuditAndCounts options workers text output counts

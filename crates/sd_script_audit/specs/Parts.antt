@@ -1,8 +1,10 @@
 -- The parts of an audit, as its functions see them. No public contract says so.
 use Rattle.std.specs.Prelude.{◌≡◌, ℕ, List, [], replicate, Option, Some, None, Result, Ok, Err}
+use Rattle.std.specs.Global.{Vec}
 use Rattle.sd_edit.specs.declared.opening.Opening.{Opening}
 use Rattle.sd_edit.specs.declared.opening.RootSpec.{RootSpec}
 use Rattle.sd_edit.specs.Machine.{Machine, started}
+use Rattle.sd_line.specs.Line.{LineOf}
 use Rattle.sd_store.specs.Sights.{StoreState}
 use Rattle.sd_store.specs.declared.query.Query.{Query}
 use Rattle.sd_script.specs.Output.{opening_in}
@@ -14,12 +16,11 @@ use Rattle.sd_script.specs.declared.session.Session.TheVariants.{Closed, Opened}
 use Rattle.sd_script.specs.declared.script_counts.ScriptCounts.{ScriptCounts}
 use Rattle.sd_script_audit.specs.Audit.{Audited, IsDoneInAudit, Progress}
 
--- what a line asks for is done, or what it is told is printed; out of memory it is told nothing, and isn't answered
-abbrev pub IsDoneOrTold : {X : Type 0} → (X → List ℕ) → ℕ → Progress → Result LineRequest (Option X) → List ℕ → Progress
-    → Type 0
-IsDoneOrTold bytes workers old (Ok asked) printed new = IsDoneInAudit workers old asked printed new
-IsDoneOrTold bytes workers old (Err (Some told)) printed new = (printed ≡ bytes told) × (new ≡ old)
-IsDoneOrTold bytes workers old (Err None) printed new = ⊥
+-- what a line asks for is done, or what it is told is its answer; out of memory it is told nothing, and isn't answered
+abbrev pub IsDoneOrTold : ℕ → Progress → Result LineRequest (Option (Vec LineOf)) → List LineOf → Progress → Type 0
+IsDoneOrTold workers old (Ok asked) answer new = IsDoneInAudit workers old asked answer new
+IsDoneOrTold workers old (Err (Some told)) answer new = (answer ≡ told.items) × (new ≡ old)
+IsDoneOrTold workers old (Err None) answer new = ⊥
 
 -- no store is open, or one with this root that nothing was asked of
 abbrev pub store_of : ScriptOptions → ℕ → Option RootSpec → Session

@@ -1,13 +1,16 @@
 //! The lines of an audit up to the one that opens its store.
 
-ghost use Rattle.std.specs.Prelude.{◌≡◌, None, true, IfOk, IfSome, string_bytes};
+ghost use Rattle.std.specs.Prelude.{◌≡◌, None, true, IfOk, IfSome};
 ghost use Rattle.sd_script.specs.Output.{opens};
-ghost use Rattle.sd_script_audit.specs.Audit.{IsNextInAudit, unopened};
+ghost use Rattle.sd_script.specs.Printed.{style_in};
+ghost use Rattle.sd_script_audit.specs.Audit.{PrintsNextInAudit, unopened};
 ghost use Rattle.sd_script_audit.specs.Parts.{IsDoneOrTold, before_queries, without_queries};
 
 use crate::line::asked_or_told;
+use sd_answer::OPENED;
+use sd_line::{Line, Tag, push_printed};
 use sd_lines::AnswersLines;
-use sd_script::{LineRequest, ScriptCounts, ScriptOptions, counted_line, start_error_line};
+use sd_script::{LineRequest, ScriptCounts, ScriptOptions, alone, counted_line, start_error_line};
 use sd_tree::RootSpec;
 use sd_versions::Desk;
 use std::alloc::{AllocError, Global};
@@ -31,8 +34,9 @@ pub(crate) struct Unopened {
 impl AnswersLines for Openings {
     type State = Unopened;
 
-    ghost answers = { λ by old line printed new. IfSome line (λ text. IsNextInAudit by.workers
-        (before_queries by.options by.workers old.root old.counts) text printed
+    ghost answers = { λ by old line text new. IfSome line (λ bytes. PrintsNextInAudit
+        (style_in by.options.notation) by.workers
+        (before_queries by.options by.workers old.root old.counts) bytes text
         (before_queries by.options by.workers new.root new.counts)) };
 
     fn answer(
@@ -46,10 +50,11 @@ impl AnswersLines for Openings {
             // (no line is too long, and those after the opening are left)
             return Err(AllocError);
         };
-        let found = asked_or_told(alloc, self.options.notation, false, line);
+        let notation = self.options.notation;
+        let found = asked_or_told(alloc, notation, false, line);
         let answer = self.open(alloc, &mut unopened.root, found)?;
-        unopened.counts = unopened.counts.with(line, answer.as_bytes());
-        text.extend_from_slice(answer.as_bytes())
+        unopened.counts = unopened.counts.with(line, &answer);
+        push_printed(alloc, text, notation.style(), Tag::None, &answer)
     }
 }
 
@@ -60,12 +65,12 @@ impl Openings {
         &self,
         alloc: Global,
         opened: &mut Option<RootSpec>,
-        found: Result<LineRequest, Option<String>>,
-    ) -> Result<String, AllocError>
+        found: Result<LineRequest, Option<Vec<Line>>>,
+    ) -> Result<Vec<Line>, AllocError>
         requires opening { IfOk found (λ asked. opens asked ≡ true) }
         requires closed { opened.old ≡ None }
-        ensures { IfOk result (λ text. IsDoneOrTold string_bytes self.now.workers (unopened self.now.options) found
-            (string_bytes text) (without_queries self.now.options self.now.workers opened.new)) }
+        ensures { IfOk result (λ answer. IsDoneOrTold self.now.workers (unopened self.now.options) found
+            answer.items (without_queries self.now.options self.now.workers opened.new)) }
     {
         let root = match found {
             Ok(LineRequest::Opening { readers: _, root }) => root,
@@ -80,9 +85,9 @@ impl Openings {
         match Desk::start_within(alloc, &mapping, &root, limits, self.workers) {
             Ok(_) => {
                 *opened = Some(root);
-                counted_line(alloc, "opened", self.workers)
+                alone(alloc, counted_line(alloc, OPENED, self.workers)?)
             }
-            Err(error) => start_error_line(alloc, error),
+            Err(error) => alone(alloc, start_error_line(alloc, error)?),
         }
     }
 }

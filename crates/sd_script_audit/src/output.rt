@@ -3,6 +3,7 @@
 ghost use Rattle.std.specs.Prelude.{◌≡◌, ◌⊎◌, ◌++◌, ◌<◌, ◌≤◌, ℕ, List, length, Some, IfErr, IfOk, OnOk, is_some};
 ghost use Rattle.std.specs.Str.Lines.{lines};
 ghost use Rattle.sd_script.specs.Output.{opening_in};
+ghost use Rattle.sd_script.specs.Printed.{style_in};
 ghost use Rattle.sd_script_audit.specs.Audit.{AreAnsweredInAudit, PrintsAuditAndCounts};
 ghost use Rattle.sd_script_audit.specs.Parts.{audited, before_queries};
 
@@ -19,8 +20,8 @@ use std::marker::{Brand, PhantomData};
 use std::sync::Wait;
 use std::thread::Threads;
 
-/// The whole output of an audit by so many workers that is carried out in this manner, and what is counted of its
-/// lines. The errors are out of memory and `Thread`, as of `run_audit`.
+/// The whole output of an audit by so many workers that is carried out and printed in this manner, and what is counted
+/// of its lines. The errors are out of memory and `Thread`, as of `run_audit`.
 pub(crate) fn audit_output<T: Threads + Wait + Sync, G: Gate + Sync>(
     rt: &T,
     alloc: Global,
@@ -87,7 +88,7 @@ fn open_and_audit<J: StoreId + Send + Sync, T: Threads + Wait + Sync, G: Gate + 
     requires history { (history.book ≡ J.book) × (history.first ≡ J.first) }
     requires opening { opening_in openings.options root.now ≡ J.opening }
     ensures audited { IfOk result (λ last. (added : List ℕ) × (printed.new.items ≡ printed.old.items ++ added)
-        × AreAnsweredInAudit openings.workers
+        × AreAnsweredInAudit (style_in openings.options.notation) openings.workers
         (before_queries openings.options openings.workers (Some root.now) counts) (lines text.now) added last) }
     ensures failed { IfErr result (λ e. (e ≡ RunError.Memory) ⊎ (e ≡ RunError.Thread)) }
 {
@@ -139,7 +140,8 @@ impl<J: StoreId + Send + Sync, T: Threads + Wait + Sync> Queries<'_, J, T> {
         requires each { length checkers.old ≡ self.now.workers }
         requires some { (0 < length checkers.old) × (length checkers.old ≤ 64) }
         ensures audited { OnOk result ((added : List ℕ) × (printed.new.items ≡ printed.old.items ++ added)
-            × AreAnsweredInAudit self.now.workers (audited self.now.notation J.opening self.now.workers
+            × AreAnsweredInAudit (style_in self.now.notation) self.now.workers
+            (audited self.now.notation J.opening self.now.workers
             open.old.writer open.old.queries.items open.old.counts) (lines text.now) added open.new.counts) }
         ensures failed { IfErr result (λ e. (e ≡ RunError.Memory) ⊎ (e ≡ RunError.Thread)) }
     {

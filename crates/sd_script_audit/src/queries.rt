@@ -1,20 +1,21 @@
 //! The lines of an audit after the one that opened its store: their answers, and the queries among them.
 
-ghost use Rattle.std.specs.Prelude.{◌≡◌, ℕ, false, IfOk, IfSome, string_bytes};
+ghost use Rattle.std.specs.Prelude.{◌≡◌, ℕ, false, IfOk, IfSome};
 ghost use Rattle.sd_edit.specs.Machine.{Steps};
 ghost use Rattle.sd_edit.specs.declared.request.Reply.{Reply as Replies};
 ghost use Rattle.sd_edit.specs.declared.request.Request.TheVariants as asked;
 ghost use Rattle.sd_script.specs.Importing.{entries_at};
 ghost use Rattle.sd_script.specs.Moving.{IsMoved};
 ghost use Rattle.sd_script.specs.Output.{opens};
-ghost use Rattle.sd_script_audit.specs.Audit.{IsNextInAudit};
+ghost use Rattle.sd_script.specs.Printed.{style_in};
+ghost use Rattle.sd_script_audit.specs.Audit.{PrintsNextInAudit};
 ghost use Rattle.sd_script_audit.specs.Parts.{IsDoneOrTold, audited, machine_of, progress};
 
 use crate::line::{asked_or_told, only_in_scripts};
-use sd_line::Spelling;
+use sd_line::{Line, Tag, push_printed};
 use sd_lines::AnswersLines;
 use sd_script::{
-    LineRequest, Notation, ScriptCounts, entries_at, import_line, move_line, reply_line,
+    LineRequest, Notation, ScriptCounts, alone, entries_at, import_answer, move_answer, reply_line,
 };
 use sd_store::{EditError, PublishError, Query, StoreId, StoreWriter};
 use sd_tree::{Edit, Path};
@@ -45,8 +46,9 @@ pub(crate) struct Open<J: StoreId> {
 impl<J: StoreId, T: Wait> AnswersLines for Queries<'_, J, T> {
     type State = Open<J>;
 
-    ghost answers = { λ by old line printed new. IfSome line (λ text. IsNextInAudit by.workers
-        (audited by.notation J.opening by.workers old.writer old.queries.items old.counts) text printed
+    ghost answers = { λ by old line text new. IfSome line (λ bytes. PrintsNextInAudit
+        (style_in by.notation) by.workers
+        (audited by.notation J.opening by.workers old.writer old.queries.items old.counts) bytes text
         (audited by.notation J.opening by.workers new.writer new.queries.items new.counts)) };
 
     fn answer(
@@ -62,8 +64,8 @@ impl<J: StoreId, T: Wait> AnswersLines for Queries<'_, J, T> {
         };
         let found = asked_or_told(alloc, self.notation, true, line);
         let answer = self.done(alloc, &mut open.writer, &mut open.queries, found)?;
-        open.counts = open.counts.with(line, answer.as_bytes());
-        text.extend_from_slice(answer.as_bytes())
+        open.counts = open.counts.with(line, &answer);
+        push_printed(alloc, text, self.notation.style(), Tag::None, &answer)
     }
 }
 
@@ -75,21 +77,20 @@ impl<J: StoreId, T: Wait> Queries<'_, J, T> {
         alloc: Global,
         writer: &mut StoreWriter<J>,
         queries: &mut Vec<Query>,
-        found: Result<LineRequest, Option<String>>,
-    ) -> Result<String, AllocError>
+        found: Result<LineRequest, Option<Vec<Line>>>,
+    ) -> Result<Vec<Line>, AllocError>
         requires { IfOk found (λ asked. opens asked ≡ false) }
-        ensures { IfOk result (λ text. IsDoneOrTold string_bytes self.now.workers
+        ensures { IfOk result (λ answer. IsDoneOrTold self.now.workers
             (progress self.now.notation J.opening self.now.workers writer.old queries.old.items) found
-            (string_bytes text)
+            answer.items
             (progress self.now.notation J.opening self.now.workers writer.new queries.new.items)) }
     {
-        let spelling = self.notation.spelling;
         match found {
             Ok(LineRequest::Asking(Request::Edit(edit))) => {
-                reply_line(alloc, spelling, &edit_reply(writer, &edit))
+                alone(alloc, reply_line(alloc, edit_reply(writer, &edit))?)
             }
             Ok(LineRequest::Asking(Request::Publish)) => {
-                reply_line(alloc, spelling, &publish_reply(self.rt, writer))
+                alone(alloc, reply_line(alloc, publish_reply(self.rt, writer))?)
             }
             Ok(
                 LineRequest::Asking(
@@ -102,11 +103,11 @@ impl<J: StoreId, T: Wait> Queries<'_, J, T> {
                 ),
             ) => {
                 queries.push(Query { path, token, asked })?;
-                Ok(String::new(alloc))
+                Ok(Vec::new(alloc))
             }
             Ok(LineRequest::Importing { edit, path, given }) => {
                 let reply = edit_reply(writer, &edit);
-                import_line(alloc, spelling, writer.draft(), &path, &given, &reply)
+                import_answer(alloc, writer.draft(), &path, &given, reply)
             }
             Ok(
                 LineRequest::Moving {
@@ -114,7 +115,7 @@ impl<J: StoreId, T: Wait> Queries<'_, J, T> {
                     source,
                     target,
                 },
-            ) => moved(alloc, spelling, writer, &edit, &source, &target),
+            ) => moved(alloc, writer, &edit, &source, &target),
             Ok(LineRequest::Opening { .. }) => unreachable!(),
             Ok(_) => only_in_scripts(alloc),
             Err(told) => told.ok_or(AllocError),
@@ -125,20 +126,19 @@ impl<J: StoreId, T: Wait> Queries<'_, J, T> {
 /// Moves a node, and compares its entries in the tree of all accepted edits.
 fn moved<J: StoreId>(
     alloc: Global,
-    spelling: Spelling,
     writer: &mut StoreWriter<J>,
     edit: &Edit,
     source: &Path,
     target: &Path,
-) -> Result<String, AllocError>
+) -> Result<Vec<Line>, AllocError>
     ensures { (readers : ℕ) → let old = machine_of J.opening readers writer.old in
         let new = machine_of J.opening readers writer.new in
-        IfOk result (λ text. (reply : Replies) × Steps old (asked.Edit edit.now) reply new
-        × IsMoved spelling (entries_at old source.now) new target.now reply (string_bytes text)) }
+        IfOk result (λ answer. (reply : Replies) × Steps old (asked.Edit edit.now) reply new
+        × IsMoved (entries_at old source.now) new target.now reply answer.items) }
 {
     let before = entries_at(alloc, writer.draft(), source)?;
     let reply = edit_reply(writer, edit);
-    move_line(alloc, spelling, &before, writer.draft(), target, &reply)
+    move_answer(alloc, &before, writer.draft(), target, reply)
 }
 
 /// The reply to an edit.

@@ -3,13 +3,10 @@
 ghost use Rattle.std.specs.Prelude.{◌≡◌, ◌||◌, Err, IfErr, IfOk};
 ghost use Rattle.sd_lines.specs.Watched.{inner_of, has_failed};
 ghost use Rattle.sd_lines.specs.Streams.{is_read_error, is_write_error, ReadsPart};
-ghost use Rattle.sd_script_audit.specs.Audit.{PrintsAuditAndCounts};
-ghost use Rattle.sd_script.specs.Printed.{PrintsAs};
-ghost use Rattle.sd_script.specs.declared.script_counts.ScriptCounts.{ScriptCounts};
+ghost use Rattle.sd_script_audit.specs.Audit.{PrintsAudit, PrintsAuditAndCounts};
 ghost use Rattle.sd_lines.specs.Output.{AppendsOutput, LeavesOutput};
 
 use crate::output::audit_output;
-use sd_json::{Tagging, printed_as};
 use sd_lines::{RunError, Watched, read_whole, write_whole};
 use sd_script::{ScriptCounts, ScriptOptions};
 use sd_store::Gate;
@@ -37,12 +34,11 @@ pub fn run_audit<T: Threads + Wait + Sync, R: Read, W: Write, G: Gate + Sync>(
     writer: &mut Watched<W>,
     gate: &G,
 ) -> Result<ScriptCounts, RunError>
-    ensures ok { IfOk result (λ counts. AppendsOutput (λ text printed.
-        PrintsAs options.now.notation.is_json (PrintsAuditAndCounts options.now workers) text printed counts)
+    ensures ok { IfOk result (λ counts. AppendsOutput
+        (λ text printed. PrintsAuditAndCounts options.now workers text printed counts)
         (R.remaining (inner_of reader.old))
         (W.contents (inner_of writer.old)) (W.contents (inner_of writer.new))) }
-    ensures err { IfErr result (LeavesOutput (λ text printed. (counts : ScriptCounts)
-        × PrintsAs options.now.notation.is_json (PrintsAuditAndCounts options.now workers) text printed counts)
+    ensures err { IfErr result (LeavesOutput (PrintsAudit options.now workers)
         (R.remaining (inner_of reader.old))
         (W.contents (inner_of writer.old)) (W.contents (inner_of writer.new))) }
     ensures too_long { result ≡ Err RunError.TooLong
@@ -51,8 +47,7 @@ pub fn run_audit<T: Threads + Wait + Sync, R: Read, W: Write, G: Gate + Sync>(
     ensures write { has_failed writer.new ≡ (has_failed writer.old || is_write_error result) }
 {
     let text = read_whole(alloc, reader)?;
-    let (plain, counts) = audit_output(rt, alloc, workers, options, &text, gate)?;
-    let printed = printed_as(alloc, options.notation.is_json, Tagging::Nothing, plain)?;
+    let (printed, counts) = audit_output(rt, alloc, workers, options, &text, gate)?;
     write_whole(writer, &printed)?;
     Ok(counts)
 }

@@ -1,6 +1,6 @@
 -- The lines of a dump, answered one after the other: an opening, one addition for each other node, and a publish.
 use Rattle.std.proofs.Common.{◌≡◌, ℕ, Bool, true, false, List, [], ◌∷◌, ◌++◌, length, map, take, Some, None, inl, inr, refl, sym, ◌∙◌, ap, subst, replicate, slice_get, append_assoc, append-nil}
-use Rattle.std.specs.Prelude.{MatchBool, codes}
+use Rattle.std.specs.Prelude.{MatchBool}
 use Rattle.std.specs.Str.Lines.{lines}
 use Rattle.std.proofs.lemmas.List.{length-replicate}
 use Rattle.sd_edit.specs.Additions.{addition_of, root_of}
@@ -16,10 +16,12 @@ use Rattle.sd_edit.specs.Machine.{Machine}
 use Rattle.sd_edit.specs.Starts.{IsReaderCount}
 use Rattle.sd_edit.specs.declared.request.Request.TheVariants as requests
 use Rattle.sd_edit.specs.declared.request.Reply.TheVariants as replies
-use Rattle.sd_line.specs.Printed.{line}
+use Rattle.sd_answer.specs.declared.forms.TheConstants.{OPENED, PUBLISHED}
+use Rattle.sd_line.specs.Line.{LineOf, form}
+use Rattle.sd_line.specs.Printed.{lines_text}
 use Rattle.sd_script.specs.Dump.{makings, dump_text, IsAskedBy, AreAskedBy, IsReadBack}
 use Rattle.sd_script.specs.Output.{is_open, script_options_of, opening_in, IsAnswered, IsDone, IsTold, closing_of}
-use Rattle.sd_script.specs.Reply.{counted_line}
+use Rattle.sd_script.specs.Reply.{counted_line, ok_line}
 use Rattle.sd_script.specs.declared.line_request.LineRequest.{LineRequest}
 use Rattle.sd_script.specs.declared.line_request.LineRequest.TheVariants.{Opening as Opens, Asking}
 use Rattle.sd_script.specs.declared.script_options.ScriptOptions.{ScriptOptions}
@@ -29,21 +31,21 @@ use Rattle.sd_script.specs.declared.session.Session.TheVariants.{Closed, Opened}
 use Rattle.sd_script.proofs.NoId.{asks_and_expects_nothing}
 use Rattle.sd_script.proofs.OneOutput.{has_one_answer}
 use Rattle.sd_script.proofs.Timely.{line_opens}
-use Rattle.sd_script_laws.specs.Laws.{Reaches, same_script_options, IsSound, IsSameAgain, DumpMakesTheTreeAgain}
+use Rattle.sd_script_laws.specs.Laws.{Reaches, same_script_options, IsSound, MakesAgain, DumpMakesTheTreeAgain}
 
 -- ---- one line
 
 -- what a line asks for is done
-answers : (old new : Session) (text told : List ℕ) (asked : LineRequest) → IsAskedBy (script_options_of old).notation (is_open old) text asked → IsDone old asked told new
+answers : (old new : Session) (text : List ℕ) (told : List LineOf) (asked : LineRequest) → IsAskedBy (script_options_of old).notation (is_open old) text asked → IsDone old asked told new
     → IsAnswered old text (told ++ closing_of text) new
 answers old new text told asked is done =
     let P : Bool → Type 0 = λ silent. MatchBool silent
     ((told ++ closing_of text ≡ []) × (new ≡ old))
-    ((said : List ℕ) × IsTold old text said new × (told ++ closing_of text ≡ said ++ closing_of text)) in
+    ((said : List LineOf) × IsTold old text said new × (told ++ closing_of text ≡ said ++ closing_of text)) in
     subst P (sym is.0) (told, inl (asked, is.1, done), refl)
 
 -- and the rest of the lines behind it
-goes_on : (old between new : Session) (text told : List ℕ) (texts : List (List ℕ)) (asked : LineRequest) → IsAskedBy (script_options_of old).notation (is_open old) text asked → IsDone old asked told between
+goes_on : (old between new : Session) (text : List ℕ) (told : List LineOf) (texts : List (List ℕ)) (asked : LineRequest) → IsAskedBy (script_options_of old).notation (is_open old) text asked → IsDone old asked told between
     → Reaches between texts new → Reaches old (text ∷ texts) new
 goes_on old between new text told texts asked is done rest = (
   told ++ closing_of text,
@@ -77,10 +79,10 @@ next_fits o front e back lawful =
 
 module _ (notation : Notation) (o : Opening) (n : ℕ) where
   -- an edit joins those that wait
-  adds : (front : List Edit) (e : Edit) → refusal o front e ≡ None → IsDone (Opened notation (waiting o n front)) (Asking (requests.Edit e)) (line (codes "ok")) (Opened notation (waiting o n (front ++ e ∷ [])))
+  adds : (front : List Edit) (e : Edit) → refusal o front e ≡ None → IsDone (Opened notation (waiting o n front)) (Asking (requests.Edit e)) (ok_line [] ∷ []) (Opened notation (waiting o n (front ++ e ∷ [])))
   adds front e fits = (replies.Edited, waiting o n (front ++ e ∷ []), (fits, refl), refl, refl)
 
-  publishes : (front : List Edit) → IsDone (Opened notation (waiting o n front)) (Asking requests.Publish) (counted_line (codes "published") (length front)) (Opened notation (shown o n front))
+  publishes : (front : List Edit) → IsDone (Opened notation (waiting o n front)) (Asking requests.Publish) (counted_line (form PUBLISHED) (length front) ∷ []) (Opened notation (shown o n front))
   publishes front = (replies.Published (length front), shown o n front, (refl, refl), refl, refl)
 
   nodes_reach : (front : List Edit) (nodes : List (Names × NodeRow)) (texts : List (List ℕ)) → IsLawful o (front ++ map added nodes)
@@ -105,7 +107,7 @@ module _ (notation : Notation) (o : Opening) (n : ℕ) where
 -- ---- the whole tree
 
 opens : (options : ScriptOptions) (n : ℕ) (row : NodeRow) → IsReaderCount n → root_refusal (opening_in options (root_of row)) ≡ None
-    → IsDone (Closed options) (Opens n (root_of row)) (counted_line (codes "opened") n) (Opened options.notation (waiting (opening_in options (root_of row)) n []))
+    → IsDone (Closed options) (Opens n (root_of row)) (counted_line (form OPENED) n ∷ []) (Opened options.notation (waiting (opening_in options (root_of row)) n []))
 opens options n row count fits = inl (count, fits, refl, refl)
 
 lines_reach : (options : ScriptOptions) (n : ℕ) (row : NodeRow) (nodes : List (Names × NodeRow)) (texts : List (List ℕ)) → IsReaderCount n
@@ -129,8 +131,7 @@ one_end old (text ∷ texts) one other first second =
 -- ---- the law
 
 remade : (notation : Notation) (m : Machine) (text : List ℕ) → IsSound m → IsReadBack notation (length m.floors) (replay m.opening m.published) text
-    → (again : Machine) × IsSameAgain m again × Reaches (Closed (same_script_options notation m)) (lines text) (Opened notation again)
-    × ((other : Session) → Reaches (Closed (same_script_options notation m)) (lines text) other → other ≡ Opened notation again)
+    → MakesAgain notation m text
 remade notation m text sound back =
     let t = replay m.opening m.published in
     let n = length m.floors in
@@ -149,9 +150,7 @@ remade notation m text sound back =
     )
 
 pub dump_makes_the_tree_again : DumpMakesTheTreeAgain
-dump_makes_the_tree_again notation m printed new sound (inl told, same) fault =
+dump_makes_the_tree_again notation m answer new sound (inl told, same) fault =
     let again = remade notation m (dump_text notation (length m.floors) (replay m.opening m.published)) sound told.0 in
-    let P : List ℕ → Type 0 = λ text. (again : Machine) × IsSameAgain m again × Reaches (Closed (same_script_options notation m)) (lines text) (Opened notation again)
-    × ((other : Session) → Reaches (Closed (same_script_options notation m)) (lines text) other → other ≡ Opened notation again) in
-    subst P (sym told.1) again
-dump_makes_the_tree_again notation m printed new sound (inr refused, same) fault = absurd (fault refused.1)
+    subst (λ (lines : List LineOf). MakesAgain notation m (lines_text notation.spelling lines)) (sym told.1) again
+dump_makes_the_tree_again notation m answer new sound (inr refused, same) fault = absurd (fault refused.1)

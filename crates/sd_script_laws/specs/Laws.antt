@@ -4,7 +4,9 @@ use Rattle.std.specs.Str.Lines.{lines}
 use Rattle.sd_edit.specs.Journal.{replay, root_refusal, IsLawful}
 use Rattle.sd_edit.specs.Machine.{Machine}
 use Rattle.sd_edit.specs.Starts.{IsReaderCount}
-use Rattle.sd_script.specs.Fault.{fault_text}
+use Rattle.sd_answer.specs.VerdictLines.{fault_line}
+use Rattle.sd_line.specs.Line.{LineOf}
+use Rattle.sd_line.specs.Printed.{lines_text}
 use Rattle.sd_script.specs.Expect.{expects}
 use Rattle.sd_script.specs.Output.{IsAnswered, IsDone}
 use Rattle.sd_script.specs.declared.line_request.LineRequest.TheVariants.{Viewing}
@@ -18,7 +20,7 @@ use Rattle.sd_script.specs.declared.view.ViewRequest.TheVariants.{Dump}
 abbrev pub Reaches : Session → List (List ℕ) → Session → Type 0
 Reaches old [] new = new ≡ old
 Reaches old (line ∷ lines) new =
-    (printed : List ℕ) × (between : Session) × (expects line ≡ false) × IsAnswered old line printed between
+    (answer : List LineOf) × (between : Session) × (expects line ≡ false) × IsAnswered old line answer between
     × Reaches between lines new
 
 -- a machine as each run of a store has one: 1 to 64 readers, an opening that isn't refused, and accepted edits
@@ -39,12 +41,17 @@ pub record IsSameAgain (m again : Machine) : Type 0 where
 abbrev pub same_script_options : Notation → Machine → ScriptOptions
 same_script_options notation m = record { mapping = m.opening.mapping; limits = m.opening.limits; notation = notation }
 
--- unless the fault is what is printed
+-- the lines of a text, run as a script in the same manner, make the store again, and whatever they reach is just that
+abbrev pub MakesAgain : Notation → Machine → List ℕ → Type 0
+MakesAgain notation m text =
+    (again : Machine) × IsSameAgain m again
+    × Reaches (Closed (same_script_options notation m)) (lines text) (Opened notation again)
+    × ((other : Session) → Reaches (Closed (same_script_options notation m)) (lines text) other
+    → other ≡ Opened notation again)
+
+-- the text of a dump does, unless the fault is what is answered
 abbrev pub DumpMakesTheTreeAgain : Type 0
 DumpMakesTheTreeAgain =
-    (notation : Notation) (m : Machine) (printed : List ℕ) (new : Session) → IsSound m
-    → IsDone (Opened notation m) (Viewing Dump) printed new → printed ≢ fault_text (codes "name")
-    → (again : Machine) × IsSameAgain m again
-    × Reaches (Closed (same_script_options notation m)) (lines printed) (Opened notation again)
-    × ((other : Session) → Reaches (Closed (same_script_options notation m)) (lines printed) other
-    → other ≡ Opened notation again)
+    (notation : Notation) (m : Machine) (answer : List LineOf) (new : Session) → IsSound m
+    → IsDone (Opened notation m) (Viewing Dump) answer new → answer ≢ fault_line (codes "name") ∷ []
+    → MakesAgain notation m (lines_text notation.spelling answer)

@@ -10,9 +10,11 @@ mod serving;
 mod streams;
 mod trees;
 
-use sd_script::{Notation, PathSpelling, ScriptOptions};
+use sd_line::{Spelling, Style, Tag};
+use sd_script::{Notation, PathSpelling, ScriptOptions, ScriptState, push_answer};
 use sd_sid::GenericMapping;
 use sd_tree::Limits;
+use std::process::Abort;
 
 /// With the generic rights of files, the standard limits, and lines as they are.
 fn plain() -> ScriptOptions {
@@ -21,4 +23,16 @@ fn plain() -> ScriptOptions {
         limits: Limits::standard(),
         notation: Notation::plain(PathSpelling::Plain),
     }
+}
+
+/// What a line is answered by, as a text with masks as numbers.
+fn printed(rt: &(impl Abort + AllocGlobal), state: &mut ScriptState, line: &str) -> String {
+    let alloc = rt.alloc();
+    let style = Style {
+        spelling: Spelling::Number,
+        is_json: false,
+    };
+    let mut out = Vec::new(alloc);
+    push_answer(alloc, state, style, Tag::None, line.as_bytes(), &mut out).expect(rt, "memory");
+    String::from_utf8(out).expect(rt, "text")
 }

@@ -1,6 +1,6 @@
 //! What a store within limits answers.
-use super::plain;
-use sd_script::{ScriptOptions, ScriptState, answer_line};
+use super::{plain, printed};
+use sd_script::{ScriptOptions, ScriptState};
 use sd_tree::Limits;
 use std::process::Abort;
 
@@ -16,7 +16,7 @@ const ANSWERED: [(&str, &str); 6] = [
 
 /// Stops the test unless the line is answered so.
 fn answers(rt: &(impl Abort + AllocGlobal), state: &mut ScriptState, line: &str, wanted: &str) {
-    let told = answer_line(rt.alloc(), state, line.as_bytes()).expect(rt, "memory");
+    let told = printed(rt, state, line);
     assert_eq!(rt; told.as_str(), wanted, "{line}");
 }
 

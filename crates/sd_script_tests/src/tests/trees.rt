@@ -1,7 +1,7 @@
 //! What is printed of nodes whose names no line of a script can give.
 
-use super::plain;
-use sd_script::{Notation, PathSpelling, ScriptState, Session, answer_line};
+use super::{plain, printed};
+use sd_script::{Notation, PathSpelling, ScriptState, Session};
 use sd_sid::{GenericMapping, Sid};
 use sd_tree::{Edit, Entries, NodeDacl, Path, RootSpec};
 use sd_versions::{Desk, Request};
@@ -44,7 +44,7 @@ fn tells(
     wanted: &str,
 ) {
     let mut state = with_object(rt, path, paths);
-    let told = answer_line(rt.alloc(), &mut state, line.as_bytes()).expect(rt, "memory");
+    let told = printed(rt, &mut state, line);
     assert_eq!(rt; told.as_str(), wanted, "{path}");
 }
 

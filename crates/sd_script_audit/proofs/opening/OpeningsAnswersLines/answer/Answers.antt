@@ -1,5 +1,5 @@
-use Rattle.sd_script_audit.proofs.Cited.{IfOk-weaker, false, line_opens, string_bytes, unopened, without_queries}
-use Rattle.sd_script_audit.proofs.Lines.{answered, on_printed}
+use Rattle.sd_script_audit.proofs.Cited.{IfOk-weaker, None, false, line_opens, on_ok_weaker, printed, refl, style_in, unopened, without_queries}
+use Rattle.sd_script_audit.proofs.Lines.{answered}
 use Rattle.sd_script_audit.proofs.opening.OpeningsAnswersLines.answer.Goals as goal
 
 -- no store is open, so a line opens one
@@ -10,12 +10,17 @@ open-requires-clause-opening c =
 pub returns : goal.returns
 returns c =
     let by = c.args.self.now in
-    on_printed c.extend_from_slice.result _ _ _ (rw (c.as_bytes-2.ensures.value) at c.extend_from_slice.ensures.items) (λ grown. (
-      string_bytes c.in_ok-answer.answer,
+    let answer = c.in_ok-answer.answer.items in
+    on_ok_weaker c.push_printed.result (λ grown. (
+      printed (style_in by.options.notation) None answer,
       grown,
-      rw (c.in-Some-None.is-0, c.in-Some-None.is-1) (record {
-        answered = answered string_bytes by.workers (unopened by.options) (without_queries by.options by.workers c.open.new.opened) c.in-Some-None.line.now _ c.asked_or_told-found.result
-            c.asked_or_told-found.ensures.asks c.asked_or_told-found.ensures.told c.in_ok-answer.ensures;
-        counted = rw (c.as_bytes.ensures.value) at c.with-unopened.ensures;
-      }),
-    ))
+      rw (c.in-Some-None.is-0, c.in-Some-None.is-1) (
+        answer,
+        record {
+          answered = answered by.workers (unopened by.options) (without_queries by.options by.workers c.open.new.opened) c.in-Some-None.line.now answer c.asked_or_told-found.result
+              c.asked_or_told-found.ensures.asks c.asked_or_told-found.ensures.told c.in_ok-answer.ensures;
+          counted = rw (c.deref.ensures.value) at c.with-unopened.ensures;
+        },
+        refl,
+      ),
+    )) (rw (c.style.ensures, c.deref-2.ensures.value) at c.push_printed.ensures)

@@ -1,4 +1,4 @@
-use Rattle.sd_script_audit.proofs.Cited.{Answer, Told, ap, arith, length, sym, ◌++◌, ◌<◌, ◌∙◌}
+use Rattle.sd_script_audit.proofs.Cited.{Answer, Told, ap, arith, length, style_in, sym, ◌++◌, ◌<◌, ◌∙◌}
 use Rattle.sd_script_audit.proofs.Answering.{answered_more, replies_by, some_of}
 use Rattle.sd_script_audit.proofs.queries.Queries.publish_and_answer.Goals as goal
 
@@ -18,7 +18,9 @@ loop-answer-preserved g c =
     ∙ ap (λ (t : Told). length t.journal) c.in-Ok.ensures.notice ∙ ap length c.in_ok-notice.ensures.journal in
     let grown = rw (c.in_ok-notice.ensures.journal) at c.in-Ok.ensures.grown in
     let are = rw (c.in_ok-notice.ensures.journal) at c.in-Ok.ensures.answers in
-    answered_more c.args.self.now.notation.spelling o journal queries i q given c.publish_and_tell.new.printed.items c.loop-answer.printed.items c.extend_from_slice.new.self.items c.as_bytes.result.now
-    within c.loop-answer.invariant c.in_ok-extend_from_slice.ensures.items (rw (c.as_bytes.ensures.value) c.in_ok-line.ensures) seen
+    let style = style_in c.args.self.now.notation in
+    let grown_by = rw (c.style-style.ensures) at c.in_ok-push_line.ensures in
+    answered_more style o journal queries i q given c.in_ok-line.line c.publish_and_tell.new.out.items c.loop-answer.out.items c.push_line.new.out.items
+    within c.loop-answer.invariant grown_by c.in_ok-line.ensures seen
     (ap (λ (a : Answer). a.reply) is
     ∙ replies_by o journal queries c.args.checkers.now c.audit.new.checkers answers i given q c.requires.some.0 grown are low (ap (λ (a : Answer). a.seen) (sym is) ∙ seen))

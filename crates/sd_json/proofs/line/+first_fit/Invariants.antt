@@ -1,6 +1,0 @@
--- Each call has fewer rows.
-use Rattle.std.proofs.Common.{length}
-use Rattle.sd_json.proofs.line.+first_fit.Given as goal
-
-abbrev pub decreases-first_fit : goal.decreases-first_fit
-decreases-first_fit l = length l.rows.now

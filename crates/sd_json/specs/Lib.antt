@@ -1,3 +1,0 @@
-pub mod Json
-pub mod Lines
-pub mod Text

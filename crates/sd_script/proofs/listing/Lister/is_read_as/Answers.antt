@@ -1,0 +1,23 @@
+use Rattle.sd_script.proofs.Cited.{LineFault, LineRequest, Notation, Ok, Result, false≢true, line_asks, subst, sym, ◌∙◌, ◌≡◌}
+use Rattle.sd_script.proofs.OneReading.{line-one}
+use Rattle.sd_script.proofs.listing.Lister.is_read_as.Goals as goal
+
+abbrev read : LineRequest → Result LineRequest LineFault
+read asked = Ok asked
+
+pub returns-in-Ok : goal.returns-in-Ok
+returns-in-Ok c =
+    let notation : Notation = c.args.self.now.notation in (
+      λ yes. (
+        sym c.is_silent.ensures ∙ c.if-is_silent.false,
+        subst (λ (asked : LineRequest). line_asks notation c.args.is_open c.args.line.now (Ok asked)) (c.is_wanted.ensures.0 yes) c.in-Ok.ensures,
+      ),
+      λ is. let same : read c.in-Ok.asked ≡ read _ = line-one notation c.args.is_open c.args.line.now _ _ c.in-Ok.ensures is.1 in c.is_wanted.ensures.1 (cc (same)),
+    )
+
+pub returns-in-Err-Fault : goal.returns-in-Err-Fault
+returns-in-Err-Fault c =
+    let asks = rw (c.in-Err-Fault.field-0-is) at c.in-Err-Fault.ensures in (
+      λ yes. absurd (false≢true yes),
+      λ is. let same = line-one c.args.self.now.notation c.args.is_open c.args.line.now _ _ asks is.1 in absurd (cc (same)),
+    )

@@ -1,0 +1,7 @@
+-- The line is told, and its answer can't grow to its end.
+use Rattle.sd_script.proofs.Untold.{on_err, told_untold}
+use Rattle.sd_script.proofs.script.answered.Goals as goal
+
+pub returns-in_err-push-clause-failed : goal.returns-in_err-push-clause-failed
+returns-in_err-push-clause-failed c =
+    on_err c.from_residual-in_err-push.result (told_untold _ _ c.args.line.now c.in_ok-answer.answer.items c.in_ok-answer.ensures.told)
