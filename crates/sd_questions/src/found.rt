@@ -142,8 +142,16 @@ pub(crate) fn found_in_user(known: Aliases, text: &str) -> Option<RemedyRow> {
     }
 }
 
+/// What was found in place of a part of SIDS.
+pub(crate) fn found_in_concern(known: Aliases, text: &str) -> Option<RemedyRow> {
+    if text.is_empty() {
+        return Some(EMPTY_PART);
+    }
+    found_in_sid(known, text)
+}
+
 /// What was found in place of a SID.
-pub(crate) fn found_in_sid(known: Aliases, text: &str) -> Option<RemedyRow> {
+fn found_in_sid(known: Aliases, text: &str) -> Option<RemedyRow> {
     let bytes = text.as_bytes();
     match read_sid_text_in(known, text) {
         Err(

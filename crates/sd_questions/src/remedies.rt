@@ -138,6 +138,12 @@ pub(crate) const NAME: RemedyRow = (
     "write the SID, as whoami /user and whoami /groups print it",
 );
 
+pub(crate) const EMPTY_PART: RemedyRow = (
+    "an empty part",
+    "a SID",
+    "write SIDs with one comma between two, as BU,PU; --risks takes none",
+);
+
 pub(crate) const SID_AS_MASK: RemedyRow = (
     "a SID",
     "rights",

@@ -9,7 +9,7 @@ ghost use Rattle.sd_arguments.specs.CommandLine.{request_of};
 ghost use Rattle.sd_arguments.specs.Options.{options_of};
 
 use crate::advised::{advised, with_advice};
-use crate::found::found_in_sid;
+use crate::found::found_in_concern;
 use crate::input::answer_input;
 use crate::remedies::row_line;
 use sd_arguments::{BadValue, Options, TextRequest};
@@ -60,7 +60,7 @@ fn advised_value(alloc: Global, bad: BadValue<'_>) -> Result<Answer, AllocError>
 /// What mends the value of an option, or nothing.
 fn value_advice(alloc: Global, bad: BadValue<'_>) -> Result<String, AllocError> {
     let row = match bad {
-        BadValue::NoConcern { text, known, .. } => found_in_sid(known, text),
+        BadValue::NoConcern { text, known, .. } => found_in_concern(known, text),
         _ => None,
     };
     match row {
