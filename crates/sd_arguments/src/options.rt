@@ -28,8 +28,8 @@ pub enum BadValue<'a> {
     NoMapping,
     /// The value of `--logon` is no kind of logon.
     NoLogon,
-    /// This part of the value of `--concern` is no SID with the aliases that are known, or one more than 16; and
-    /// whether a caret shows where.
+    /// This part of the value of `--concern` is no SID with the aliases that are known, or one that no token has, or
+    /// one more than 16; and whether a caret shows where.
     NoConcern {
         text: &'a str,
         known: Aliases,

@@ -37,7 +37,7 @@ mod verdict;
 mod words;
 
 pub use command_answer::{Answer, Outcome, answer_question, fault};
-pub use concern::{Concern, concern_given};
+pub use concern::{Concern, concern_given, concern_reason, is_placeholder};
 pub use diagnostic::{sid_reason, told_line};
 pub use escaped::escaped_word;
 pub use laws::{object_decides_alike, sorted_is_canonical};

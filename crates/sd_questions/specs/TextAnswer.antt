@@ -16,6 +16,7 @@ use Rattle.sd_usage.specs.declared.row.DescriptorCommand.TheVariants as about
 use Rattle.sd_usage.specs.declared.row.TextCommand.{TextCommand}
 use Rattle.sd_usage.specs.declared.row.TextCommand.TheVariants.{Descriptor}
 use Rattle.sd_commands.specs.CommandAnswer.{AnswerValue, AnswersQuestion, IsFault, argument}
+use Rattle.sd_commands.specs.Concern.{IsConcernReason}
 use Rattle.sd_commands.specs.Diagnostic.{told_line, IsSidReason}
 use Rattle.sd_commands.specs.Escaped.{escaped}
 use Rattle.sd_commands.specs.declared.command_answer.Outcome.{Outcome}
@@ -46,7 +47,7 @@ IsBadValue NoMapping answer = IsBadOption (codes "mapping")
 IsBadValue NoLogon answer = IsBadOption (codes "logon")
     (codes "no such logon: interactive, network, batch, service, anonymous") answer
 IsBadValue (NoConcern text known points) answer =
-    (reason : List ℕ) × IsSidReason points known (codes "one SID too many: at most 16") text.now reason
+    (reason : List ℕ) × IsConcernReason points known text.now reason
     × IsBadOption (codes "concern") (codes "\"" ++ escaped text.now ++ codes "\": " ++ reason) answer
 IsBadValue NoNodes answer = IsBadOption (codes "nodes") (codes "no number of nodes, 1 to 16777216") answer
 IsBadValue NoEdits answer = IsBadOption (codes "edits") (codes "no number of edits, 0 to 4294967296") answer

@@ -1,7 +1,7 @@
 //! Which row of the table of remedies fits a text that can't be parsed.
 
 use crate::remedies::*;
-use sd_commands::Settings;
+use sd_commands::{Settings, is_placeholder};
 use sd_line::{Spelling, read_mask_in};
 use sd_text::{Aliases, TextError, TextFault, read_mask, read_sid_text_in};
 
@@ -147,7 +147,10 @@ pub(crate) fn found_in_concern(known: Aliases, text: &str) -> Option<RemedyRow> 
     if text.is_empty() {
         return Some(EMPTY_PART);
     }
-    found_in_sid(known, text)
+    match read_sid_text_in(known, text) {
+        Ok(sid) if is_placeholder(&sid) => Some(PLACEHOLDER),
+        _ => found_in_sid(known, text),
+    }
 }
 
 /// What was found in place of a SID.

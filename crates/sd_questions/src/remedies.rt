@@ -144,6 +144,12 @@ pub(crate) const EMPTY_PART: RemedyRow = (
     "write SIDs with one comma between two, as BU,PU; --risks takes none",
 );
 
+pub(crate) const PLACEHOLDER: RemedyRow = (
+    "a SID that stands for whoever creates or owns an object, and is in no token",
+    "a user's or a group's",
+    "write the SID, as whoami /user and whoami /groups print it",
+);
+
 pub(crate) const SID_AS_MASK: RemedyRow = (
     "a SID",
     "rights",

@@ -13,7 +13,7 @@ use crate::found::found_in_concern;
 use crate::input::answer_input;
 use crate::remedies::row_line;
 use sd_arguments::{BadValue, Options, TextRequest};
-use sd_commands::{Answer, escaped_word, fault, sid_reason, told_line};
+use sd_commands::{Answer, concern_reason, escaped_word, fault, sid_reason, told_line};
 use sd_lines::{RunError, Watched, read_whole};
 use sd_text::Aliases;
 use std::alloc::{AllocError, Global};
@@ -96,8 +96,7 @@ pub fn bad_value(alloc: Global, bad: BadValue<'_>) -> Result<Answer, AllocError>
             known,
             points,
         } => {
-            let unfit = "one SID too many: at most 16";
-            let reason = sid_reason(alloc, points, known, unfit, text)?;
+            let reason = concern_reason(alloc, points, known, text)?;
             bad_concern(alloc, text, reason.as_str())
         }
         BadValue::NoNodes => bad_option(alloc, "nodes", "no number of nodes, 1 to 16777216"),
@@ -105,7 +104,7 @@ pub fn bad_value(alloc: Global, bad: BadValue<'_>) -> Result<Answer, AllocError>
     }
 }
 
-/// The answer to SIDs of concern of which this text isn't read for this reason.
+/// The answer to SIDs of concern of which this text isn't taken for this reason.
 fn bad_concern(alloc: Global, text: &str, reason: &str) -> Result<Answer, AllocError>
     ensures { IfOk result (λ answer. IsBadOption (codes "concern")
         (codes "\"" ++ escaped text.now ++ codes "\": " ++ reason.now) (answer_of answer)) }
