@@ -23,7 +23,7 @@ pub use Rattle.sd_commands.specs.Sort.{CanonicalStays, SortedIsCanonical, move_n
 pub use Rattle.sd_inheritance.proofs.HandedOn.{unmarked_stays}
 pub use Rattle.sd_inheritance.specs.Inheritance.{pass_on}
 pub use Rattle.sd_inheritance.specs.declared.kind.NodeKind.{NodeKind}
-pub use Rattle.sd_sid.proofs.Masks.{holds-and}
+pub use Rattle.sd_sid.proofs.Masks.{flag_test, holds-and}
 pub use Rattle.sd_sid.specs.Mapping.{MappingValue, mapped}
 pub use Rattle.sd_sid.specs.Mask.{holds}
 pub use Rattle.sd_sid.specs.Sid.{SidValue, same_sid}

@@ -1,6 +1,6 @@
 -- What a command about a descriptor answers, and whether it did what was asked for. The arguments are read from left to
 -- right, and the first that isn't read is told as a fault.
-use Rattle.std.specs.Prelude.{◌≡◌, ◌⊎◌, ℕ, Bool, MatchBool, List, [], ◌∷◌, ◌++◌, Result, Ok, Err, codes}
+use Rattle.std.specs.Prelude.{◌≡◌, ◌⊎◌, ℕ, Bool, ◌||◌, MatchBool, List, [], ◌∷◌, ◌++◌, Result, Ok, Err, codes}
 use Rattle.std.specs.Prelude.{Option, Some, None, string_bytes, drop, if◌then◌else◌, slice_get}
 use Rattle.std.specs.Option.{option_map_or}
 use Rattle.std.specs.Borrow.{Bor}
@@ -45,15 +45,15 @@ use Rattle.sd_answer.specs.Word.{AreGroups, IsFirstNoGroup, IsFirstNoWord, IsTok
 use Rattle.sd_commands.specs.Analysis.{AreAccesses, AreBelowLines, with_below}
 use Rattle.sd_commands.specs.Logon.{fits_logon, words_for}
 use Rattle.sd_commands.specs.Bytes.{BytesRead, bytes_read, form_name, has_sacl, without_sacl}
-use Rattle.sd_commands.specs.Object.{looked_at}
+use Rattle.sd_commands.specs.Object.{leaves_out, looked_at}
 use Rattle.sd_commands.specs.Required.{missing_dacl}
 use Rattle.sd_usage.specs.declared.row.TextCommand.{TextCommand}
 use Rattle.sd_usage.specs.declared.row.TextCommand.TheVariants as questions
 use Rattle.sd_commands.specs.Pointer.{pointed}
 use Rattle.sd_commands.specs.Risks.{risk_lines}
 use Rattle.sd_commands.specs.Sort.{move_notes, sorted_descriptor}
-use Rattle.sd_commands.specs.Diagnostic.{at_byte, fault_text, sacl_note, sddl_fault_text, told_line, told_wire_fault}
-use Rattle.sd_commands.specs.Diagnostic.{word_argument}
+use Rattle.sd_commands.specs.Diagnostic.{at_byte, fault_text, object_note, sacl_note, sddl_fault_text, told_line}
+use Rattle.sd_commands.specs.Diagnostic.{told_wire_fault, word_argument}
 use Rattle.sd_commands.specs.Diagnostic.{IsStateReason, IsWordReason}
 use Rattle.sd_commands.specs.declared.command_answer.Answer.{Answer}
 use Rattle.sd_usage.specs.declared.row.DescriptorCommand.{DescriptorCommand}
@@ -166,6 +166,15 @@ abbrev pub Noting : List ℕ → Bool → (AnswerValue → Type 0) → AnswerVal
 Noting argument left_out Answers answer =
     (inner : AnswerValue) × IsNoted argument left_out inner answer × Answers inner
 
+-- the other answer, and where OI or CI of entries were left out, that is told first
+unfoldable pub IsObjectNoted : Bool → AnswerValue → AnswerValue → Type 0
+IsObjectNoted left_out inner answer = answer ≡ record inner { told = object_note left_out ++ inner.told }
+
+-- what is answered otherwise, with that
+abbrev pub NotingObject : Bool → (AnswerValue → Type 0) → AnswerValue → Type 0
+NotingObject left_out Answers answer =
+    (inner : AnswerValue) × IsObjectNoted left_out inner answer × Answers inner
+
 -- the descriptor lacks the list that is required
 abbrev pub IsMissingDacl : List ℕ → List ℕ → AnswerValue → Type 0
 IsMissingDacl argument missing answer = IsFault (fault_line (codes "nodacl")) (told_line argument missing) answer
@@ -181,11 +190,10 @@ IsRefusedArgument argument settings written answer =
     × (missing_dacl settings.require_dacl d.dacl ≡ Some missing)
     × Noting argument left_out (IsMissingDacl argument missing) answer)
 
--- the argument is taken for this descriptor
+-- the argument is this descriptor, and it is taken
 abbrev pub IsTaken : Settings → List ℕ → DescriptorValue → Bool → Type 0
-IsTaken settings written d left_out = (given : DescriptorValue)
-    × IsRead settings.aliases settings.without_sacl written given left_out
-    × (missing_dacl settings.require_dacl given.dacl ≡ None) × (d ≡ looked_at settings.object given)
+IsTaken settings written d left_out = IsRead settings.aliases settings.without_sacl written d left_out
+    × (missing_dacl settings.require_dacl d.dacl ≡ None)
 
 -- what the argument of this name is
 abbrev pub IsGiven : List ℕ → Settings → List ℕ → Given → Type 0
@@ -349,12 +357,24 @@ PrintsComparison settings old new base answer =
     × AreDescendantLines settings old new base below
     × IsFound (line_of (form SAME) []) ((own ++ below) ++ inheritance_lines old.protected new.protected) answer
 
+-- what tokens gain and lose by the descriptors as they are looked at, and whether something was left out of them
+abbrev pub AnswersComparison : Settings → DescriptorValue → DescriptorValue → List (SidValue × GroupState)
+    → AnswerValue → Type 0
+AnswersComparison settings old new base =
+    NotingObject (leaves_out settings.object old || leaves_out settings.object new)
+    (PrintsComparison settings (looked_at settings.object old) (looked_at settings.object new) base)
+
 -- ---- findings
 
 -- the findings, or that there are none
 abbrev pub PrintsFindings : Settings → DescriptorValue → List (SidValue × GroupState) → AnswerValue → Type 0
 PrintsFindings settings d base answer = (lines : List LineOf) × AreFindings settings.mapping base d lines
     × IsFound (line_of (form CLEAN) []) (lines ++ risk_lines settings d base) answer
+
+-- the findings in the descriptor as it is looked at, and whether something was left out of it
+abbrev pub AnswersFindings : Settings → DescriptorValue → List (SidValue × GroupState) → AnswerValue → Type 0
+AnswersFindings settings d base =
+    NotingObject (leaves_out settings.object d) (PrintsFindings settings (looked_at settings.object d) base)
 
 -- ---- rights
 
@@ -376,8 +396,8 @@ AnswersOn settings about.Why arguments d = AnswersUser settings Explained argume
 AnswersOn settings about.Who arguments d = AnswersOfMask settings (argument arguments 0)
     (λ asked. AnswersOfBase settings (drop 1 arguments) (PrintsWho settings asked d))
 AnswersOn settings about.Compare arguments old = AnswersOfArgument (codes "NEW") settings (argument arguments 0)
-    (λ new. AnswersOfBase settings (drop 1 arguments) (PrintsComparison settings old new))
-AnswersOn settings about.Lint arguments d = AnswersOfBase settings arguments (PrintsFindings settings d)
+    (λ new. AnswersOfBase settings (drop 1 arguments) (AnswersComparison settings old new))
+AnswersOn settings about.Lint arguments d = AnswersOfBase settings arguments (AnswersFindings settings d)
 AnswersOn settings about.Print arguments d = IsDone (descriptor_line d)
 AnswersOn settings about.Sort arguments d = IsSorted settings d
 -- the self-relative form in hexadecimal

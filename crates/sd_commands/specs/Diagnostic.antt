@@ -1,4 +1,4 @@
--- What standard error is told beside an answer: which argument isn't read, and why; or that a SACL is left out.
+-- What standard error is told beside an answer: which argument isn't read, and why; or what is left out.
 use Rattle.std.specs.Prelude.{◌≡◌, ◌⊎◌, ℕ, ◌+◌, ◌==◌, Bool, false, MatchBool, List, [], ◌∷◌, ◌++◌}
 use Rattle.std.specs.Prelude.{if◌then◌else◌, codes}
 use Rattle.std.specs.Fmt.{decimal}
@@ -49,6 +49,11 @@ told_wire_fault bytes fault = wire_fault_text fault ++ wire_kind_note bytes faul
 -- a SACL was in the argument, and was left out
 abbrev pub sacl_note : List ℕ → Bool → List ℕ
 sacl_note argument left_out = if left_out then told_line argument (codes "the SACL is left out") else []
+
+-- OI or CI of entries were left out
+abbrev pub object_note : Bool → List ℕ
+object_note left_out = if left_out then told_line (codes "--object")
+    (codes "what entries pass on to what is made in a container is left out") else []
 
 -- ---- words
 

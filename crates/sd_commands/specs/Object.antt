@@ -1,12 +1,15 @@
 -- What `--object` makes of a descriptor: that of an object and of no container, which hands nothing on. The flags OI
 -- and CI of its entries ([MS-DTYP] 2.4.4.1) say nothing then, and are left out.
-use Rattle.std.specs.Prelude.{◌≡◌, ℕ, Bool, bit_and, if◌then◌else◌, List, [], map, Option, Some}
+use Rattle.std.specs.Prelude.{◌≡◌, ℕ, Bool, ◌&&◌, ◌||◌, bit_and, if◌then◌else◌, List, [], map, Option, Some}
+use Rattle.std.specs.List.{list_any}
 use Rattle.sd_sid.specs.Mapping.{MappingValue}
 use Rattle.sd_sid.specs.Sid.{SidValue}
 use Rattle.sd_acl.specs.Dacl.{Dacl}
 use Rattle.sd_acl.specs.Descriptor.{DescriptorValue}
 use Rattle.sd_acl.specs.declared.ace.Ace.{Ace}
 use Rattle.sd_acl.specs.declared.descriptor.DaclOf.TheVariants.{Absent, Null, List as Entries}
+use Rattle.sd_inheritance.specs.Inheritance.{container_inherit, object_inherit}
+use Rattle.sd_answer.specs.Parts.{entries_in}
 use Rattle.sd_check.specs.Check.{verdict}
 use Rattle.sd_check.specs.Token.{TokenValue}
 use Rattle.sd_analysis.specs.Descendants.{list_of}
@@ -23,6 +26,13 @@ object_dacl (Entries es) = Entries (map object_entry es)
 
 abbrev pub looked_at : Bool → DescriptorValue → DescriptorValue
 looked_at is_object d = if is_object then record d { dacl = object_dacl d.dacl } else d
+
+-- an entry has OI or CI, so that something is left out
+abbrev pub is_passed_on : Ace → Bool
+is_passed_on e = object_inherit e || container_inherit e
+
+abbrev pub leaves_out : Bool → DescriptorValue → Bool
+leaves_out is_object d = is_object && list_any is_passed_on (entries_in d.dacl)
 
 -- each check of the object has the verdict of the list that is given, and nothing that is made in it would inherit
 abbrev pub ObjectDecidesAlike : Type 0

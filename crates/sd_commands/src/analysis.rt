@@ -3,11 +3,12 @@ ghost use Rattle.std.specs.Prelude.{◌<◌, IfOk, length};
 ghost use Rattle.sd_acl.specs.Descriptor.{descriptor_of};
 ghost use Rattle.sd_answer.specs.Word.{IsFirstNoGroup, texts};
 ghost use Rattle.sd_commands.specs.Analysis.{AreBelowLines};
-ghost use Rattle.sd_commands.specs.CommandAnswer.{AnswersOfBase, AnswersOn, AreDescendantLines};
+ghost use Rattle.sd_commands.specs.CommandAnswer.{AnswersComparison, AnswersOfBase, AnswersOn, AreDescendantLines};
 ghost use Rattle.sd_commands.specs.CommandAnswer.{AreOwnChanges, IsGroupFault, PrintsComparison, PrintsWho, answer_of};
 
 use crate::command_answer::{Answer, Answered, found};
-use crate::descriptor::{Given, note_left_out_sacl};
+use crate::descriptor::{Given, note_left_out_sacl, note_object};
+use crate::object::{either_leaves_out, looked_at};
 use crate::settings::CommandContext;
 use crate::words::{argument, items_from};
 use sd_acl::Descriptor;
@@ -19,6 +20,7 @@ use sd_answer::{
 use sd_check::GroupState;
 use sd_line::{Line, read_mask_in};
 use sd_sid::{Mask, Sid};
+use sd_text::WithoutSacl;
 use sd_usage::DescriptorCommand;
 use std::alloc::AllocError;
 
@@ -91,28 +93,51 @@ impl CommandContext {
 
     /// What tokens gain and lose where the new descriptor takes the place of the old one, where the new one and the
     /// base are the arguments; or the fault of the first from the left that is invalid.
-    pub(crate) fn compare(self, old: &Descriptor, arguments: &[&str]) -> Answered
+    pub(crate) fn compare(self, old: Descriptor, arguments: &[&str]) -> Answered
         ensures { IfOk result (λ answer. AnswersOn self.settings DescriptorCommand.Compare arguments.now
-            (descriptor_of old.now) (answer_of answer)) }
+            (descriptor_of old) (answer_of answer)) }
     {
         let read = match self.read_argument("NEW", argument(arguments, 0))? {
             Given::Descriptor(read) => read,
             Given::Refused(answer) => return Ok(answer),
         };
+        let WithoutSacl {
+            descriptor,
+            left_out,
+        } = read;
         let words = items_from(arguments, 1);
-        let answer = self.compare_with_base(old, &read.descriptor, words)?;
-        Ok(note_left_out_sacl(self.alloc, "NEW", read.left_out, answer)?)
+        let answer = self.compare_with_base(old, descriptor, words)?;
+        Ok(note_left_out_sacl(self.alloc, "NEW", left_out, answer)?)
     }
 
-    fn compare_with_base(self, old: &Descriptor, new: &Descriptor, words: &[&str]) -> Answered
+    fn compare_with_base(self, old: Descriptor, new: Descriptor, words: &[&str]) -> Answered
         ensures { IfOk result (λ answer. AnswersOfBase self.settings words.now
-            (PrintsComparison self.settings (descriptor_of old.now) (descriptor_of new.now)) (answer_of answer)) }
+            (AnswersComparison self.settings (descriptor_of old) (descriptor_of new)) (answer_of answer)) }
     {
         match read_base(self.alloc, self.settings.aliases, words) {
-            Ok(groups) => self.comparison(old, new, &groups),
+            Ok(groups) => self.comparison_seen(old, new, &groups),
             Err(TokenError::NoWord { place }) => self.group_fault(words, place),
             Err(TokenError::Memory) => Err(AllocError),
         }
+    }
+
+    /// What tokens gain and lose by the descriptors as they are looked at, and that something was left out of them,
+    /// where it was.
+    fn comparison_seen(
+        self,
+        old: Descriptor,
+        new: Descriptor,
+        groups: &[(Sid, GroupState)],
+    ) -> Answered
+        ensures { IfOk result (λ answer. AnswersComparison self.settings (descriptor_of old) (descriptor_of new)
+            groups.now (answer_of answer)) }
+    {
+        let (alloc, is_object) = (self.alloc, self.settings.object);
+        let left_out = either_leaves_out(is_object, &old, &new);
+        let old = looked_at(alloc, is_object, old)?;
+        let new = looked_at(alloc, is_object, new)?;
+        let answer = self.comparison(&old, &new, groups)?;
+        note_object(alloc, left_out, answer)
     }
 
     fn comparison(

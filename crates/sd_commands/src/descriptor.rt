@@ -1,11 +1,10 @@
 //! The descriptor that an argument's text is, with a SACL that is left out where that is asked for.
 ghost use Rattle.std.specs.Prelude.{◌≡◌, IfOk, option_map};
 ghost use Rattle.sd_commands.specs.Required.{missing_dacl};
-ghost use Rattle.sd_commands.specs.CommandAnswer.{IsGiven, IsNoted, answer_of};
+ghost use Rattle.sd_commands.specs.CommandAnswer.{IsGiven, IsNoted, IsObjectNoted, answer_of};
 
 use crate::command_answer::{Answer, Answered};
 use crate::diagnostic::told_line;
-use crate::object::looked_at;
 use crate::settings::{CommandContext, Settings};
 use sd_acl::Dacl;
 use sd_answer::read_sddl_argument;
@@ -21,7 +20,7 @@ pub(crate) enum Given {
 }
 
 impl CommandContext {
-    /// What the argument of this name is ([MS-DTYP] 2.5.1.1), as an object's where that is said.
+    /// What the argument of this name is ([MS-DTYP] 2.5.1.1).
     pub(crate) fn read_argument(self, name: &str, sddl: &str) -> Result<Given, AllocError>
         ensures { IfOk result (IsGiven name.now self.settings sddl.now) }
     {
@@ -34,10 +33,7 @@ impl CommandContext {
             Err(TextError::Memory) => return Err(AllocError),
         };
         match missing_dacl(self.settings, &read.descriptor.dacl) {
-            None => Ok(Given::Descriptor(WithoutSacl {
-                descriptor: looked_at(self.alloc, self.settings.object, read.descriptor)?,
-                left_out: read.left_out,
-            })),
+            None => Ok(Given::Descriptor(read)),
             Some(missing) => {
                 let answer = self.fault("nodacl", name, missing)?;
                 let answer = note_left_out_sacl(self.alloc, name, read.left_out, answer)?;
@@ -71,6 +67,20 @@ pub(crate) fn note_left_out_sacl(
 {
     if left_out {
         let mut told = told_line(alloc, name, "the SACL is left out")?;
+        told.push_str(answer.told.as_str())?;
+        answer.told = told;
+    }
+    Ok(answer)
+}
+
+/// The answer, and before what is told beside it, that OI or CI of entries were left out, where they were.
+#[tactic(auto, unfolding(crate::specs::CommandAnswer::IsObjectNoted))]
+pub(crate) fn note_object(alloc: Global, left_out: bool, mut answer: Answer) -> Answered
+    ensures { IfOk result (λ noted. IsObjectNoted left_out (answer_of answer) (answer_of noted)) }
+{
+    if left_out {
+        let what = "what entries pass on to what is made in a container is left out";
+        let mut told = told_line(alloc, "--object", what)?;
         told.push_str(answer.told.as_str())?;
         answer.told = told;
     }

@@ -1,11 +1,13 @@
 //! What `--object` makes of a descriptor: that of an object and of no container.
-ghost use Rattle.std.specs.Prelude.{◌≡◌, IfOk, map};
+ghost use Rattle.std.specs.Prelude.{◌≡◌, ◌||◌, IfOk, map};
+ghost use Rattle.std.specs.List.{list_any};
 ghost use Rattle.sd_acl.specs.Ace.{acl_size_of};
 ghost use Rattle.sd_acl.specs.Descriptor.{descriptor_of};
-ghost use Rattle.sd_commands.specs.Object.{looked_at, object_dacl, object_entry};
+ghost use Rattle.sd_commands.specs.Object.{is_passed_on, leaves_out, looked_at, object_dacl, object_entry};
 
 use bitflags::Flags;
 use sd_acl::{Ace, AceFlags, AceList, Dacl, Descriptor};
+use sd_answer::entries_in;
 use std::alloc::{AllocError, Global};
 
 /// The descriptor as it is looked at: an object's hands nothing on, so OI and CI of its entries are left out
@@ -28,6 +30,35 @@ pub(crate) fn looked_at(
         auto_req: descriptor.auto_req,
         auto_inherited: descriptor.auto_inherited,
     })
+}
+
+/// Whether an entry has OI or CI ([MS-DTYP] 2.4.4.1), so that something is left out.
+pub(crate) fn leaves_out(is_object: bool, descriptor: &Descriptor) -> bool
+    ensures { result ≡ leaves_out is_object (descriptor_of descriptor.now) }
+{
+    is_object && are_passed_on(entries_in(&descriptor.dacl))
+}
+
+/// Whether something is left out of one of the two.
+pub(crate) fn either_leaves_out(is_object: bool, one: &Descriptor, other: &Descriptor) -> bool
+    ensures { result
+        ≡ (leaves_out is_object (descriptor_of one.now) || leaves_out is_object (descriptor_of other.now)) }
+{
+    leaves_out(is_object, one) || leaves_out(is_object, other)
+}
+
+fn are_passed_on(entries: &[Ace]) -> bool
+    ensures { result ≡ list_any is_passed_on entries.now }
+{
+    entries.iter().any(is_passed_on)
+}
+
+fn is_passed_on(entry: &Ace) -> bool
+    ensures { result ≡ is_passed_on entry.now }
+{
+    let to_objects = entry.flags.contains(AceFlags::OI);
+    let to_containers = entry.flags.contains(AceFlags::CI);
+    to_objects || to_containers
 }
 
 /// The DACL of an object, which takes as many bytes.

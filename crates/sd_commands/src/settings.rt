@@ -37,7 +37,7 @@ pub struct Settings {
     pub require_dacl: bool,
     /// Whether `who` also looks at what is made in a container.
     pub below: bool,
-    /// Whether descriptors are those of objects and of no containers, and OI and CI of entries are left out.
+    /// Whether `compare` and `lint` look at descriptors of objects and of no containers: without OI and CI of entries.
     pub object: bool,
     /// Whether `lint` reports risks too.
     pub risks: bool,
