@@ -1,6 +1,6 @@
 //! The calls that return the parts of a kept descriptor: its owner, its group, its DACL and the entries of that.
 
-ghost use Rattle.std.specs.Prelude.{◌≡◌, IfErr, IfOk, option_copied};
+ghost use Rattle.std.specs.Prelude.{◌≡◌, IfErr, IfOk};
 ghost use Rattle.sd_acl.specs.Descriptor.{descriptor_of};
 ghost use Rattle.sd_c.specs.Entries.{IsEntryPart, IsSidPart, LacksPart, ReturnsDacl, WritesEntry, WritesSidPart};
 ghost use Rattle.sd_c.specs.Entries.{control_of, dacl_answer, dacl_in, entry_at, entry_in, entry_kind, no_dacl};

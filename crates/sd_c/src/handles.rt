@@ -1,6 +1,6 @@
 //! The check of what handles keep, and the end of a handle.
 
-ghost use Rattle.std.specs.Prelude.{◌≡◌, ◌⊎◌, ◌<◌};
+ghost use Rattle.std.specs.Prelude.{◌≡◌};
 ghost use Rattle.sd_c.specs.CallAnswer.{check_answer};
 ghost use Rattle.sd_c.specs.Kept.{Stays, asked_of, kept_request};
 ghost use Rattle.sd_c.specs.Request.{verdict_read};

@@ -1,13 +1,11 @@
 //! The call that measures a descriptor in a longer buffer.
 
-ghost use Rattle.std.specs.Prelude.{◌≡◌, ◌+◌, ◌<◌, ◌≤◌, ◌^◌, length, IfOk, IfErr, MatchOption};
+ghost use Rattle.std.specs.Prelude.{◌≡◌, ◌+◌, ◌<◌, ◌≤◌, ◌^◌, length, IfOk, IfErr};
 ghost use Rattle.sd_sid.specs.SidBytes.{u32_at};
-ghost use Rattle.sd_acl.specs.declared.descriptor.DaclOf.TheVariants.{List as Entries};
 ghost use Rattle.sd_acl.specs.Descriptor.{descriptor_of};
-ghost use Rattle.sd_wire.specs.Reading.{u16_at};
-ghost use Rattle.sd_wire.specs.Standing.{DaclStands, Holds};
+ghost use Rattle.sd_wire.specs.Standing.{Holds};
 ghost use Rattle.sd_c.specs.Length.{AnswersLength, FrontIsRead, HasListRoom, IsLengthOf, dacl_end, descriptor_end};
-ghost use Rattle.sd_c.specs.Length.{length_told, trustee_end};
+ghost use Rattle.sd_c.specs.Length.{trustee_end};
 ghost use Rattle.sd_c.specs.Written.{RefusesBytes};
 
 use crate::call_answer::{Written, length_told, refused};

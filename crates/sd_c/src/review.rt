@@ -1,7 +1,6 @@
 //! What a publish would change, one node at a time, for all tokens.
 
 ghost use Rattle.std.specs.Prelude.{◌≡◌, [], IfErr, IfOk, Some, string_bytes};
-ghost use Rattle.std.specs.FinMap.{entries};
 ghost use Rattle.sd_path.specs.PathText.{text_of};
 ghost use Rattle.sd_review.specs.Review.{trees_of};
 ghost use Rattle.sd_c.specs.Kept.{Stays};

@@ -1,5 +1,5 @@
 -- A sorted list is in canonical order and takes as many bytes as before, and one that is in that order stays as it is.
-use Rattle.sd_commands.proofs.Cited.{Ace, Bool, CanonicalStays, IsPermutation-filter_both, List, SortedIsCanonical, [], ace_size, acl_size_of, allows, any-filter_same, arith, canonical_order, denies, deny_behind_allow, explicit_behind_inherited, false, filter, filter-append, is_explicit, is_inherited, list_any, list_any-IsPermutation, nat_tests, not, not-not, not-true, refl, sorted, sum_by-append, sum_by-filter_both, sym, ◌&&◌, ◌++◌, ◌+◌, ◌||◌, ◌∙◌, ◌∷◌, ◌≡◌}
+use Rattle.sd_commands.proofs.Cited.{Ace, Bool, CanonicalStays, IsPermutation-filter_both, List, SortedIsCanonical, [], ace_size, acl_size_of, allows, any-filter_same, arith, canonical_order, denies, deny_behind_allow, explicit_behind_inherited, false, filter, filter-append, is_explicit, is_inherited, list_any, list_any-IsPermutation, nat_tests, not, not-not, not-true, refl, sorted, sum_by-append, sum_by-filter_both, sym, ◌&&◌, ◌++◌, ◌||◌, ◌∙◌, ◌∷◌, ◌≡◌}
 use Rattle.std.proofs.lemmas.List.{append-nil}
 
 -- in a part by the test none fails it; where none does, all is such a part

@@ -9,9 +9,14 @@ pub fn sorted_is_canonical()
     ensures stays { CanonicalStays }
 {}
 
-/// After `--object` each check has the verdict that it has without, and nothing is inherited ([MS-DTYP] 2.4.4.1).
-#[tactic(auto, using(crate::proofs::ObjectList::object_decides_alike, crate::proofs::ObjectList::object_hands_nothing_on))]
+/// After `--object` each check has the verdict that it has without ([MS-DTYP] 2.4.4.1).
+#[tactic(auto, using(crate::proofs::ObjectList::object_decides_alike))]
 pub fn object_decides_alike()
-    ensures verdicts { ObjectDecidesAlike }
-    ensures nothing { ObjectHandsNothingOn }
+    ensures { ObjectDecidesAlike }
+{}
+
+/// After `--object` nothing is inherited ([MS-DTYP] 2.4.4.1).
+#[tactic(auto, using(crate::proofs::ObjectList::object_hands_nothing_on))]
+pub fn object_hands_nothing_on()
+    ensures { ObjectHandsNothingOn }
 {}

@@ -40,7 +40,7 @@ pub use command_answer::{Answer, Outcome, answer_question, fault};
 pub use concern::{Concern, concern_given, concern_reason, is_placeholder};
 pub use diagnostic::{sid_reason, told_line};
 pub use escaped::escaped_word;
-pub use laws::{object_decides_alike, sorted_is_canonical};
+pub use laws::{object_decides_alike, object_hands_nothing_on, sorted_is_canonical};
 pub use logon::{Logon, fits_logon, logon_given};
 pub use mapping::{kind_given, mapping_given};
 pub use settings::{ByteForm, Settings};

@@ -1,5 +1,5 @@
 //! What Windows adds to a token by how its user logged on.
-ghost use Rattle.std.specs.Prelude.{◌≡◌, ◌++◌, IfNone, IfOk, IfSome, option_map};
+ghost use Rattle.std.specs.Prelude.{◌≡◌, IfNone, IfOk, IfSome, option_map};
 ghost use Rattle.sd_answer.specs.Word.{texts};
 ghost use Rattle.sd_commands.specs.Logon.{GivesLogon, GivesNoLogon, fits_logon, group_texts, logon_named, words_for};
 
