@@ -6,7 +6,7 @@
 //! ```text
 //! let line = Line::new(alloc, ("granted", "granted {mask}"), vec![in alloc; Value::Mask(Mask(0x160089))]?)?;
 //! let names = Spelling::Names(Some(ObjectKind::File));
-//! whole_line(alloc, names, &line)?; // granted FR+WD
+//! lines_text(alloc, names, &[line])?; // granted FR+WD, and a line feed
 //! // and by `push_printed`, with `is_json`: {"answer":"granted","mask":"FR+WD"}
 //! read_mask_in(names, "Full control"); // Mask(0x1F01FF)
 //! ```
@@ -28,6 +28,6 @@ pub use laws::{masks_come_back, names_are_distinct};
 pub use line::{Line, LineForm, Part, SidMark, Sids, Text, Value};
 pub use mask::read_mask_in;
 pub use names::ObjectKind;
-pub use print::{Style, Tag, lines_text, push_printed, whole_line};
+pub use print::{Style, Tag, lines_text, push_printed};
 pub use rights::rights_line;
 pub use spelling::{Spelling, spell};

@@ -3,7 +3,6 @@
 ghost use Rattle.std.specs.Prelude.{◌≡◌, ◌++◌, IfOk, OnOk, codes, string_bytes};
 ghost use Rattle.sd_line.specs.Json.{json_string};
 ghost use Rattle.sd_line.specs.Printed.{head_text, lines_text, object, printed, printed_line, tag_members, tag_of};
-ghost use Rattle.sd_line.specs.Printed.{whole_line};
 
 use crate::line::Line;
 use crate::printer::Printer;
@@ -31,25 +30,18 @@ pub struct Style {
     pub is_json: bool,
 }
 
-/// The text of a line, with its end. The only error is out of memory.
-pub fn whole_line(alloc: Global, spelling: Spelling, line: &Line) -> Result<String, AllocError>
-    ensures { IfOk result (λ text. string_bytes text ≡ whole_line spelling line.now) }
-{
-    let printer = Printer { alloc, spelling };
-    let mut text = String::new(alloc);
-    printer.push_text(&mut text, line)?;
-    text.push_str("\n")?;
-    Ok(text)
-}
+/// Most lines have fewer bytes: their text is one allocation.
+const COMMON_LEN: usize = 128;
 
 /// The texts of lines, each with its end. The only error is out of memory.
 pub fn lines_text(alloc: Global, spelling: Spelling, lines: &[Line]) -> Result<String, AllocError>
     ensures { IfOk result (λ text. string_bytes text ≡ lines_text spelling lines.now) }
 {
+    let printer = Printer { alloc, spelling };
     let mut text = String::new(alloc);
     for line in lines {
-        let line = whole_line(alloc, spelling, line)?;
-        text.push_str(line.as_str())?;
+        printer.push_text(&mut text, line)?;
+        text.push_str("\n")?;
     }
     Ok(text)
 }
@@ -87,7 +79,7 @@ fn push_printed_line(
         printer.push_object(out, tag, line)?;
     } else {
         push_head(out, tag)?;
-        let mut text = String::new(alloc);
+        let mut text = String::with_capacity(alloc, COMMON_LEN)?;
         printer.push_text(&mut text, line)?;
         out.extend_from_slice(text.as_bytes())?;
     }

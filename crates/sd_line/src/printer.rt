@@ -56,10 +56,19 @@ impl Printer {
         };
         let (piece, pieces) = first_words(text);
         let (_, words) = name_and_words(piece);
-        let value = self.value_text(value)?;
-        out.push_str(value.as_str())?;
+        self.push_value(out, value)?;
         out.push_str(words)?;
         self.push_values(out, pieces, values)
+    }
+
+    fn push_value(&self, out: &mut String, value: &Value) -> Result<(), AllocError>
+        ensures { OnOk result (string_bytes out.new ≡ string_bytes out.old ++ value_text self.now.spelling value.now) }
+    {
+        if let Value::Text(text) = value {
+            return out.push_str(text.as_str());
+        }
+        let text = self.value_text(value)?;
+        out.push_str(text.as_str())
     }
 
     pub(crate) fn value_text(&self, value: &Value) -> Result<String, AllocError>

@@ -5,4 +5,4 @@ use Rattle.sd_line.proofs.print.lines_text.Given as goal
 
 abbrev pub invariant-loop-line : goal.invariant-loop-line
 invariant-loop-line l =
-    string_bytes l.text ++ lines_text l.spelling (drop l.line-index l.lines) ≡ lines_text l.spelling l.lines
+    string_bytes l.text ++ lines_text l.fn.spelling (drop l.line-index l.lines) ≡ lines_text l.fn.spelling l.lines
