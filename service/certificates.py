@@ -7,7 +7,7 @@ from dataclasses import dataclass
 from pathlib import Path
 
 from config import Listen
-from errors import Failed, Fault
+from errors import Failed
 
 _BLOCK = re.compile(rb"-----BEGIN [^-]+-----.*?-----END [^-]+-----", re.DOTALL)
 
@@ -48,9 +48,9 @@ def _context(listen: Listen) -> ssl.SSLContext:
 
 def name_and_end(transport: asyncio.BaseTransport) -> tuple[str, float]:
     """The one common name of the client's certificate, which its authority has signed, and when that ends, in seconds
-    since 1970."""
+    since 1970. PermissionError: it hasn't one."""
     certificate = transport.get_extra_info("peercert") or {}
     names = [value for part in certificate.get("subject", ()) for name, value in part if name == "commonName"]
     if len(names) != 1:
-        raise Fault("not allowed: the certificate hasn't one common name")
+        raise PermissionError("not allowed: the certificate hasn't one common name")
     return f"cn:{names[0]}", float(ssl.cert_time_to_seconds(certificate["notAfter"]))

@@ -8,7 +8,6 @@ from collections.abc import Coroutine
 from typing import Any, Protocol, cast
 
 from caller import Caller
-from errors import Fault
 from service import Service
 
 #: The bytes of a long answer that a client has to take in the time of a request.
@@ -32,7 +31,7 @@ class Place(Protocol):
         """The place, as the configuration has it."""
 
     def caller(self, transport: asyncio.BaseTransport) -> Caller:
-        """Who the client is. Fault: it is not allowed to do anything."""
+        """Who the client is. PermissionError: it is not allowed to do anything."""
 
 
 class Connection(asyncio.BufferedProtocol):
@@ -94,7 +93,7 @@ class Connection(asyncio.BufferedProtocol):
         try:
             self.caller = self._place.caller(self.transport)
             is_allowed = self._long is None or self.caller.may(before.role)
-        except (Fault, OSError) as error:
+        except OSError as error:
             self.caller, is_allowed = Caller(str(error), "watch"), False
         if not is_allowed:
             self.reject("not allowed")

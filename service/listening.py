@@ -19,7 +19,7 @@ from caller import Caller
 from certificates import Certificates, name_and_end
 from config import ROLES, Listen
 from connection import Connection
-from errors import Failed, Fault
+from errors import Failed
 from http_connection import HttpConnection
 from line_connection import LineConnection
 from service import Service
@@ -135,7 +135,7 @@ class Listener:
         return _KINDS[self.listen.protocol](self._service, self)
 
     def caller(self, transport: asyncio.BaseTransport) -> Caller:
-        """Who the client is. Fault: it isn't in the list."""
+        """Who the client is. PermissionError: it isn't in the list."""
         if self.listen.is_plain:
             return Caller("loopback", "watch")
         if self._certificates:
@@ -146,7 +146,7 @@ class Listener:
     def _allowed(self, names: list[str], until: float) -> Caller:
         roles = [self.listen.allow[name] for name in names if name in self.listen.allow]
         if not roles:
-            raise Fault(f"not allowed: {' '.join(names[:4])}")
+            raise PermissionError(f"not allowed: {' '.join(names[:4])}")
         return Caller(names[0], max(roles, key=ROLES.index), until)
 
     def tick(self) -> None:
