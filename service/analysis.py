@@ -5,10 +5,12 @@ The lines are those of a script (docs/SCRIPT.md) and of `sdstore compare` (docs/
 
 from collections.abc import Iterable, Iterator, Sequence
 from dataclasses import dataclass, field
+from typing import NamedTuple
 
-from hudarin import Descriptor, Group, Refused, Token, Verdict, View
+from hudarin import Comparison, Descriptor, Group, Refused, Token, Verdict, View
 
 import apart
+from answers import Answer, Result, Reviewed, Text
 from deadline import Deadline
 from errors import Fault
 from spelling import fault_of, path_of, spelled
@@ -28,7 +30,7 @@ def gathered(pieces: Iterable[bytes], deadline: Deadline, most: int = ANSWER_BYT
         if len(kept) >= counted + _STEP:
             counted = len(kept)
             if counted > most:
-                raise Fault("unavailable large")
+                raise Fault(Result("unavailable", "large"))
             deadline.hold(counted)
     return kept
 
@@ -43,37 +45,70 @@ def descriptor_in(view: View, path: str) -> Descriptor | None:
         raise Fault(fault_of(refused)) from None
 
 
+def _required(view: View, path: str, seen: int | None = None) -> Descriptor:
+    """The same. Fault: there is no node either; of a reader's question the answer has the length that it has seen."""
+    descriptor = descriptor_in(view, path)
+    if descriptor is None:
+        raise Fault(Result("nonode", seen=seen))
+    return descriptor
+
+
+class Node(NamedTuple):
+    """A node, with the entries that it inherits."""
+
+    kind: str
+    path: str
+    descriptor: str
+
+    def line(self) -> str:
+        return f"{self.kind} {spelled(self.path)} {self.descriptor}"
+
+    def json(self) -> dict[str, str]:
+        return {"kind": self.kind, "path": self.path, "descriptor": self.descriptor}
+
+
+class Found(NamedTuple):
+    """The path of a node that is found."""
+
+    path: str
+
+    def line(self) -> str:
+        return spelled(self.path)
+
+    def json(self) -> str:
+        return self.path
+
+
 def _is_within(top: str, path: str) -> bool:
     return top == "/" or path == top or path.startswith(top + "/")
 
 
-def dump(view: View, deadline: Deadline) -> Iterator[str]:
+def dump(view: View, deadline: Deadline) -> Iterator[Answer]:
     with view:
-        yield from deadline.paced(dumped(view))
+        yield from map(Text, deadline.paced(dumped(view)))
 
 
-def listed(view: View, top: str, deadline: Deadline) -> Iterator[str]:
-    """The nodes at and below the path."""
+def listed(view: View, top: str, deadline: Deadline) -> Iterator[Answer]:
+    """The nodes at and below the path. Fault: there is no such node."""
     with view:
-        if descriptor_in(view, top) is None:
-            yield "nonode"
-            return
+        _required(view, top)
         for node in deadline.paced(view.nodes()):
             if _is_within(top, node.path):
                 kind = "container" if node.is_container else "object"
-                yield f"{kind} {spelled(node.path)} {view.descriptor(node.path)}"
+                yield Node(kind, node.path, str(view.descriptor(node.path)))
 
 
-def found(view: View, top: str, token: Token, words: int, asked: int, deadline: Deadline) -> Iterator[str]:
-    """The paths of the nodes at and below the path that grant what is asked to the token of so many words."""
+def found(
+    view: View, seen: int, top: str, token: Token, words: int, asked: int, deadline: Deadline
+) -> Iterator[Answer]:
+    """The paths of the nodes at and below the path that grant what is asked to the token of so many words. Fault: there
+    is no node of the path."""
     with view, token:
-        if descriptor_in(view, top) is None:
-            yield "nonode"
-            return
-        yield "found"
+        _required(view, top, seen)
+        yield Result("found", seen=seen)
         paths = [path for path in deadline.paced(view.paths()) if _is_within(top, path)]
         verdicts = checked(view, paths, token, words, asked, deadline)
-        yield from (spelled(path) for path, verdict in zip(paths, verdicts) if verdict)
+        yield from (Found(path) for path, verdict in zip(paths, verdicts) if verdict)
 
 
 def checked(
@@ -88,19 +123,31 @@ def checked(
 
 def granted(
     view: View, path: str, asked: int, base: Sequence[Group], mapping: Mapping, deadline: Deadline
-) -> Iterator[str]:
-    """Whom the node grants which of the rights, of all tokens that have the base."""
+) -> Iterator[Answer]:
+    """Whom the node grants which of the rights, of all tokens that have the base. Fault: there is no node."""
     with view:
-        descriptor = descriptor_in(view, path)
-    lines = ["nonode"] if descriptor is None else apart.granted(descriptor, asked, base, mapping, deadline)
-    yield from lines or ["empty"]
+        descriptor = _required(view, path)
+    yield from _texts(apart.granted(descriptor, asked, base, mapping, deadline), "empty")
 
 
-def compared(view: View, path: str, new: Descriptor, base: Sequence[Group], mapping: Mapping) -> Iterator[str]:
-    """What such tokens gain and lose if the descriptor takes the place of the node's."""
+def compared(view: View, path: str, new: Descriptor, base: Sequence[Group], mapping: Mapping) -> Iterator[Answer]:
+    """What such tokens gain and lose if the descriptor takes the place of the node's. Fault: there is no node."""
     with view:
-        descriptor = descriptor_in(view, path)
-    yield from ["nonode"] if descriptor is None else str(descriptor.compare(new, base, mapping)).split("\n")
+        descriptor = _required(view, path)
+    yield from _texts(_changes_of(descriptor.compare(new, base, mapping), has_below=True), "same")
+
+
+def _texts(lines: Sequence[str], nothing: str) -> Iterator[Answer]:
+    """The lines, or the one that says that there is none."""
+    yield from map(Text, lines)
+    if not lines:
+        yield Result(nothing)
+
+
+def _changes_of(comparison: Comparison, has_below: bool) -> list[str]:
+    """A line for each change; `has_below` says whether also of what is made in the node."""
+    below = comparison.below if has_below else ()
+    return list(filter(None, [*map(str, comparison.gained + comparison.lost + below), comparison.inheritance]))
 
 
 # What a publish would change
@@ -118,22 +165,21 @@ class Pending:
 
 def reviewed(
     pending: Pending, lines: Iterable[str], top: str, mapping: Mapping, deadline: Deadline
-) -> Iterator[str]:
-    """What the pending edits, of these lines, change at and below the path."""
+) -> Iterator[Answer]:
+    """What the pending edits, of these lines, change at and below the path. Fault: no node is there, and none was."""
     old, new = pending.old, pending.new
     with old, new:
         was, now = list(deadline.paced(old.paths())), list(deadline.paced(new.paths()))
         stood, stands = frozenset(was), frozenset(now)
         if descriptor_in(new, top) is None and top not in stood:
-            yield "nonode"
-            return
+            raise Fault(Result("nonode"))
         origins = _Origins(deadline.paced(was), deadline.paced(lines))
         for path in deadline.paced(now):
             if _is_within(top, path):
                 before = path if path in stood else origins.of(path)
-                yield from _changes(old, new, before, path, mapping)
-        yield from (f"gone {spelled(path)}" for path in was if path not in stands and _is_within(top, path))
-    yield f"reviewed {pending.old_length} {pending.new_length}"
+                yield from map(Text, _changes(old, new, before, path, mapping))
+        yield from (Text(f"gone {spelled(path)}") for path in was if path not in stands and _is_within(top, path))
+    yield Reviewed(pending.old_length, pending.new_length)
 
 
 def _changes(old: View, new: View, before: str | None, path: str, mapping: Mapping) -> Iterator[str]:
@@ -146,10 +192,8 @@ def _changes(old: View, new: View, before: str | None, path: str, mapping: Mappi
         yield f"moved {spelled(before)} {name}"
     was, now = old.descriptor(before), new.descriptor(path)
     if was != now:
-        changes = was.compare(now, (), mapping)
-        below = changes.below if new.own(path).is_container else ()
-        lines = (*changes.gained, *changes.lost, *below, changes.inheritance)
-        yield from (f"{name} {line}" for line in lines if line)
+        changes = _changes_of(was.compare(now, (), mapping), new.own(path).is_container)
+        yield from (f"{name} {change}" for change in changes)
 
 
 @dataclass(slots=True)

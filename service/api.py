@@ -1,4 +1,4 @@
-"""What each request of HTTP asks: its JSON becomes the words of a line, and the answer of the line JSON.
+"""What each request of HTTP asks: its JSON becomes the words of a line, and their answer JSON.
 
 docs/SERVICE.md and openapi.json have the requests."""
 
@@ -9,13 +9,13 @@ from http import HTTPStatus
 from typing import Any
 
 import api_edits
+from answers import NO_NOTICE, Answer, Result, Reviewed
 from api_request import Request, Response, fault_response, state_of
 from errors import Fault
 from json_request import Given
 from questions import MOST_WORDS
 from script import FEW_WORDS, MOST_PATHS, Reader
 from shown import Shown
-from spelling import path_of
 
 
 #: The words of a token, times the masks of a request, whose checks are answered in the loop.
@@ -57,32 +57,30 @@ def _token(request: Request) -> tuple[str, list[str]]:
     return request.given.text("user"), words
 
 
-def _require_seen(request: Request) -> None:
-    """A client that has seen a state gets no answer by an earlier one, or of another store; nobody does of a replica
-    that is behind."""
-    request.service.require_fresh()
-    if request.given.text("store", request.service.store) != request.service.store:
-        raise Fault("nonotice")
-    if request.given.number("seen", 0) > request.service.shown.length:
-        raise Fault("nonotice")
-
-
-def _without_length(said: str) -> str:
-    """The answer without `seen L`. Fault: it is a fault."""
-    if not said.startswith("seen "):
-        raise Fault(said)
-    return said.split(" ", 2)[2]
+def _given(request: Request, *names: str) -> Given:
+    """The values of a question, which are of these names. A client that has seen a state gets no answer by an earlier
+    one, or of another store; nobody does of a replica that is behind."""
+    service, given = request.service, request.given
+    given.know(*names, "store", "seen")
+    service.require_fresh()
+    if given.text("store", service.store) != service.store or given.number("seen", 0) > service.shown.length:
+        raise Fault(NO_NOTICE)
+    return given
 
 
 def _ask(
-    request: Request, lines: Sequence[list[str]], takes_long: bool, made: Callable[[list[str]], dict[str, Any]]
+    request: Request, lines: Sequence[list[str]], takes_long: bool, made: Callable[[Sequence[Any]], dict[str, Any]]
 ) -> None:
-    """Replies with what `made` makes of the answers to the lines, without `seen L`: now, or if that takes long once
-    another thread has found them. Fault: the first answer that is one."""
+    """Replies with the members that `made` makes of the JSON of the answers to the lines: now, or if that takes long
+    once another thread has found them. Fault: the first answer that has none."""
     service, caller = request.service, request.caller
 
-    def reply(shown: Shown, said: Iterable[str]) -> None:
-        answers = [_without_length(each) for each in said]
+    def reply(shown: Shown, said: Iterable[Answer]) -> None:
+        answers = list[Any]()
+        for each in said:
+            if isinstance(each, Result):
+                raise Fault(each)
+            answers.append(each.json())
         request.reply(Response(HTTPStatus.OK, {**state_of(request, shown), **made(answers)}))
 
     async def later() -> None:
@@ -98,10 +96,9 @@ def _ask(
 
 
 def _check(request: Request) -> None:
-    request.given.know("user", "groups", "checks", "store", "seen")
-    _require_seen(request)
+    given = _given(request, "user", "groups", "checks")
     user, words = _token(request)
-    checks = request.given.list("checks", MOST_PATHS)
+    checks = given.list("checks", MOST_PATHS)
     asked: dict[str, list[int]] = {}
     paths: list[str] = []
     for at, value in enumerate(checks):
@@ -112,58 +109,37 @@ def _check(request: Request) -> None:
     lines = [["checks", "0", str(len(places)), *(paths[at] for at in places), user, mask, *words]
              for mask, places in asked.items()]
 
-    def made(said: list[str]) -> dict[str, Any]:
+    def made(said: Sequence[Any]) -> dict[str, Any]:
         answers: list[dict[str, str]] = [{}] * len(checks)
-        for places, each in zip(asked.values(), said):
-            for at, verdict in zip(places, each.split(", ")):
-                answers[at] = _verdict(verdict)
+        for places, verdicts in zip(asked.values(), said):
+            for at, verdict in zip(places, verdicts):
+                answers[at] = verdict
         return {"answers": answers}
 
     _ask(request, lines, len(words) > FEW_WORDS or len(words) * len(asked) > _WORDS_IN_LOOP, made)
 
 
-def _verdict(said: str) -> dict[str, str]:
-    kind, _, mask = said.partition(" ")
-    return {"verdict": kind, "mask": mask} if mask else {"verdict": kind}
-
-
 def _why(request: Request) -> None:
-    given = request.given
-    given.know("user", "groups", "path", "mask", "store", "seen")
-    _require_seen(request)
+    given = _given(request, "user", "groups", "path", "mask")
     user, words = _token(request)
     line = ["why", "0", given.path("path"), user, given.text("mask"), *words]
-    _ask(request, [line], len(words) > FEW_WORDS, lambda said: _reasons(*said[0].split("\n")))
-
-
-def _reasons(verdict: str, *reasons: str) -> dict[str, Any]:
-    return {**_verdict(verdict), "reasons": reasons}
+    _ask(request, [line], len(words) > FEW_WORDS, lambda said: dict(said[0]))
 
 
 def _show(request: Request) -> None:
-    request.given.know("path", "store", "seen")
-    _require_seen(request)
-    _ask(request, [["show", "0", request.given.path("path")]], False, lambda said: {"descriptor": _shown(said[0])})
-
-
-def _shown(said: str) -> str:
-    """The descriptor of an answer. Fault: there is no node."""
-    if said == "nonode":
-        raise Fault(said)
-    return said.removeprefix("shown ")
+    _ask(request, [["show", "0", _given(request, "path").path("path")]], False, lambda said: dict(said[0]))
 
 
 # Questions that may take long
 
 
-def _asked_long(request: Request, words: list[str], name: str, made: Callable[[str], Any]) -> None:
-    """Replies once another thread has made an answer: a list of this name, of what `made` makes of its lines, without
-    those for which that is None."""
+def _asked_long(request: Request, words: list[str], name: str) -> None:
+    """Replies once another thread has made an answer: a list of this name."""
     async def work() -> None:
         try:
             content = await request.service.long_answer(
                 words, request.caller, Reader(),
-                lambda shown, lines: _listed(state_of(request, shown), name, map(made, _of_nodes(lines))),
+                lambda shown, lines: _listed(state_of(request, shown), name, lines),
                 request.asker.hold,
             )
             request.reply(Response(HTTPStatus.OK, content))
@@ -173,80 +149,43 @@ def _asked_long(request: Request, words: list[str], name: str, made: Callable[[s
     request.asker.start_long(work())
 
 
-def _of_nodes(lines: Iterable[str]) -> Iterator[str]:
-    """The lines. Fault: they say that there is no node."""
-    for line in lines:
-        if line == "nonode" or line.startswith("seen ") and line.endswith(" nonode"):
-            raise Fault("nonode")
-        yield line
-
-
-def _listed(state: dict[str, Any], name: str, values: Iterable[Any]) -> Iterator[bytes]:
-    """An object of JSON, piece by piece, with a list of this name; a value that is an object itself has members more,
-    or others."""
+def _listed(state: dict[str, Any], name: str, lines: Iterable[Answer]) -> Iterator[bytes]:
+    """An object of JSON, piece by piece, with a list of this name; the end of a review has members more, or others."""
     yield f'{{"{name}": ['.encode()
     mark = ""
-    for value in values:
-        if isinstance(value, _Members):
-            state = state | value
-        elif value is not None:
-            yield f"{mark}{json.dumps(value)}".encode()
+    for line in lines:
+        if isinstance(line, Reviewed):
+            state = state | line.json()
+        elif not isinstance(line, Result):
+            yield f"{mark}{json.dumps(line.json())}".encode()
             mark = ", "
     yield f"], {json.dumps(state)[1:]}".encode()
 
 
-class _Members(dict[str, Any]):
-    """Members of an object."""
-
-
 def _list_nodes(request: Request) -> None:
-    request.given.know("path", "store", "seen")
-    _require_seen(request)
-    _asked_long(request, ["list", request.given.path("path", "/")], "nodes", _node)
-
-
-def _node(line: str) -> dict[str, str]:
-    kind, path, descriptor = line.split(" ")
-    return {"kind": kind, "path": path_of(path), "descriptor": descriptor}
+    _asked_long(request, ["list", _given(request, "path").path("path", "/")], "nodes")
 
 
 def _find(request: Request) -> None:
-    given = request.given
-    given.know("user", "groups", "path", "mask", "store", "seen")
-    _require_seen(request)
+    given = _given(request, "user", "groups", "path", "mask")
     user, words = _token(request)
-    _asked_long(request, ["find", "0", given.path("path", "/"), user, given.text("mask"), *words], "paths",
-                lambda line: path_of(line) if line.startswith("/") else None)
+    _asked_long(request, ["find", "0", given.path("path", "/"), user, given.text("mask"), *words], "paths")
 
 
 def _who(request: Request) -> None:
-    given = request.given
-    given.know("path", "mask", "groups", "store", "seen")
-    _require_seen(request)
+    given = _given(request, "path", "mask", "groups")
     words = ["who", given.path("path"), given.text("mask", "0x02000000"), *_groups(request)]
-    _asked_long(request, words, "accesses", lambda line: line if line != "empty" else None)
+    _asked_long(request, words, "accesses")
 
 
 def _compare(request: Request) -> None:
-    given = request.given
-    given.know("path", "descriptor", "groups", "store", "seen")
-    _require_seen(request)
+    given = _given(request, "path", "descriptor", "groups")
     words = ["compare", given.path("path"), given.text("descriptor"), *_groups(request)]
-    _asked_long(request, words, "changes", lambda line: line if line != "same" else None)
+    _asked_long(request, words, "changes")
 
 
 def _review(request: Request) -> None:
-    request.given.know("path", "store", "seen")
-    _require_seen(request)
-    _asked_long(request, ["review", request.given.path("path", "/")], "changes", _reviewed)
-
-
-def _reviewed(line: str) -> str | _Members:
-    """A change, or the lengths of the two journals, which the last line has."""
-    if not line.startswith("reviewed "):
-        return line
-    _, seen, pending = line.split(" ")
-    return _Members(seen=int(seen), pending=int(pending))
+    _asked_long(request, ["review", _given(request, "path").path("path", "/")], "changes")
 
 
 def _status(request: Request) -> None:

@@ -3,6 +3,7 @@
 from collections.abc import Sequence
 from http import HTTPStatus
 
+from answers import OTHER_KEY, UNANSWERED
 from api_request import Request, Response, fault_response, state_of
 from errors import Fault
 from json_request import Given
@@ -39,7 +40,7 @@ def _words_of(given: Given) -> list[str]:
     edit = given.text("edit")
     value = _VALUES.get(edit)
     if value is None:
-        raise Fault("fault edit")
+        raise Fault.of("edit")
     given.know("edit", "path", *([value] if value else []))
     words = [edit, given.path("path")]
     if value:
@@ -73,17 +74,17 @@ def _keys(given: Given, count: int) -> list[list[str]]:
         return [[]] * count
     key = given.text("key")
     if not is_key(f"{key}/{count}"):
-        raise Fault("fault key")
+        raise Fault(OTHER_KEY)
     return [["once", f"{key}/{at}"] for at in range(count)]
 
 
 def _edited(request: Request, tasks: Sequence[Task]) -> Response:
     """What each edit is answered. The status says whether all are made."""
-    answers = [{"answer": task.answer, "line": task.number} for task in tasks]
-    first = next((task.answer for task in tasks if not task.was_made and task.answer != UNMADE), "")
-    if first in (NOT_FOR_THIS, "fault key"):
+    answers = [{"answer": task.answer.line(), "line": task.number} for task in tasks]
+    first = next((task.answer for task in tasks if not task.answer.is_made and task.answer != UNMADE), UNANSWERED)
+    if first in (NOT_FOR_THIS, OTHER_KEY):
         return fault_response(first)
     status = HTTPStatus.CONFLICT if first else HTTPStatus.OK
-    if first.startswith("unavailable"):
+    if first.kind == "unavailable":
         status = HTTPStatus.SERVICE_UNAVAILABLE
     return Response(status, {**state_of(request), "answers": answers})

@@ -5,6 +5,7 @@ from dataclasses import dataclass
 from http import HTTPStatus
 from typing import Any, Protocol
 
+from answers import Result
 from caller import Caller
 from json_request import Given
 from service import Service
@@ -40,22 +41,23 @@ class Request:
     given: Given = Given({}, "json")
 
 
+#: By the names of faults; the others are BAD_REQUEST.
 _STATUSES = {
-    "fault role": HTTPStatus.FORBIDDEN,
-    "fault content-type": HTTPStatus.UNSUPPORTED_MEDIA_TYPE,
-    "fault key": HTTPStatus.CONFLICT,
-    "fault published": HTTPStatus.CONFLICT,
+    "role": HTTPStatus.FORBIDDEN,
+    "content-type": HTTPStatus.UNSUPPORTED_MEDIA_TYPE,
+    "key": HTTPStatus.CONFLICT,
+    "published": HTTPStatus.CONFLICT,
     "nonode": HTTPStatus.NOT_FOUND,
     "nonotice": HTTPStatus.CONFLICT,
 }
 
 
-def fault_response(answer: str) -> Response:
-    """The response to what isn't carried out: the line's answer without its first word."""
-    if answer.startswith("unavailable"):
-        return Response(HTTPStatus.SERVICE_UNAVAILABLE, {"unavailable": answer.partition(" ")[2]})
-    status = _STATUSES.get(answer, HTTPStatus.BAD_REQUEST)
-    return Response(status, {"fault": answer.removeprefix("fault ")})
+def fault_response(answer: Result) -> Response:
+    """The response to what isn't carried out."""
+    status = _STATUSES.get(answer.name, HTTPStatus.BAD_REQUEST)
+    if answer.kind == "unavailable":
+        status = HTTPStatus.SERVICE_UNAVAILABLE
+    return Response(status, answer.json())
 
 
 def state_of(request: Request, shown: Shown | None = None) -> dict[str, Any]:

@@ -3,6 +3,7 @@
 import math
 from dataclasses import dataclass
 
+from answers import NO_ROLE
 from config import ROLES
 from errors import Fault
 
@@ -25,4 +26,4 @@ class Caller:
     def require(self, role: str) -> None:
         """Fault: the client may not do so."""
         if _RANKS[self.role] < _RANKS[role]:
-            raise Fault("fault role")
+            raise Fault(NO_ROLE)

@@ -4,10 +4,11 @@ import time
 from collections.abc import Callable, Iterable, Iterator
 from typing import TypeVar
 
+from answers import UNANSWERED, Result
 from errors import Fault
 
 #: The answer to a question that has taken all of its time.
-LATE = "unavailable late"
+LATE = Result("unavailable", "late")
 _T = TypeVar("_T")
 
 
@@ -17,14 +18,14 @@ class Deadline:
     def __init__(self, seconds: float, hold: Callable[[int], None]) -> None:
         """`hold` is called with the bytes that the answer has so far."""
         self._end, self.hold = time.monotonic() + seconds, hold
-        self._why = ""
+        self._why = UNANSWERED
 
     @property
     def seconds(self) -> float:
         """What is left of the time."""
         return self._end - time.monotonic()
 
-    def end(self, why: str) -> None:
+    def end(self, why: Result) -> None:
         """Nobody waits any more: the answer would be `why`."""
         self._why = why
 

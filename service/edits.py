@@ -5,6 +5,7 @@ from typing import Any, NamedTuple
 
 from hudarin import Refused, Store, View
 
+from answers import Result
 from errors import Fault
 from spelling import descriptor_of, fault_of, path_of, printed, sid_of, spelled
 
@@ -16,7 +17,7 @@ class Edit(NamedTuple):
     arguments: tuple[Any, ...]
     words: Sequence[str]
 
-    def make(self, store: Store) -> str | None:
+    def make(self, store: Store) -> Result | None:
         """Makes it, or says why the library refuses it, and then the store is as it was."""
         try:
             _EDITS[self.name][1](store, *self.arguments)
@@ -56,7 +57,7 @@ def edit_of(words: Sequence[str], view: View) -> Edit:
     name, *given = words
     parsers = _EDITS[name][0]
     if len(given) != len(parsers):
-        raise Fault("fault words")
+        raise Fault.of("words")
     arguments: list[Any] = []
     try:
         for (parse, _), word in zip(parsers, given):

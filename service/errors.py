@@ -1,5 +1,7 @@
 """Why a command ends early: each has the status with which the program ends. And why a line isn't carried out."""
 
+from answers import Result
+
 
 class ServiceError(Exception):
     """A text for standard error, and the status."""
@@ -26,8 +28,13 @@ class Failed(ServiceError):
 
 
 class Fault(Exception):
-    """A line that isn't carried out, with its answer: `fault NAME ..`."""
+    """A line that isn't carried out, with its answer."""
 
-    def __init__(self, answer: str) -> None:
-        super().__init__(answer)
+    def __init__(self, answer: Result) -> None:
+        super().__init__(answer.line())
         self.answer = answer
+
+    @classmethod
+    def of(cls, why: str) -> "Fault":
+        """That of the answer `fault WHY`."""
+        return cls(Result("fault", why))

@@ -18,26 +18,26 @@ class Given:
 
     def __init__(self, value: Any, name: str) -> None:
         if not isinstance(value, dict):
-            raise Fault(f"fault {name}")
+            raise Fault.of(name)
         self._values = value
 
     @classmethod
     def of_body(cls, kind: str, body: bytes) -> "Given":
         """The object of a body of this content type, in which no name is there twice."""
         if kind.partition(";")[0].strip().lower() != "application/json":
-            raise Fault("fault content-type")
+            raise Fault.of("content-type")
         if sum(map(body.count, _MARKS)) > _MOST_MARKS:
-            raise Fault("fault values")
+            raise Fault.of("values")
         try:
             value = json.loads(body.decode(), object_pairs_hook=_once, parse_constant=_no_number)
         except (ValueError, RecursionError):
-            raise Fault("fault json") from None
+            raise Fault.of("json") from None
         return cls(value, "json")
 
     def know(self, *names: str) -> None:
         """Fault: there is a name besides these."""
         if not self._values.keys() <= set(names):
-            raise Fault(f"fault {min(self._values.keys() - set(names))!a}")
+            raise Fault.of(ascii(min(self._values.keys() - set(names))))
 
     def has(self, name: str) -> bool:
         """Whether there is a value of this name."""
@@ -55,28 +55,28 @@ class Given:
         """A path, spelled as one word."""
         value = self._values.get(name, default)
         if not isinstance(value, str) or not value:
-            raise Fault(f"fault {name}")
+            raise Fault.of(name)
         return spelled(_encodable(value))
 
     def list(self, name: str, most: int, default: list[Any] | None = None) -> list[Any]:
         """Values of any kind, so many at most."""
         value = self._values.get(name, default)
         if not isinstance(value, list) or len(value) > most:
-            raise Fault(f"fault {name}")
+            raise Fault.of(name)
         return value
 
     def number(self, name: str, default: int) -> int:
         """A whole number of at least 0."""
         value = self._values.get(name, default)
         if type(value) is not int or value < 0:
-            raise Fault(f"fault {name}")
+            raise Fault.of(name)
         return value
 
     def flag(self, name: str) -> bool:
         """Whether the value is `true`; without one it isn't."""
         value = self._values.get(name, False)
         if type(value) is not bool:
-            raise Fault(f"fault {name}")
+            raise Fault.of(name)
         return value
 
 
@@ -94,7 +94,7 @@ def _no_number(text: str) -> None:
 def _word(value: Any, name: str) -> str:
     """The value, if it is a text without what would make it two words of a line, or none."""
     if not isinstance(value, str) or not value or any(each in value for each in " \r\n"):
-        raise Fault(f"fault {name}")
+        raise Fault.of(name)
     return _encodable(value)
 
 
@@ -103,5 +103,5 @@ def _encodable(value: str) -> str:
     try:
         value.encode()
     except UnicodeEncodeError:
-        raise Fault("fault utf8") from None
+        raise Fault.of("utf8") from None
     return value

@@ -45,31 +45,30 @@ class Origin:
     first: Place
 
 
-def answer(file: Path, words: Sequence[str], age: float) -> str:
-    """The lines of the answer, as of one moment, by a journal that was complete so many seconds ago. Fault: the lines
-    aren't kept any more, or the replica's aren't those of here."""
+def answer(file: Path, words: Sequence[str], age: float) -> Iterator[str]:
+    """The lines of the answer, as of the moment when the first one is asked for, by a journal that was complete so many
+    seconds ago. Fault: the lines aren't kept any more, or the replica's aren't those of here."""
     if not (1 < len(words) < 4 if words[0] == "lines" else len(words) == 1):
-        raise Fault("fault words")
+        raise Fault.of("words")
     with Journal(file, only_reads=True) as journal:
-        if words[0] == "snapshot":
-            return snapshot_text(journal)
-        return "\n".join(_lines(journal, _place(words), age))
+        lines = snapshot_lines(journal) if words[0] == "snapshot" else list(_lines(journal, _place(words), age))
+    yield from lines
 
 
 def _place(words: Sequence[str]) -> Place:
     try:
         return Place(number_of(words[1]), bytes.fromhex("".join(words[2:])))
     except ValueError:
-        raise Fault("fault chain") from None
+        raise Fault.of("chain") from None
 
 
 def _lines(journal: Journal, after: Place, age: float) -> Iterator[str]:
     """The number of the last line and the age in milliseconds first."""
     last = journal.last_number()
     if not journal.start.number <= after.number <= last:
-        raise Fault("fault gone")
+        raise Fault.of("gone")
     if journal.place_at(after.number) != after:
-        raise Fault("fault chain")
+        raise Fault.of("chain")
     yield f"last {last} {math.ceil(1000 * age)}"
     length = 0
     for line, chain in islice(journal.lines(after.number), MOST_LINES):
@@ -126,7 +125,7 @@ def lines_in(lines: Sequence[str]) -> Lines:
         raise Mismatch(f"the leader's lines: {error}") from error
 
 
-def snapshot_text(journal: Journal, least: int = 0) -> str:
+def snapshot_lines(journal: Journal, least: int = 0) -> list[str]:
     """The newest snapshot, with whose it is, its digest, and the place, of this number at least, after which lines are
     kept for their keys."""
     snapshot = journal.snapshots()[-1]
@@ -134,11 +133,11 @@ def snapshot_text(journal: Journal, least: int = 0) -> str:
     first = journal.place_at(min(max(start.number, place.number - KEPT_LINES, least), place.number)) or place
     head = [journal.store, journal.mapping, snapshot.epoch, place.number, place.chain.hex(), snapshot.length,
             snapshot.digest(journal.store, journal.mapping).hex(), first.number, first.chain.hex()]
-    return "\n".join([json.dumps(head), *snapshot.lines])
+    return [json.dumps(head), *snapshot.lines]
 
 
 def snapshot_in(lines: Sequence[str]) -> Origin:
-    """What such a text's lines have. Mismatch: it is none, or not the one that was written."""
+    """What such lines have. Mismatch: it is none, or not the one that was written."""
     try:
         store, mapping, epoch, number, chain, length, digest, *first = _values(lines[0], _HEAD)
         if not is_store(store) or mapping not in MAPPINGS:

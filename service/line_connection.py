@@ -3,6 +3,7 @@
 from collections import deque
 from collections.abc import Iterator, Sequence
 
+from answers import Answer
 from connection import Connection, Place
 from errors import Fault
 from script import CHANGES, FEW_WORDS, LONG, OF_LINES, Reader
@@ -67,11 +68,11 @@ class LineConnection(Connection):
         try:
             if len(tag) > _ID_BYTES + 1:
                 tag, words = "", [""]
-                raise Fault("fault id")
+                raise Fault.of("id")
             if _REPLACED in text:
                 require_utf8(line)
             if "" in words:
-                raise Fault("fault words")
+                raise Fault.of("words")
             if words[0] in CHANGES or words[0] == "once":
                 return self._submit(words, tag)
             if self.in_progress:
@@ -92,7 +93,7 @@ class LineConnection(Connection):
             return False
 
         def reply(task: Task) -> None:
-            self.send(f"{tag}{task.answer}\n".encode())
+            self.send(f"{tag}{task.answer.line()}\n".encode())
             self.finished()
 
         self.service.submit([words], self.caller, reply)
@@ -121,17 +122,18 @@ class LineConnection(Connection):
         self.finished()
 
 
-def _pieces(tag: str, lines: Iterator[str]) -> Iterator[bytes]:
+def _pieces(tag: str, lines: Iterator[Answer]) -> Iterator[bytes]:
     """The lines of an answer of lines, each with the tag, and an empty one."""
-    yield from (f"{tag}{line}\n".encode() for line in lines)
+    yield from (f"{tag}{line.line()}\n".encode() for line in lines)
     yield f"{tag}\n".encode()
 
 
-def _lines_of(tag: str, answer: str, command: str) -> str:
+def _lines_of(tag: str, answer: Answer, command: str) -> str:
     """The lines of an answer, each with the tag; to some commands an empty one ends it."""
+    text = answer.line()
     if command in OF_LINES:
-        answer = f"{answer}\n".replace("\n", f"\n{tag}")
-    return f"{tag}{answer}\n"
+        text = f"{text}\n".replace("\n", f"\n{tag}")
+    return f"{tag}{text}\n"
 
 
 def tagged(text: str) -> tuple[str, list[str]]:
@@ -150,4 +152,4 @@ def require_utf8(line: bytes) -> None:
     try:
         line.decode()
     except UnicodeDecodeError:
-        raise Fault("fault utf8") from None
+        raise Fault.of("utf8") from None

@@ -10,10 +10,11 @@ from collections import Counter, deque
 from collections.abc import Awaitable, Callable
 from typing import Any
 
+from answers import Result
 from deadline import LATE, Deadline
 from errors import Fault
 
-BUSY, STOPPING = "unavailable busy", "unavailable stopping"
+BUSY, STOPPING = Result("unavailable", "busy"), Result("unavailable", "stopping")
 KINDS = ("check", "edit", "follow")
 #: The questions of one client that wait or are answered, of each kind.
 OF_CLIENT = 4

@@ -5,6 +5,8 @@ from bisect import bisect_left
 from collections import Counter
 from dataclasses import dataclass, field
 
+from answers import NO_ROLE, VERDICTS, Checked, CheckedAll, Result, kind_of
+
 #: The upper bounds of a latency's counts, in seconds.
 _BOUNDS = (0.000_025, 0.000_1, 0.000_5, 0.001, 0.005, 0.02, 0.1, 0.5, 2.5)
 
@@ -64,14 +66,24 @@ class Metrics:
     check_seconds: Histogram = field(default_factory=Histogram)
     edit_seconds: Histogram = field(default_factory=Histogram)
 
-    def count_edit(self, is_publish: bool, answer: str, seconds: float) -> None:
+    def count_checks(self, answer: Checked | CheckedAll, seconds: float) -> None:
+        """Checks that are answered; where several were asked at once each kind of verdict has a count, 0 too."""
+        if isinstance(answer, Checked):
+            # (to call `kind_of` takes longer)
+            self.checks["nonode" if answer.verdict is None else answer.verdict.kind] += 1
+        else:
+            self.checks.update(dict.fromkeys(VERDICTS, 0))
+            for verdict, count in Counter(answer.verdicts).items():
+                self.checks[kind_of(verdict)] += count
+        self.check_seconds.add(seconds)
+
+    def count_edit(self, is_publish: bool, answer: Result, seconds: float) -> None:
         """An edit or a publish that is answered; one that is refused by the role didn't get to the writer."""
-        if answer != "fault role":
+        if answer != NO_ROLE:
             self.edit_seconds.add(seconds)
         if not is_publish:
-            # An answer without its numbers: `ok`, a refusal's name, `fault` or `unavailable`.
-            self.edits[answer.split(" ")[-1 if answer.startswith("refused") else 0]] += 1
-        elif answer.startswith("published"):
+            self.edits[answer.name if answer.kind == "refused" else answer.kind] += 1
+        elif answer.is_made:
             self.publishes += 1
 
     def text(self, gauges: dict[str, float], log_lost: int) -> str:

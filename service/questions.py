@@ -6,9 +6,10 @@ from collections import OrderedDict
 from collections.abc import Sequence
 
 import hudarin
-from hudarin import Group, KeptDescriptor, Refused, Sid, Token, Verdict
+from hudarin import Group, KeptDescriptor, Refused, Sid, Token
 
 from analysis import checked, descriptor_in
+from answers import Checked, CheckedAll, Described, Explained, Result
 from deadline import Deadline
 from edits import require_paths
 from errors import Fault
@@ -23,6 +24,8 @@ _KEPT_WORDS, _KEPT_MASKS, _MASK_LENGTH = 65_536, 1_024, 64
 _STATES = {"": hudarin.ENABLED, "=deny": hudarin.DENY_ONLY, "=off": hudarin.DISABLED}
 #: FILE_DELETE_CHILD of folders (winnt.h).
 _DELETE_CHILD = 0x40
+#: The values of checks are few: to look one up takes less time than to make it.
+_checked = functools.lru_cache(4096)(Checked)
 _PRIVILEGES = {"+security": hudarin.SECURITY, "+take": hudarin.TAKE_OWNERSHIP}
 
 
@@ -78,20 +81,20 @@ def mask_of(word: str) -> int:
     try:
         return hudarin.mask(word)
     except Refused:
-        raise Fault("fault mask") from None
+        raise Fault.of("mask") from None
 
 
 def base_of(words: Sequence[str]) -> list[Group]:
     """The groups that all tokens in question have."""
     if len(words) > MOST_WORDS:
-        raise Fault("fault token")
+        raise Fault.of("token")
     return [_group(word) for word in words]
 
 
 def _group(word: str) -> Group:
     front, mark, ending = word.partition("=")
     if mark + ending not in _STATES:
-        raise Fault("fault token")
+        raise Fault.of("token")
     return _member(front), _STATES[mark + ending]
 
 
@@ -99,12 +102,12 @@ def _member(word: str) -> Sid:
     try:
         return sid_of(word)
     except Fault:
-        raise Fault("fault token") from None
+        raise Fault.of("token") from None
 
 
 def _token(user: Sid, words: Sequence[str]) -> Token:
     if len(words) > MOST_WORDS:
-        raise Fault("fault token")
+        raise Fault.of("token")
     groups: list[Group] = []
     restricting: list[Sid] = []
     privileges = 0
@@ -116,11 +119,6 @@ def _token(user: Sid, words: Sequence[str]) -> Token:
         else:
             groups.append(_group(word))
     return Token(user, groups, privileges, restricting)
-
-
-@functools.lru_cache(4096)
-def _verdict_text(verdict: Verdict | None) -> str:
-    return "nonode" if verdict is None else str(verdict)
 
 
 class Questions:
@@ -144,35 +142,34 @@ class Questions:
             require_paths(self.shown.view, paths)
             raise
 
-    def check(self, mask: str, words: tuple[str, ...], path: str) -> str:
+    def check(self, mask: str, words: tuple[str, ...], path: str) -> Checked:
         """Whether the token of the words is granted the mask at the path."""
         shown = self.shown
         token, bits = self._token(mask, words, [path])
         try:
-            verdict = shown.view.check(path, token, bits)
+            return _checked(shown.length, shown.view.check(path, token, bits))
         except Refused as refused:
             if refused.status != "no node":
                 raise Fault(fault_of(refused)) from None
-            return f"seen {shown.length} nonode"
-        return f"seen {shown.length} {_verdict_text(verdict)}"
+            return _checked(shown.length, None)
 
-    def delete(self, words: tuple[str, ...], path: str) -> str:
+    def delete(self, words: tuple[str, ...], path: str) -> Result:
         """Whether the token of the words may delete the node of the path, and by which descriptor: its own, or its
         parent's."""
         shown = self.shown
         token, delete = self._token("SD", words, [path])
         try:
             if shown.view.check(path, token, delete):
-                return f"seen {shown.length} granted by node"
+                return Result("granted", "by node", seen=shown.length)
         except Refused as refused:
             if refused.status != "no node":
                 raise Fault(fault_of(refused)) from None
-            return f"seen {shown.length} nonode"
+            return Result("nonode", seen=shown.length)
         parent = path.rpartition("/")[0] or "/"
         by_parent = path != "/" and shown.view.check(parent, token, _DELETE_CHILD)
-        return f"seen {shown.length} {'granted by parent' if by_parent else 'denied'}"
+        return Result("granted" if by_parent else "denied", "by parent" if by_parent else "", seen=shown.length)
 
-    def checks(self, mask: str, words: tuple[str, ...], paths: Sequence[str]) -> str:
+    def checks(self, mask: str, words: tuple[str, ...], paths: Sequence[str]) -> CheckedAll:
         """The same at each of the paths."""
         shown = self.shown
         token, bits = self._token(mask, words, paths)
@@ -183,18 +180,17 @@ class Questions:
                 verdicts = list(checked(shown.view, paths, token, len(words), bits, self._deadline))
         except Refused as refused:
             raise Fault(fault_of(refused)) from None
-        return f"seen {shown.length} {', '.join(map(_verdict_text, verdicts))}"
+        return CheckedAll(shown.length, verdicts)
 
-    def why(self, mask: str, words: tuple[str, ...], path: str) -> str:
-        """The answer of `check`, and the lines of its reasons."""
+    def why(self, mask: str, words: tuple[str, ...], path: str) -> Explained:
+        """The answer of `check`, and its reasons."""
         said = self.check(mask, words, path)
-        if said.endswith("nonode"):
-            return said
+        if said.verdict is None:
+            return Explained(said, ())
         token, bits = self.tokens.parsed(mask, words)
         with KeptDescriptor(self.shown.view.descriptor(path)) as kept:
-            explained = kept.explain(token, bits, self.mapping)
-        return "\n".join([said, *map(str, explained.parts)])
+            return Explained(said, kept.explain(token, bits, self.mapping).parts)
 
-    def show(self, path: str) -> str:
-        found = descriptor_in(self.shown.view, path)
-        return f"seen {self.shown.length} {'nonode' if found is None else f'shown {found}'}"
+    def show(self, path: str) -> Described | Result:
+        found, seen = descriptor_in(self.shown.view, path), self.shown.length
+        return Result("nonode", seen=seen) if found is None else Described(seen, str(found))

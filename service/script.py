@@ -6,8 +6,10 @@ often it is sent."""
 
 from collections.abc import Callable, Iterator, Sequence
 from dataclasses import dataclass
+from typing import TypeVar
 
 import analysis
+from answers import NO_NOTICE, NO_READER, Answer, Result
 from deadline import Deadline
 from edits import NAMES, PUBLISH, require_paths
 from errors import Fault
@@ -26,6 +28,7 @@ _KEY_LENGTH = 100
 MOST_PATHS = 1_000
 #: So does one about a token of so many words. To parse more takes long, and so does a check at a long list.
 FEW_WORDS = 256
+_A = TypeVar("_A")
 
 
 @dataclass(slots=True)
@@ -40,9 +43,9 @@ def without_key(words: list[str]) -> tuple[str, list[str]]:
     if words[0] != "once":
         return "", words
     if len(words) < 3 or words[2] not in CHANGES:
-        raise Fault("fault words")
+        raise Fault.of("words")
     if not is_key(words[1]):
-        raise Fault("fault key")
+        raise Fault.of("key")
     return words[1], words[2:]
 
 
@@ -50,19 +53,19 @@ def is_key(text: str) -> bool:
     return 0 < len(text) <= _KEY_LENGTH and all("!" <= each <= "~" for each in text)
 
 
-def answer(words: Sequence[str], questions: Questions, reader: Reader) -> str:
+def answer(words: Sequence[str], questions: Questions, reader: Reader) -> Answer:
     """The answer to a question that doesn't take long. Fault: its first fault."""
     least, most, ask = _QUESTIONS.get(words[0], _UNKNOWN)
     if not least <= len(words) - 1 <= most:
-        raise Fault("fault words")
+        raise Fault.of("words")
     return ask(words, questions, reader)
 
 
-def long_lines(words: Sequence[str], questions: Questions, reader: Reader, deadline: Deadline) -> Iterator[str]:
+def long_lines(words: Sequence[str], questions: Questions, reader: Reader, deadline: Deadline) -> Iterator[Answer]:
     """The lines that answer a question that may take long, for another thread. Fault: its first fault."""
     least, most, prepare = _LONG_QUESTIONS[words[0]]
     if not least <= len(words) - 1 <= most:
-        raise Fault("fault words")
+        raise Fault.of("words")
     return prepare(words, questions, reader, deadline)
 
 
@@ -79,7 +82,7 @@ def takes_long(words: Sequence[str], questions: Questions) -> bool:
 def reviewed_path(words: Sequence[str], questions: Questions) -> str:
     """The path of a `review`."""
     if len(words) > 2:
-        raise Fault("fault words")
+        raise Fault.of("words")
     return _path(words[1] if words[1:] else "/", questions)
 
 
@@ -89,116 +92,106 @@ def _path(word: str, questions: Questions) -> str:
     return path
 
 
-def _by_reader(number: int, said: str, questions: Questions, reader: Reader) -> str:
-    """What the reader of this number is answered, if there is one: it has then seen what is published."""
+def _by_reader(number: int, said: _A, questions: Questions, reader: Reader) -> _A:
+    """What the reader of this number is answered: it has then seen what is published. Fault: there is none."""
     if number != 0:
-        return "noreader"
+        raise Fault(NO_READER)
     if reader.floor < questions.shown.length:
         reader.floor = questions.shown.length
     return said
 
 
-def _tell(words: Sequence[str], questions: Questions, reader: Reader) -> str:
-    return f"told {questions.shown.length}"
+def _tell(words: Sequence[str], questions: Questions, reader: Reader) -> Answer:
+    return Result("told", number=questions.shown.length)
 
 
-def _learn(words: Sequence[str], questions: Questions, reader: Reader) -> str:
+def _learn(words: Sequence[str], questions: Questions, reader: Reader) -> Answer:
     number, length = number_of(words[1]), number_of(words[2])
     if number != 0:
-        return "noreader"
+        raise Fault(NO_READER)
     if length > questions.shown.length:
-        return "nonotice"
+        raise Fault(NO_NOTICE)
     reader.floor = max(reader.floor, length)
-    return f"learned {reader.floor}"
+    return Result("learned", number=reader.floor)
 
 
-def _check(words: Sequence[str], questions: Questions, reader: Reader) -> str:
+def _check(words: Sequence[str], questions: Questions, reader: Reader) -> Answer:
     number = number_of(words[1])
     said = questions.check(words[4], (words[3], *words[5:]), path_of(words[2]))
     return _by_reader(number, said, questions, reader)
 
 
-def _checks(words: Sequence[str], questions: Questions, reader: Reader) -> str:
+def _checks(words: Sequence[str], questions: Questions, reader: Reader) -> Answer:
     number = number_of(words[1])
     count = number_of(words[2])
     if count > MOST_PATHS:
-        raise Fault("fault paths")
+        raise Fault.of("paths")
     if len(words) < count + 5:
-        raise Fault("fault words")
+        raise Fault.of("words")
     paths = [path_of(word) for word in words[3 : 3 + count]]
     user, mask, *groups = words[3 + count :]
     return _by_reader(number, questions.checks(mask, (user, *groups), paths), questions, reader)
 
 
-def _why(words: Sequence[str], questions: Questions, reader: Reader) -> str:
+def _why(words: Sequence[str], questions: Questions, reader: Reader) -> Answer:
     number = number_of(words[1])
     said = questions.why(words[4], (words[3], *words[5:]), path_of(words[2]))
     return _by_reader(number, said, questions, reader)
 
 
-def _delete(words: Sequence[str], questions: Questions, reader: Reader) -> str:
+def _delete(words: Sequence[str], questions: Questions, reader: Reader) -> Answer:
     number = number_of(words[1])
     said = questions.delete((words[3], *words[4:]), path_of(words[2]))
     return _by_reader(number, said, questions, reader)
 
 
-def _show(words: Sequence[str], questions: Questions, reader: Reader) -> str:
+def _show(words: Sequence[str], questions: Questions, reader: Reader) -> Answer:
     number = number_of(words[1])
     return _by_reader(number, questions.show(path_of(words[2])), questions, reader)
 
 
-def _open(words: Sequence[str], questions: Questions, reader: Reader) -> str:
-    raise Fault("fault open")
+def _open(words: Sequence[str], questions: Questions, reader: Reader) -> Answer:
+    raise Fault.of("open")
 
 
-def _status(words: Sequence[str], questions: Questions, reader: Reader) -> str:
+def _status(words: Sequence[str], questions: Questions, reader: Reader) -> Answer:
     """The store's id, the epoch, the place of the published tree, and the published length."""
     shown = questions.shown
-    return f"status {questions.store} {shown.epoch} {shown.place} {shown.length}"
+    return Result("status", f"{questions.store} {shown.epoch} {shown.place} {shown.length}")
 
 
 # Questions that may take long
 
 
-def _find(words: Sequence[str], questions: Questions, reader: Reader, deadline: Deadline) -> Iterator[str]:
+def _find(words: Sequence[str], questions: Questions, reader: Reader, deadline: Deadline) -> Iterator[Answer]:
     number = number_of(words[1])
     shown, path = questions.shown, _path(words[2], questions)
     token, bits = questions.tokens.parsed(words[4], (words[3], *words[5:]))
-    seen = _by_reader(number, f"seen {shown.length} ", questions, reader)
-    if not seen.startswith("seen "):
-        return iter([seen])
-    lines = analysis.found(shown.view.share(), path, token.share(), len(words) - 4, bits, deadline)
-    return _after(seen, lines)
+    seen = _by_reader(number, shown.length, questions, reader)
+    return analysis.found(shown.view.share(), seen, path, token.share(), len(words) - 4, bits, deadline)
 
 
-def _after(front: str, lines: Iterator[str]) -> Iterator[str]:
-    """The lines, the first of which has this before it."""
-    for line in lines:
-        yield front + line
-        front = ""
-
-
-def _list(words: Sequence[str], questions: Questions, reader: Reader, deadline: Deadline) -> Iterator[str]:
+def _list(words: Sequence[str], questions: Questions, reader: Reader, deadline: Deadline) -> Iterator[Answer]:
     path = _path(words[1] if words[1:] else "/", questions)
     return analysis.listed(questions.shown.view.share(), path, deadline)
 
 
-def _dump(words: Sequence[str], questions: Questions, reader: Reader, deadline: Deadline) -> Iterator[str]:
+def _dump(words: Sequence[str], questions: Questions, reader: Reader, deadline: Deadline) -> Iterator[Answer]:
     return analysis.dump(questions.shown.view.share(), deadline)
 
 
-def _who(words: Sequence[str], questions: Questions, reader: Reader, deadline: Deadline) -> Iterator[str]:
+def _who(words: Sequence[str], questions: Questions, reader: Reader, deadline: Deadline) -> Iterator[Answer]:
     path, bits, base = _path(words[1], questions), mask_of(words[2]), base_of(words[3:])
     return analysis.granted(questions.shown.view.share(), path, bits, base, questions.mapping, deadline)
 
 
-def _compare(words: Sequence[str], questions: Questions, reader: Reader, deadline: Deadline) -> Iterator[str]:
+def _compare(words: Sequence[str], questions: Questions, reader: Reader, deadline: Deadline) -> Iterator[Answer]:
     path, new, base = _path(words[1], questions), descriptor_of(words[2]), base_of(words[3:])
     return analysis.compared(questions.shown.view.share(), path, new, base, questions.mapping)
 
 
-_Ask = Callable[[Sequence[str], Questions, Reader], str]
-_Prepare = Callable[[Sequence[str], Questions, Reader, Deadline], Iterator[str]]
+_Ask = Callable[[Sequence[str], Questions, Reader], Answer]
+_Prepare = Callable[[Sequence[str], Questions, Reader, Deadline], Iterator[Answer]]
 _MOST = 1 << 20
 #: The least and the most arguments of a question, and its answer.
 _QUESTIONS: dict[str, tuple[int, int, _Ask]] = {

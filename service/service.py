@@ -16,6 +16,7 @@ import analysis
 import clock
 import leading
 import script
+from answers import NO_MEMORY, NO_ROLE, Answer, Checked, CheckedAll, Result, Text, kind_of
 from caller import Caller
 from config import Config
 from deadline import Deadline
@@ -32,20 +33,20 @@ from questions import Questions
 from rarely import Rarely
 from shown import Shown
 from slots import Slots
-from task import NO_MEMORY, UNMADE, Task
+from task import UNMADE, Task
 from tree import MAPPINGS
 from turn import Turn
 from writer import NO_LEADER, UNAVAILABLE, Writer
 
 #: The answer to a question that raised what nothing expects, and to what has no record in the log.
-FAILED, NO_RECORD = "unavailable failed", "unavailable log"
+FAILED, NO_RECORD = Result("unavailable", "failed"), Result("unavailable", "log")
 #: What makes the bytes of an answer of its lines, by what was published then; and what learns how many there are.
-Form = Callable[[Shown, Iterator[str]], Iterable[bytes]]
+Form = Callable[[Shown, Iterator[Answer]], Iterable[bytes]]
 Hold = Callable[[int], None]
 #: Of an edit of a client that may not edit the log has so many characters.
 _REFUSED_LENGTH = 1_000
-_COUNTED = ("check", "checks")
-_VERDICTS = ("granted", "denied", "reserved", "empty", "nonode")
+#: A check that is answered so is logged where denials are.
+_DENIALS = ("denied", "reserved")
 #: The most characters of all edits in progress.
 _EDIT_LENGTH = 1 << 26
 #: A warning is in the log after so many seconds, or isn't waited for.
@@ -112,33 +113,26 @@ class Service:
             turn = self._turns[who] = Turn()
         return turn
 
-    def answer(self, words: Sequence[str], caller: Caller, reader: script.Reader) -> str:
-        """The answer to a question that doesn't take long."""
+    def answer(self, words: Sequence[str], caller: Caller, reader: script.Reader) -> Answer:
+        """The answer to a question that doesn't take long. Fault: there is none."""
         began = time.perf_counter()
+        caller.require("check")
+        self.require_fresh()
         try:
-            caller.require("check")
-            self.require_fresh()
             said = script.answer(words, self._questions, reader)
-        except Fault as fault:
-            return fault.answer
         except MemoryError:
-            return NO_MEMORY
-        return self._counted(words, said, caller, began) if words[0] in _COUNTED else said
-
-    def _counted(self, words: Sequence[str], said: str, caller: Caller, began: float) -> str:
-        """The answer to a check, once it is counted, and logged if it is to be: otherwise there is none."""
-        if not said.startswith("seen "):
-            return said
-        if words[0] == "check":
-            self.metrics.checks[said.split(" ", 3)[2]] += 1
-        else:
-            for verdict in _VERDICTS:
-                self.metrics.checks[verdict] += said.count(verdict)
-        self.metrics.check_seconds.add(time.perf_counter() - began)
-        if self._logs_denials and ("denied" in said or "reserved" in said):
-            if not self.log.event("denial", who=caller.who, asked=" ".join(words), answer=said):
-                return NO_RECORD
+            raise Fault(NO_MEMORY) from None
+        if not self._is_counted(words, said, caller, began):
+            raise Fault(NO_RECORD)
         return said
+
+    def _is_counted(self, words: Sequence[str], said: Answer, caller: Caller, began: float) -> bool:
+        """Counts an answer, if it is that of a check. False: it has to be in the log, which doesn't take it."""
+        if isinstance(said, (Checked, CheckedAll)):
+            self.metrics.count_checks(said, time.perf_counter() - began)
+            if self._logs_denials and any(kind_of(verdict) in _DENIALS for verdict in said.verdicts):
+                return self.log.event("denial", who=caller.who, asked=" ".join(words), answer=said.line())
+        return True
 
     def takes_long(self, words: Sequence[str]) -> bool:
         """Whether a question that isn't about many nodes is answered by `long_checks`."""
@@ -165,11 +159,11 @@ class Service:
 
     async def long_checks(
         self, lines: Sequence[Sequence[str]], caller: Caller, reader: script.Reader, hold: Hold
-    ) -> tuple[Shown, list[str]]:
+    ) -> tuple[Shown, list[Answer]]:
         """The answers to questions that take long, though they aren't about many nodes: all as of one moment, and what
         was published then. Fault: there is none."""
         self._require_reads(caller)
-        began, found = time.perf_counter(), list[tuple[Questions, list[str]]]()
+        began, found = time.perf_counter(), list[tuple[Questions, list[Answer]]]()
 
         async def prepare(deadline: Deadline) -> Work:
             self._require_reads(caller)
@@ -178,8 +172,9 @@ class Service:
         await self._made("edit" if caller.role == "edit" else "check", caller.who, prepare, hold)
         [(questions, answers)] = found
         self._questions.tokens.adopt(questions.tokens)
-        return questions.shown, [self._counted(words, said, caller, began) if words[0] in _COUNTED else said
-                       for words, said in zip(lines, answers)]
+        if not all([self._is_counted(words, said, caller, began) for words, said in zip(lines, answers)]):
+            raise Fault(NO_RECORD)
+        return questions.shown, answers
 
     async def _made(
         self, kind: str, who: str, prepare: Callable[[Deadline], Awaitable[Work]], hold: Hold
@@ -199,18 +194,18 @@ class Service:
 
     async def _lines(
         self, words: Sequence[str], caller: Caller, reader: script.Reader, deadline: Deadline
-    ) -> Iterator[str]:
+    ) -> Iterator[Answer]:
         """The lines of an answer, which a thread makes one by one."""
         if words[0] in script.OF_JOURNAL:
             self.require_fresh()
             age = 0.0 if self._following is None else self._following.age(self.shown.fresh_until)
-            return _lines_of(lambda: leading.answer(self._journal.file, words, age))
+            return map(Text, leading.answer(self._journal.file, words, age))
         self._require_reads(caller)
         if words[0] == script.REVIEW:
             return await self._review(words, deadline)
         return _lines_beside(words, self._questions.beside(deadline), reader, deadline)
 
-    async def _review(self, words: Sequence[str], deadline: Deadline) -> Iterator[str]:
+    async def _review(self, words: Sequence[str], deadline: Deadline) -> Iterator[Answer]:
         path = script.reviewed_path(words, self._questions)
         pending, between = await asyncio.wrap_future(self._writer.look())
         lines = leading.made_between(self._journal.file, *between)
@@ -224,7 +219,7 @@ class Service:
     def require_fresh(self) -> None:
         """Fault: a replica, which doesn't know enough of its leader."""
         if clock.now() > self.shown.fresh_until:
-            raise Fault("unavailable behind")
+            raise Fault(Result("unavailable", "behind"))
 
     def submit(
         self, lines: Sequence[list[str]], caller: Caller, reply: Callable[[Task], None], only_if: int | None = None
@@ -280,7 +275,7 @@ class Service:
         try:
             key, words = script.without_key(words)
             if words[0] == PUBLISH and len(words) > 1:
-                raise Fault("fault words")
+                raise Fault.of("words")
             edit = None if words[0] == PUBLISH else edit_of(words, self.shown.view)
             return Task(edit, PUBLISH if edit is None else edit.line(), key, caller.who, reply)
         except (Fault, MemoryError) as error:
@@ -292,7 +287,7 @@ class Service:
             raise Fault(NO_RECORD)
         if self.log.left_out("edit") is None:
             raise Fault(BUSY)
-        task = Task(None, asked[:_REFUSED_LENGTH], "", caller.who, reply, "fault role")
+        task = Task(None, asked[:_REFUSED_LENGTH], "", caller.who, reply, NO_ROLE)
         self._edits += 1
         self._edit_length += len(task.line)
         if self._record([task], functools.partial(self._reply, [task])):
@@ -316,7 +311,7 @@ class Service:
         # (to encode the fields of a record together takes longer)
         return self.log.records("edit", [
             f'"who": {in_json(each.who)}, "key": {in_json(each.key)}, "line": {in_json(each.line)}, '
-            f'"answer": {in_json(each.answer)}, "number": {each.number}'
+            f'"answer": {in_json(each.answer.line())}, "number": {each.number}'
             for task in tasks for each in task.parts or (task,)
         ], functools.partial(self._loop.call_soon_threadsafe, then))
 
@@ -384,14 +379,9 @@ class Service:
         }, self.log.lost)
 
 
-def _lines_of(make: Callable[[], str]) -> Iterator[str]:
-    """The lines of a text that is made once the first one is asked for."""
-    yield from make().split("\n")
-
-
 def _answer_beside(
     lines: Sequence[Sequence[str]], questions: Questions, reader: script.Reader,
-    found: list[tuple[Questions, list[str]]],
+    found: list[tuple[Questions, list[Answer]]],
 ) -> bytes:
     """In a thread: finds the answers to the lines, by a view of its own."""
     with questions.shown.view:
@@ -401,7 +391,7 @@ def _answer_beside(
 
 def _lines_beside(
     words: Sequence[str], questions: Questions, reader: script.Reader, deadline: Deadline
-) -> Iterator[str]:
+) -> Iterator[Answer]:
     """The lines of a long answer. Once the first one is asked for, by a thread, the words are parsed."""
     with questions.shown.view:
         yield from script.long_lines(words, questions, reader, deadline)

@@ -5,6 +5,7 @@ from urllib.parse import quote_from_bytes, unquote_to_bytes
 
 from hudarin import Descriptor, Refused, Sid
 
+from answers import Result
 from errors import Fault
 
 #: What a printed path has as it is: all printable ASCII but `%`.
@@ -27,11 +28,11 @@ def path_of(word: str) -> str:
     if "%" not in word:
         return word
     if "%2f" in word.lower():
-        raise Fault("fault path")
+        raise Fault.of("path")
     try:
         return unquote_to_bytes(word).decode()
     except UnicodeDecodeError:
-        raise Fault("fault path") from None
+        raise Fault.of("path") from None
 
 
 def descriptor_of(word: str) -> Descriptor:
@@ -58,7 +59,7 @@ def printed(descriptor: Descriptor, given: str = "") -> str:
 def _text(descriptor: Descriptor, given: str) -> str:
     text = str(descriptor)
     if text != given and Descriptor.from_sddl(text) != descriptor:
-        raise Fault("fault parts")
+        raise Fault.of("parts")
     return text
 
 
@@ -70,7 +71,7 @@ def sid_of(word: str) -> Sid:
     try:
         return Sid.from_text(word)
     except Refused:
-        raise Fault("fault sid") from None
+        raise Fault.of("sid") from None
 
 
 def number_of(word: str) -> int:
@@ -79,16 +80,15 @@ def number_of(word: str) -> int:
         return 0
     digits = word.lstrip("0") or word[-1:]
     if not (word.isascii() and word.isdigit()) or len(digits) > 20 or int(digits) >= _NUMBERS:
-        raise Fault("fault number")
+        raise Fault.of("number")
     return int(digits)
 
 
-def fault_of(refused: Refused) -> str:
+def fault_of(refused: Refused) -> Result:
     """The answer to a line whose argument, or whose edit, the library refuses."""
     if refused.status == "refused":
-        return f"refused {refused.fault} {refused.name}"
+        return Result("refused", str(refused.name), refused.fault)
     if refused.status == "sddl":
-        return f"fault sddl {refused.fault} {refused.name} at {refused.place}"
-    if refused.status in ("path", "utf8"):
-        return f"fault {refused.status if refused.argument is None else 'path'}"
-    return f"fault {refused.status}"
+        return Result("fault", f"sddl {refused.fault} {refused.name} at {refused.place}")
+    is_of_path = refused.status in ("path", "utf8") and refused.argument is not None
+    return Result("fault", "path" if is_of_path else refused.status)

@@ -11,7 +11,7 @@ from itertools import islice
 from entry import Line, Place
 from errors import Failed, Invalid, Mismatch
 from journal import MOST_LINES, Journal
-from leading import Lines, Origin, is_head, line_in, row_of, snapshot_in, snapshot_text
+from leading import Lines, Origin, is_head, line_in, row_of, snapshot_in, snapshot_lines
 from redis_client import Redis, Reply
 
 #: Appends rows to the last line, or none.
@@ -110,8 +110,8 @@ class Stream:
         """Replaces the snapshot, and drops the lines that the journal has dropped. Failed: it doesn't lead."""
         # Another leader may have dropped more of them.
         rows = self._redis.ask("XRANGE", self._keys[0], "-", "+", "COUNT", 1)
-        text = snapshot_text(journal, line_in(rows[0][1][1].decode())[0].number - 1 if rows else 0)
-        if not self._redis.ask("EVAL", _RENEW, 4, *self._keys, self._name, text, journal.start.number + 1):
+        lines = snapshot_lines(journal, line_in(rows[0][1][1].decode())[0].number - 1 if rows else 0)
+        if not self._redis.ask("EVAL", _RENEW, 4, *self._keys, self._name, "\n".join(lines), journal.start.number + 1):
             raise Failed("redis: another service leads")
 
     def seed(self, journal: Journal) -> None:
@@ -125,4 +125,4 @@ class Stream:
         while batch := list(islice(lines, MOST_LINES)):
             self.append(place, batch)
             place = Place(batch[-1][0].number, batch[-1][1])
-        self._redis.ask("EVAL", _END_OF_SEED, 2, snapshot, lease, snapshot_text(journal))
+        self._redis.ask("EVAL", _END_OF_SEED, 2, snapshot, lease, "\n".join(snapshot_lines(journal)))

@@ -4,16 +4,15 @@ import time
 from collections.abc import Callable, Sequence
 from dataclasses import dataclass, field
 
+from answers import NO_MEMORY, OTHER_KEY, UNANSWERED, Result
 from edits import Edit
 from entry import Batch
 from loading import Loaded, Moment
 
-NO_MEMORY = "unavailable memory"
 #: The answer to an edit that isn't made, since another one that was sent with it isn't.
-UNMADE = "unmade"
+UNMADE = Result("unmade")
 #: The answer to edits that are for another published length.
-NOT_FOR_THIS = "fault published"
-_MADE = ("ok", "published")
+NOT_FOR_THIS = Result("fault", "published")
 
 
 @dataclass(slots=True)
@@ -25,7 +24,7 @@ class Task:
     key: str
     who: str
     reply: Callable[["Task"], None]
-    answer: str = ""
+    answer: Result = UNANSWERED
     #: The number of its line in the journal; 0 if it has none.
     number: int = 0
     began: float = field(default_factory=time.perf_counter)
@@ -40,16 +39,11 @@ class Task:
         """The edits that it has, or itself."""
         return self.parts or (self,)
 
-    @property
-    def was_made(self) -> bool:
-        """Whether its answer says so."""
-        return self.answer.split(" ")[0] in _MADE
-
-    def settle(self, answer: str = "") -> None:
+    def settle(self, answer: Result = UNANSWERED) -> None:
         """Gives each of its edits the answer, or, without one, that of the whole where this has one."""
-        answer = answer or (self.answer if self.parts else "")
+        answer = answer or (self.answer if self.parts else UNANSWERED)
         for each in self.each if answer else ():
-            if answer != UNMADE or each.was_made or not each.answer:
+            if answer != UNMADE or each.answer.is_made or not each.answer:
                 each.answer, each.number = answer, 0
 
 
@@ -63,8 +57,8 @@ def make_together(
     """Makes all parts, or none of them: then the store and the batch are as they were. MemoryError: they aren't."""
     known = [bool(part.key) and was_made(part, batch) for part in whole.parts]
     if any(known):
-        if not all(part.was_made for part in whole.parts):
-            whole.answer = "fault key"
+        if not all(part.answer.is_made for part in whole.parts):
+            whole.answer = OTHER_KEY
     elif whole.only_if not in (None, state.tree.length):
         whole.answer = NOT_FOR_THIS
     else:
@@ -81,7 +75,7 @@ def _make_all(whole: Task, state: Loaded, batch: Batch, make: Callable[[Task, Ba
     with before:
         for part in whole.parts:
             make(part, batch)
-            if not part.was_made:
+            if not part.answer.is_made:
                 before.restore(state)
                 for line, _ in batch.lines[count:]:
                     batch.by_key.pop(line.key, None)

@@ -5,6 +5,7 @@ from collections.abc import Iterable, Iterator, Sequence
 import hudarin
 from hudarin import Descriptor, Store, View
 
+from answers import Result
 from edits import PUBLISH, Edit, edit_of
 from errors import Fault, Mismatch
 from spelling import descriptor_of, fault_of, printed, spelled
@@ -27,7 +28,7 @@ class Tree:
         self.view = self._store.publish()
         self.length = len(self.view)
 
-    def make(self, edit: Edit) -> str | None:
+    def make(self, edit: Edit) -> Result | None:
         """Makes the edit, or says why it is refused."""
         return edit.make(self._store)
 
@@ -86,17 +87,18 @@ def _opened(lines: Sequence[str], mapping: str) -> Tree:
     try:
         return Tree(descriptor_of(words[2]), mapping)
     except Fault as fault:
-        raise Mismatch(f"line 1 of the snapshot: {fault.answer}") from None
+        raise Mismatch(f"line 1 of the snapshot: {fault}") from None
     except hudarin.Refused as refused:
-        raise Mismatch(f"line 1 of the snapshot: {fault_of(refused)}") from None
+        raise Mismatch(f"line 1 of the snapshot: {fault_of(refused).line()}") from None
 
 
 def refused(tree: Tree, words: Sequence[str]) -> str | None:
     """Makes the edit of these words, or says why it isn't made."""
     try:
-        return tree.make(edit_of(words, tree.view))
+        answer = tree.make(edit_of(words, tree.view))
+        return None if answer is None else answer.line()
     except Fault as fault:
-        return fault.answer
+        return str(fault)
     except KeyError:
         return f"{words[0]!a:.100} is no edit"
 

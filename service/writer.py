@@ -18,6 +18,7 @@ from hudarin import View
 
 import clock
 from analysis import Pending
+from answers import NO_MEMORY, OTHER_KEY, Result
 from checkpoint import Checkpoint
 from edits import Edit, is_same
 from entry import Batch, Line, Place
@@ -28,7 +29,7 @@ from leading import Lines
 from loading import Loaded, load
 from shown import Shown
 from stream import Stream
-from task import NO_MEMORY, Task, make_together
+from task import Task, make_together
 
 #: Once so many edits share a commit no more are added to it.
 MOST_AT_ONCE = 512
@@ -37,9 +38,8 @@ MOST_AT_ONCE = 512
 MOST_EDITS = 900_000
 #: After a failed commit the journal is tried again by the next edit, or after so many seconds without one.
 RETRY_SECONDS = 5.0
-ACCEPTED, PUBLISHED = "ok", "published {}"
-UNAVAILABLE, NO_LEADER = "unavailable journal", "unavailable replica"
-
+ACCEPTED = Result("ok")
+UNAVAILABLE, NO_LEADER = Result("unavailable", "journal"), Result("unavailable", "replica")
 
 #: What is pending, and the numbers of the published line and of the last one.
 Look = tuple[Pending, tuple[int, int]]
@@ -211,7 +211,7 @@ class Writer:
 
     def _edit(self, task: Task, edit: Edit) -> bool:
         task.answer = self.state.tree.make(edit) or ACCEPTED
-        return task.answer == ACCEPTED
+        return task.answer.is_made
 
     def _publish(self, task: Task) -> bool:
         """Publishes what is pending; without that nothing changes."""
@@ -219,7 +219,7 @@ class Writer:
         has_pending = tree.pending > 0
         if has_pending:
             self._drop(tree.publish())
-        task.answer = PUBLISHED.format(tree.length)
+        task.answer = Result("published", number=tree.length)
         return has_pending
 
     def _was_made(self, task: Task, batch: Batch) -> bool:
@@ -228,9 +228,9 @@ class Writer:
         if made is None:
             return False
         if made.who != task.who or not is_same(made.line, task.line, self.state.tree.view):
-            task.answer = "fault key"
+            task.answer = OTHER_KEY
             return True
-        task.answer = PUBLISHED.format(made.length) if made.length else ACCEPTED
+        task.answer = Result("published", number=made.length) if made.length else ACCEPTED
         task.number = made.number
         return True
 

@@ -16,9 +16,9 @@ import stores
 from edits import edit_of
 from entry import Line
 from journal import Journal
-from task import NOT_FOR_THIS, UNMADE, Task
+from task import Task
 from tree import dumped
-from writer import UNAVAILABLE, Shown, Writer
+from writer import Shown, Writer
 
 ADD = "addo /{} O:BAG:SYD:"
 
@@ -57,7 +57,7 @@ class Batches(rig.Case):
         self.writer.stop()
         for each in tasks:
             each.settle()
-        return [[part.answer for part in each.each] for each in tasks]
+        return [[part.answer.line() for part in each.each] for each in tasks]
 
     def nodes(self) -> list[str]:
         """Those of the tree that a start makes, pending edits too."""
@@ -78,8 +78,9 @@ class Batches(rig.Case):
             self.task(ADD.format("w"), "publish", key="k"),
         )
         self.assertEqual(answers, [
-            ["ok"], [UNMADE, UNMADE, "refused 4 NoNode", UNMADE], ["ok"], ["ok", "published 3"], [NOT_FOR_THIS] * 2,
-            [UNMADE, "refused 4 NoNode", UNMADE], ["ok", "published 3"], ["fault key"] * 2])
+            ["ok"], ["unmade", "unmade", "refused 4 NoNode", "unmade"], ["ok"], ["ok", "published 3"],
+            ["fault published"] * 2, ["unmade", "refused 4 NoNode", "unmade"], ["ok", "published 3"],
+            ["fault key"] * 2])
         self.assertEqual((self.shown.length, self.shown.last.number, self.warned), (3, 4, []))
         self.assertEqual(sorted(self.nodes()), ["/after", "/before", "/x"])
 
@@ -95,7 +96,7 @@ class Batches(rig.Case):
         with mock.patch.object(Journal, "append", fail), mock.patch("writer.MOST_AT_ONCE", 1):
             answers = self.run_all(self.task(ADD.format("a"), ADD.format("b"), "publish"),
                                    self.task(ADD.format("a"), "publish"))
-        self.assertEqual(answers, [[UNAVAILABLE] * 3, ["ok", "published 1"]])
+        self.assertEqual(answers, [["unavailable journal"] * 3, ["ok", "published 1"]])
         self.assertEqual(self.nodes(), ["/a"])
 
     def test_the_store_after_a_commit_that_fails(self) -> None:
@@ -125,7 +126,7 @@ class Batches(rig.Case):
                         mock.patch("writer.MOST_AT_ONCE", at if name == "memory" else 2):
                     left[0] = at if name == "memory" else (at + 1) // 2
                     answers = self.run_all(*(self.task(line) for line in (*lines, ADD.format("z"), "publish")))
-                    self.assertIn([UNAVAILABLE], answers)
+                    self.assertIn(["unavailable journal"], answers)
                     self.assertEqual(answers[-2:], [["ok"], [f"published {self.shown.length}"]])
                     self.assertEqual(load.call_count, 0)
                     with self.writer.state.tree.pending_view() as view:
@@ -149,14 +150,14 @@ class Batches(rig.Case):
         self.writer.is_lost = True
         with mock.patch.object(Journal, "append", fail), mock.patch("writer.MOST_AT_ONCE", 2):
             answers = self.run_all(*(self.task(line) for line in (ADD.format("a"), "publish", ADD.format("b"), "publish")))
-        self.assertEqual(answers, [[UNAVAILABLE], [UNAVAILABLE], ["ok"], ["published 1"]])
+        self.assertEqual(answers, [["unavailable journal"], ["unavailable journal"], ["ok"], ["published 1"]])
         self.assertEqual(self.nodes(), ["/b"])
 
     def test_memory(self) -> None:
         """Out of memory at any of them: none is made."""
         with mock.patch("tree.Tree.publish", side_effect=MemoryError):
             answers = self.run_all(self.task(ADD.format("a"), "publish"), self.task(ADD.format("b")))
-        self.assertEqual(answers, [[UNMADE, "unavailable memory"], ["ok"]])
+        self.assertEqual(answers, [["unmade", "unavailable memory"], ["ok"]])
         self.assertEqual(self.nodes(), ["/b"])
 
     def test_many_share_no_commit(self) -> None:

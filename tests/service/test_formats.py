@@ -145,16 +145,16 @@ class Formats(rig.Case):
         self.make()
         done: "queue.SimpleQueue[list[Task]]" = queue.SimpleQueue()
         answers = []
-        with mock.patch("writer.ACCEPTED", "accepted"), mock.patch("writer.PUBLISHED", "{} are published"), \
+        with mock.patch("answers.Result.line", lambda answer: f"so {answer.kind} is {answer.number}"), \
                 stores.opened(self.store) as journal:
             writer = Writer(journal, loading.load(journal), lambda tasks, now: done.put(tasks), print)
             writer.start()
             for key, line in (("k", "addo /a O:BAG:SYD:"), ("", "publish")):
                 edit = None if line == "publish" else edit_of(line.split(" "), writer.shown.view)
                 writer.put(Task(edit, line, key, WHO, lambda task: None))
-                answers += [task.answer for task in done.get(timeout=rig.PATIENCE)]
+                answers += [task.answer.line() for task in done.get(timeout=rig.PATIENCE)]
             writer.stop()
-        self.assertEqual(answers, ["accepted", "1 are published"])
+        self.assertEqual(answers, ["so ok is None", "so published is 1"])
         rig.run("verify", self.store)
         self.start()
         self.assertEqual(self.said("once k addo /a O:BAG:SYD:", "publish"), ["ok", "published 1"])

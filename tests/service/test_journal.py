@@ -234,7 +234,7 @@ class Journals(rig.Case):
             return True
         self.assertEqual(list(dumped(state.tree.view)), self.dumped)
         edit = edit_of(["addo", "/moved%20last", "O:BAG:SYD:"], state.tree.view)
-        self.assertEqual(state.tree.make(edit), "refused 3 Exists")
+        self.assertEqual(state.tree.make(edit).line(), "refused 3 Exists")
         state.tree.close()
         return False
 
@@ -267,7 +267,7 @@ class Journals(rig.Case):
             writer.start()
             edit = edit_of(["addo", "/a", "O:BAG:SYD:"], writer.shown.view)
             writer.put(Task(edit, edit.line(), "", "uid:0", lambda task: None))
-            self.assertEqual(done.get(timeout=rig.PATIENCE)[0].answer, "ok")
+            self.assertEqual(done.get(timeout=rig.PATIENCE)[0].answer.line(), "ok")
             writer.stop()
             ((line, chain),) = journal.lines(0)
         self.assertEqual(line.time, 0)

@@ -167,7 +167,7 @@ class EditTests(unittest.TestCase):
         for count, length in ((97, 100), (96, 101)):
             with self.assertRaises(Fault) as busy:
                 Service._begin(service, task(count, length))
-            self.assertEqual(busy.exception.answer, "unavailable busy")
+            self.assertEqual(busy.exception.answer.line(), "unavailable busy")
         Service._begin(service, task(96, 100))
         self.assertEqual((service._edits, service._edit_length), (4_096, 1 << 26))
 

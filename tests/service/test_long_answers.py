@@ -167,7 +167,7 @@ class Making(unittest.IsolatedAsyncioTestCase):
         held: list[int] = []
         with self.assertRaises(Fault) as large:
             gathered((b"x" * (1 << 20) for _ in range(300)), Deadline(rig.PATIENCE, held.append))
-        self.assertEqual(large.exception.answer, "unavailable large")
+        self.assertEqual(large.exception.answer.line(), "unavailable large")
         self.assertEqual(held[:2], [1 << 20, 2 << 20])
 
 

@@ -224,7 +224,7 @@ class Replicas(rig.Case):
         self.edit(9)
         file = self.store / "journal.sqlite"
         with mock.patch("leading._MOST_AT_ONCE", 1):
-            first, *rows = leading.answer(file, ["lines", "0"], 0.0015).split("\n")
+            first, *rows = leading.answer(file, ["lines", "0"], 0.0015)
         self.assertEqual((first, len(rows)), ("last 10 2", 1))
 
     def test_a_replica_of_a_replica(self) -> None:
