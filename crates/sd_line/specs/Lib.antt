@@ -1,3 +1,4 @@
+pub mod Fields
 pub mod Form
 pub mod Json
 pub mod Laws

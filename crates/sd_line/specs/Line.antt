@@ -1,7 +1,9 @@
 -- A line of an answer: its kind, and its parts, of which nothing is spelled.
-use Rattle.std.specs.Prelude.{ℕ, Bool, false, List, [], ◌∷◌, codes, bytes_eq}
+use Rattle.std.specs.Prelude.{ℕ, Bool, false, List, [], ◌∷◌, Option, Some, None, codes, bytes_eq, drop}
+use Rattle.std.specs.Prelude.{if◌then◌else◌}
 use Rattle.std.specs.List.{list_any}
 use Rattle.std.specs.Borrow.{Bor}
+use Rattle.sd_line.specs.Form.{name_in, pieces_of, words_in}
 use Rattle.sd_line.specs.declared.line.Value.{Value}
 use Rattle.sd_line.specs.declared.line.Value.TheVariants.{Text, Words}
 
@@ -61,3 +63,39 @@ part_says word p = list_any (value_says word) p.values
 -- one of the line's words is this
 abbrev pub says : List ℕ → LineOf → Bool
 says word l = list_any (part_says word) l.parts
+
+-- ---- its values by their names
+
+-- a value, the name in whose place it stands, and the words that follow
+pub record FieldOf : Type 0 where
+  pub name : List ℕ
+  pub value : Value
+  pub words : List ℕ
+
+abbrev pub field_of : List ℕ → Value → FieldOf
+field_of piece value = record { name = name_in piece; value = value; words = words_in piece }
+
+-- the values in turn, each in the place of the next name
+abbrev pub fields_from : List (List ℕ) → List Value → List FieldOf
+fields_from pieces [] = []
+fields_from [] (value ∷ values) = []
+fields_from (piece ∷ pieces) (value ∷ values) = field_of piece value ∷ fields_from pieces values
+
+abbrev pub fields_of : PartOf → List FieldOf
+fields_of p = fields_from (drop 1 (pieces_of p.form)) p.values
+
+-- the value of this name, of several the first
+abbrev pub named_among : List ℕ → List FieldOf → Option Value
+named_among name [] = None
+named_among name (f ∷ fs) = if bytes_eq f.name name then Some f.value else named_among name fs
+
+abbrev pub or_else : Option Value → Option Value → Option Value
+or_else (Some value) other = Some value
+or_else None other = other
+
+abbrev pub named_in : List ℕ → List PartOf → Option Value
+named_in name [] = None
+named_in name (p ∷ ps) = or_else (named_among name (fields_of p)) (named_in name ps)
+
+abbrev pub value_named : List ℕ → LineOf → Option Value
+value_named name l = named_in name l.parts

@@ -1,12 +1,12 @@
 -- What is printed of a line: its text, and its object of JSON.
-use Rattle.std.specs.Prelude.{ℕ, Option, Some, None, ◌==◌, if◌then◌else◌, List, [], ◌∷◌, ◌++◌, codes, drop, length, map}
+use Rattle.std.specs.Prelude.{ℕ, Option, Some, None, ◌==◌, if◌then◌else◌, List, [], ◌∷◌, ◌++◌, codes, length, map}
 use Rattle.std.specs.Fmt.{decimal}
 use Rattle.std.specs.List.{flat_map}
 use Rattle.sd_sid.specs.Sid.{SidValue}
 use Rattle.sd_text.specs.Canon.{canon_in, entry_canon_in, full_canon}
-use Rattle.sd_line.specs.Form.{name_in, pieces_of, words_in}
+use Rattle.sd_line.specs.Form.{pieces_of}
 use Rattle.sd_line.specs.Json.{json_string, named, strings, then_named}
-use Rattle.sd_line.specs.Line.{LineOf, PartOf}
+use Rattle.sd_line.specs.Line.{FieldOf, LineOf, PartOf, fields_of}
 use Rattle.sd_line.specs.Spelling.{right_names_of, spelled}
 use Rattle.sd_line.specs.declared.line.SidMark.{SidMark}
 use Rattle.sd_line.specs.declared.line.SidMark.TheVariants.{Plain, Deny, Restrict}
@@ -61,29 +61,23 @@ member spelling name value = then_named name (json_string (value_text spelling v
 
 -- ---- the values of a part
 
--- the text of the values in turn, each in the place of its name
-abbrev pub values_text : Spelling → List (List ℕ) → List Value → List ℕ
-values_text spelling pieces [] = []
-values_text spelling [] (value ∷ values) = []
-values_text spelling (piece ∷ pieces) (value ∷ values) =
-    value_text spelling value ++ words_in piece ++ values_text spelling pieces values
+-- a value in the place of its name
+abbrev pub field_text : Spelling → FieldOf → List ℕ
+field_text spelling f = value_text spelling f.value ++ f.words
 
--- their members
-abbrev pub values_members : Spelling → List (List ℕ) → List Value → List ℕ
-values_members spelling pieces [] = []
-values_members spelling [] (value ∷ values) = []
-values_members spelling (piece ∷ pieces) (value ∷ values) =
-    member spelling (name_in piece) value ++ values_members spelling pieces values
+abbrev pub field_member : Spelling → FieldOf → List ℕ
+field_member spelling f = member spelling f.name f.value
 
-abbrev pub part_text_of : Spelling → List (List ℕ) → List Value → List ℕ
-part_text_of spelling [] values = []
-part_text_of spelling (words ∷ pieces) values = words ++ values_text spelling pieces values
+-- the words before the first name
+abbrev pub first_words : List (List ℕ) → List ℕ
+first_words [] = []
+first_words (words ∷ pieces) = words
 
 abbrev pub part_text : Spelling → PartOf → List ℕ
-part_text spelling p = part_text_of spelling (pieces_of p.form) p.values
+part_text spelling p = first_words (pieces_of p.form) ++ flat_map (field_text spelling) (fields_of p)
 
 abbrev pub part_members : Spelling → PartOf → List ℕ
-part_members spelling p = values_members spelling (drop 1 (pieces_of p.form)) p.values
+part_members spelling p = flat_map (field_member spelling) (fields_of p)
 
 -- ---- lines
 

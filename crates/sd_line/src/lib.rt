@@ -12,6 +12,7 @@
 //! ```
 #![tactic(auto)]
 
+mod fields;
 mod form;
 mod laws;
 mod line;
@@ -28,6 +29,6 @@ pub use laws::{masks_come_back, names_are_distinct};
 pub use line::{Line, LineForm, Part, SidMark, Sids, Text, Value};
 pub use mask::read_mask_in;
 pub use names::ObjectKind;
-pub use print::{Style, Tag, lines_text, push_printed};
+pub use print::{Style, Tag, lines_text, push_printed, push_printed_line, value_text};
 pub use rights::rights_line;
 pub use spelling::{Spelling, spell};

@@ -41,7 +41,7 @@ impl Model for Text {
 }
 
 impl Text {
-    pub(crate) fn as_str(&self) -> &str
+    pub fn as_str(&self) -> &str
         ensures { result.now ≡ self.now }
     {
         self.text.as_str()
@@ -65,7 +65,7 @@ impl Model for Sids {
 }
 
 impl Sids {
-    pub(crate) fn as_slice(&self) -> &[(Sid, SidMark)]
+    pub fn as_slice(&self) -> &[(Sid, SidMark)]
         ensures { result.now ≡ self.now }
     {
         &self.sids
@@ -95,7 +95,7 @@ impl Words {
             .any(|text| word.as_bytes() == text.as_str().as_bytes())
     }
 
-    pub(crate) fn as_slice(&self) -> &[Text]
+    pub fn as_slice(&self) -> &[Text]
         ensures { result.now ≡ self.now }
     {
         &self.words
@@ -307,7 +307,8 @@ impl Line {
         self.parts.iter().any(|part| part.says(word))
     }
 
-    pub(crate) fn kind(&self) -> &'static str
+    /// What kind of line it is; no text where it is of none.
+    pub fn kind(&self) -> &'static str
         ensures { result.now ≡ self.now.kind }
     {
         self.kind

@@ -1,12 +1,12 @@
 //! A line as an object of JSON.
 
-ghost use Rattle.std.specs.Prelude.{◌≡◌, ◌++◌, ℕ, List, OnOk, codes, flat_map, map, option_map, string_bytes};
-ghost use Rattle.sd_line.specs.Form.{pieces_after};
+ghost use Rattle.std.specs.Prelude.{◌≡◌, ◌++◌, ℕ, List, OnOk, codes, flat_map, map, string_bytes};
+ghost use Rattle.sd_line.specs.Fields.{fields_in};
 ghost use Rattle.sd_line.specs.Json.{json_string, named, strings, then_named};
-ghost use Rattle.sd_line.specs.Printed.{line_members, line_text, list_member, member, part_members};
-ghost use Rattle.sd_line.specs.Printed.{value_text, values_members};
+ghost use Rattle.sd_line.specs.Printed.{field_member, line_members, line_text, list_member, member, part_members};
+ghost use Rattle.sd_line.specs.Printed.{value_text};
 
-use crate::form::{first_words, name_and_words};
+use crate::fields::Fields;
 use crate::line::{Line, Part, Value};
 use crate::printer::Printer;
 use crate::string::push_string;
@@ -42,32 +42,22 @@ impl Printer {
             ++ flat_map (part_members self.now.spelling) parts.now) }
     {
         for part in parts {
-            let (_, pieces) = first_words(part.form());
-            self.push_values_members(out, pieces, part.values())?;
+            let (_, fields) = Fields::of(part);
+            self.push_fields_members(out, fields)?;
         }
         Ok(())
     }
 
     /// Adds the values in turn, each by its name.
-    fn push_values_members(
-        &self,
-        out: &mut Vec<u8>,
-        pieces: Option<&str>,
-        values: &[Value],
-    ) -> Result<(), AllocError>
-        ensures { OnOk result (out.new.items ≡ out.old.items ++ values_members self.now.spelling
-            (pieces_after (option_map (λ text. text.now) pieces.entry)) values.now) }
+    fn push_fields_members(&self, out: &mut Vec<u8>, fields: Fields<'_>) -> Result<(), AllocError>
+        ensures { OnOk result (out.new.items ≡ out.old.items
+            ++ flat_map (field_member self.now.spelling) (fields_in fields.entry)) }
     {
-        let [value, values @ ..] = values else {
+        let Some((field, fields)) = fields.first() else {
             return Ok(());
         };
-        let Some(text) = pieces else {
-            return Ok(());
-        };
-        let (piece, pieces) = first_words(text);
-        let (name, _) = name_and_words(piece);
-        self.push_member(out, name, value)?;
-        self.push_values_members(out, pieces, values)
+        self.push_member(out, field.name, field.value)?;
+        self.push_fields_members(out, fields)
     }
 
     /// Adds a value by this name.

@@ -3,8 +3,9 @@
 ghost use Rattle.std.specs.Prelude.{◌≡◌, ◌++◌, IfOk, OnOk, codes, string_bytes};
 ghost use Rattle.sd_line.specs.Json.{json_string};
 ghost use Rattle.sd_line.specs.Printed.{head_text, lines_text, object, printed, printed_line, tag_members, tag_of};
+ghost use Rattle.sd_line.specs.Printed.{value_text};
 
-use crate::line::Line;
+use crate::line::{Line, Value};
 use crate::printer::Printer;
 use crate::spelling::Spelling;
 use crate::string::push_string;
@@ -46,6 +47,14 @@ pub fn lines_text(alloc: Global, spelling: Spelling, lines: &[Line]) -> Result<S
     Ok(text)
 }
 
+/// The text of a value alone. The only error is out of memory.
+pub fn value_text(alloc: Global, spelling: Spelling, value: &Value) -> Result<String, AllocError>
+    ensures { IfOk result (λ text. string_bytes text ≡ value_text spelling value.now) }
+{
+    let printer = Printer { alloc, spelling };
+    printer.value_text(value)
+}
+
 /// Adds lines as they are printed, each after a tag. The only error is out of memory.
 pub fn push_printed(
     alloc: Global,
@@ -62,7 +71,8 @@ pub fn push_printed(
     Ok(())
 }
 
-fn push_printed_line(
+/// Adds a line as it is printed, after a tag. The only error is out of memory.
+pub fn push_printed_line(
     alloc: Global,
     out: &mut Vec<u8>,
     style: Style,

@@ -1,11 +1,10 @@
 //! A line as a text.
 
-ghost use Rattle.std.specs.Prelude.{◌≡◌, ◌++◌, IfOk, OnOk, map, option_map, string_bytes};
-ghost use Rattle.sd_line.specs.Form.{pieces_after};
-ghost use Rattle.sd_line.specs.Printed.{line_text, mark_text, marked_text, part_text, spaced, value_text};
-ghost use Rattle.sd_line.specs.Printed.{values_text};
+ghost use Rattle.std.specs.Prelude.{◌≡◌, ◌++◌, IfOk, OnOk, flat_map, map, string_bytes};
+ghost use Rattle.sd_line.specs.Fields.{fields_in};
+ghost use Rattle.sd_line.specs.Printed.{field_text, line_text, mark_text, marked_text, part_text, spaced, value_text};
 
-use crate::form::{first_words, name_and_words};
+use crate::fields::Fields;
 use crate::line::{Line, Part, SidMark, Text, Value};
 use crate::spelling::{Spelling, spell};
 use sd_sid::Sid;
@@ -33,32 +32,22 @@ impl Printer {
     fn push_part(&self, out: &mut String, part: &Part) -> Result<(), AllocError>
         ensures { OnOk result (string_bytes out.new ≡ string_bytes out.old ++ part_text self.now.spelling part.now) }
     {
-        let (words, pieces) = first_words(part.form());
+        let (words, fields) = Fields::of(part);
         out.push_str(words)?;
-        self.push_values(out, pieces, part.values())
+        self.push_fields(out, fields)
     }
 
     /// Adds the values in turn, each with the words after its name.
-    fn push_values(
-        &self,
-        out: &mut String,
-        pieces: Option<&str>,
-        values: &[Value],
-    ) -> Result<(), AllocError>
-        ensures { OnOk result (string_bytes out.new ≡ string_bytes out.old ++ values_text self.now.spelling
-            (pieces_after (option_map (λ text. text.now) pieces.entry)) values.now) }
+    fn push_fields(&self, out: &mut String, fields: Fields<'_>) -> Result<(), AllocError>
+        ensures { OnOk result (string_bytes out.new ≡ string_bytes out.old
+            ++ flat_map (field_text self.now.spelling) (fields_in fields.entry)) }
     {
-        let [value, values @ ..] = values else {
+        let Some((field, fields)) = fields.first() else {
             return Ok(());
         };
-        let Some(text) = pieces else {
-            return Ok(());
-        };
-        let (piece, pieces) = first_words(text);
-        let (_, words) = name_and_words(piece);
-        self.push_value(out, value)?;
-        out.push_str(words)?;
-        self.push_values(out, pieces, values)
+        self.push_value(out, field.value)?;
+        out.push_str(field.words)?;
+        self.push_fields(out, fields)
     }
 
     fn push_value(&self, out: &mut String, value: &Value) -> Result<(), AllocError>
