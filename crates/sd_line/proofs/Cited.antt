@@ -1,4 +1,6 @@
 -- What these proofs cite of other modules, passed on from one place.
+pub use Rattle.sd_line.specs.Json.{escaped, hex_digit}
+unfoldable pub use Rattle.sd_line.specs.Json.{json_string}
 pub use Rattle.sd_line.specs.Mask.{AreJoined, IsErrorFrom, IsMaskIn, IsWordErrorAt, IsWordMask, between_pluses, rights_word}
 pub use Rattle.sd_line.specs.Names.{NamedBits, is_of, mask_named, named_bits, names_of}
 pub use Rattle.sd_line.specs.Spelling.{mask_digits, spelled}
@@ -24,12 +26,13 @@ pub use Rattle.sd_text.specs.Sid.{sid_text_in}
 pub use Rattle.sd_text.specs.declared.alias.Aliases.{Aliases}
 pub use Rattle.sd_text.specs.declared.fault.TextError.{TextError}
 pub use Rattle.sd_text.specs.declared.fault.TextError.TheVariants.{Fault, Memory}
-pub use Rattle.std.proofs.Common.{Bool, Err, List, None, Ok, Option, Result, Some, [], add-one, ap, append-nil, append_assoc, arith, cond, drop, false, fold, get_or, inl, inr, length, map, not, refl, rules, set, slice_get, string_bytes, subst, suc, sym, take, true, zero, ℕ, ◌%◌, ◌&&◌, ◌++◌, ◌+◌, ◌/◌, ◌<◌, ◌==◌, ◌^◌, ◌||◌, ◌∙◌, ◌∷◌, ◌≡◌}
+pub use Rattle.std.proofs.Common.{Bool, Err, List, None, Ok, Option, Result, Some, [], add-one, ap, append-nil, append_assoc, arith, cond, drop, false, fold, get_or, inl, inr, length, map, not, refl, rules, set, slice_get, string_bytes, subst, suc, sym, take, true, zero, ℕ, ◌%◌, ◌&&◌, ◌*◌, ◌++◌, ◌+◌, ◌-◌, ◌/◌, ◌<◌, ◌==◌, ◌^◌, ◌||◌, ◌∙◌, ◌∷◌, ◌≡◌, ◌≢◌, ◌≤◌}
 pub use Rattle.std.proofs.Math.Seq.{drop-cons}
-pub use Rattle.std.proofs.lemmas.Bool.{and_parts, cases_order, eq-eqb, eqb-true, false≢true, ltb-true, ne_eqb}
-pub use Rattle.std.proofs.lemmas.Fmt.{digits_is_IsNumeral}
-pub use Rattle.std.proofs.lemmas.List.{append_cancel_right, get_or-map, length-map, map-append, map-set, take_more}
-pub use Rattle.std.proofs.lemmas.List.Elements.{All-head}
+pub use Rattle.std.proofs.lemmas.Bool.{and_parts, cases_order, eq-eqb, eqb-true, false≢true, le-ltb, lt-ltb, ltb-false, ltb-true, ne_eqb}
+pub use Rattle.std.proofs.lemmas.Fmt.{decimal_injective, decimal_is_IsNumeral, digits_is_IsNumeral}
+pub use Rattle.std.proofs.lemmas.List.{append_cancel_left, append_cancel_right, get_or-map, length-map, map-append, map-set, take_more}
+pub use Rattle.std.proofs.lemmas.List.Concat.{flat_map-append}
+pub use Rattle.std.proofs.lemmas.List.Elements.{All-append, All-cons, All-head, All-nil, All-tail}
 pub use Rattle.std.proofs.lemmas.List.Quantifiers.{position-Some}
 pub use Rattle.std.proofs.lemmas.List.Splits.{join_with_byte-slice_split, length-slice_split, slice_split_first, slice_split_none}
 pub use Rattle.std.proofs.lemmas.List.Sums.{fails_before_first, fold_push}
@@ -40,14 +43,15 @@ pub use Rattle.std.proofs.lemmas.Result.{err_from_is_err_and}
 pub use Rattle.std.proofs.lemmas.Str.Pattern.{split_once_first}
 pub use Rattle.std.specs.Borrow.{Bor}
 pub use Rattle.std.specs.Char.{digit_value}
+pub use Rattle.std.specs.Fmt.{decimal}
 pub use Rattle.std.specs.Int.{bit_at, trailing_zeros}
 pub use Rattle.std.specs.Int.Bits.{and_zero_r, or_zero_r}
 pub use Rattle.std.specs.Int.Width.{w32}
 pub use Rattle.std.specs.List.{All, after_first, before_first, flat_map, join_with_byte, list_all, list_any, onto_first, position, position_or_len, slice_split}
 pub use Rattle.std.specs.Option.{MatchOption}
-pub use Rattle.std.specs.Prelude.{IfErr, IfNone, IfOk, IfSome, IsErrOf, bit_and, bit_or, codes, if◌then◌else◌, nat_lt}
+pub use Rattle.std.specs.Prelude.{IfErr, IfNone, IfOk, IfSome, IsErrOf, bit_and, bit_or, codes, if◌then◌else◌, nat_le, nat_lt, ⊤}
 pub use Rattle.std.specs.Result.{MatchResult}
-pub use Rattle.std.specs.Str.{bytes_eq}
+pub use Rattle.std.specs.Str.{bytes_eq, is_utf8}
 pub use Rattle.std.specs.Str.Parse.{AllDigits}
 pub use denote.Shadow.{shadow}
 pub use denote.Text.{Utf8}

@@ -3,3 +3,6 @@ mod RightNames
 pub mod Cuts
 pub mod WordsLeft
 mod ComeBack
+mod Strings
+mod Members
+mod Objects
