@@ -6,18 +6,18 @@ pub use Rattle.sd_acl.specs.declared.ace.Ace.{Ace}
 pub use Rattle.sd_acl.specs.declared.descriptor.DaclOf.TheVariants.{Absent, Null}
 pub use Rattle.sd_analysis.specs.Compare.{is_reported}
 pub use Rattle.sd_analysis.specs.declared.compare_report.Change.{Change}
-pub use Rattle.sd_c.specs.Analysis.{AnswersCompare, AnswersWho, BaseValue, IsCompareText, IsWhoText, Stops, bits_of, both_kept, descriptors_in, kept_in, no_accesses, no_comparison}
-pub use Rattle.sd_c.specs.CallAnswer.{not_read, verdict_given}
+pub use Rattle.sd_c.specs.Analysis.{AnswersCompare, AnswersLines, AreCompareLines, AreLinesOf, AreLintLines, AreWhoLines, BaseValue, Stops, bits_of, both_kept, descriptors_in, kept_in, no_comparison}
+pub use Rattle.sd_c.specs.CallAnswer.{not_read, unread, verdict_given}
 pub use Rattle.sd_c.specs.Edits.{HasNode}
 pub use Rattle.sd_c.specs.Explaining.{explained, no_part, part_told, parts_of, reasons_on}
 pub use Rattle.sd_c.specs.Handle.{unless}
-pub use Rattle.sd_c.specs.Kept.{asked_of, descriptor_in, is_kept}
+pub use Rattle.sd_c.specs.Kept.{asked_of, descriptor_in, is_kept, lines_in}
+pub use Rattle.sd_c.specs.Lines.{AreKept}
 pub use Rattle.sd_c.specs.Length.{dacl_end, descriptor_end, trustee_end}
 pub use Rattle.sd_c.specs.Publishing.{Begins, IsNotBegun, IsNotEdited, IsTreeReason, Limited, tree_reason}
 pub use Rattle.sd_c.specs.Request.{RequestValue, group_read, groups_read, restricting_sid, sids_read, verdict_of, ◌>>=◌}
 pub use Rattle.sd_c.specs.Review.{AreChangesAt, AreChangesOf, IsNotReviewed, IsPublishedReview, IsReviewed, published_at}
 pub use Rattle.sd_c.specs.declared.analysis.CompareAnswer.{CompareAnswer}
-pub use Rattle.sd_c.specs.declared.analysis.WhoAnswer.{WhoAnswer}
 pub use Rattle.sd_c.specs.declared.call_answer.CheckAnswer.{CheckAnswer}
 pub use Rattle.sd_c.specs.declared.explaining.Explained.{Explained}
 pub use Rattle.sd_c.specs.declared.explaining.PartAnswer.{PartAnswer}
@@ -38,6 +38,7 @@ pub use Rattle.sd_edit.specs.declared.refusal.EditRefusal.{EditRefusal}
 pub use Rattle.sd_edit.specs.declared.refusal.TreeError.{TreeError}
 pub use Rattle.sd_explain.specs.Parts.{part_at, reason_in}
 pub use Rattle.sd_explain.specs.declared.reason.Reason.{Reason}
+pub use Rattle.sd_line.specs.Line.{LineOf}
 pub use Rattle.sd_review.specs.Compared.{IsOfBoth, is_container}
 pub use Rattle.sd_review.specs.Review.{Trees, trees_of}
 pub use Rattle.sd_sid.proofs.Masks.{holds_place, is_mask_of, mask_of-alike}

@@ -1,6 +1,6 @@
--- What `hudarin_who` and `hudarin_compare` return: who is granted rights, and what a change of a descriptor grants and
--- takes away, of all tokens that have a base.
-use Rattle.std.specs.Prelude.{◌≡◌, ◌⊎◌, ◌<◌, ℕ, List, [], ◌∷◌, ◌++◌, length, None, Result, Ok, Err, IsOk}
+-- What `hudarin_who`, `hudarin_lint` and `hudarin_compare` return: who is granted rights, what is doubtful in a
+-- descriptor, and what a change of it grants and takes away, of all tokens that have a base.
+use Rattle.std.specs.Prelude.{◌≡◌, ◌⊎◌, ◌<◌, ℕ, List, [], ◌++◌, length, None, Result, Ok, Err, IsOk}
 use Rattle.sd_sid.specs.Mapping.{MappingValue}
 use Rattle.sd_sid.specs.Mask.{mask_of}
 use Rattle.sd_sid.specs.Sid.{SidValue}
@@ -15,14 +15,11 @@ use Rattle.sd_analysis.specs.declared.descendants_compare.DescendantChange.{Desc
 use Rattle.sd_analysis.specs.declared.who_has.Access.{Access}
 use Rattle.sd_answer.specs.Compare.{gains_and_losses}
 use Rattle.sd_answer.specs.Descendants.{descendants_lines, inheritance_lines}
+use Rattle.sd_answer.specs.Lint.{AreFindings}
 use Rattle.sd_answer.specs.Parts.{entries_in, parts_in}
 use Rattle.sd_answer.specs.Who.{rights_asked, who_lines}
-use Rattle.sd_answer.specs.declared.forms.TheConstants.{SAME}
-use Rattle.sd_line.specs.Line.{LineOf, form, line_of}
-use Rattle.sd_line.specs.Printed.{lines_text}
-use Rattle.sd_line.specs.declared.spelling.Spelling.TheVariants.{Number}
+use Rattle.sd_line.specs.Line.{LineOf}
 use Rattle.sd_c.specs.declared.analysis.CompareAnswer.{CompareAnswer}
-use Rattle.sd_c.specs.declared.analysis.WhoAnswer.{WhoAnswer}
 use Rattle.sd_c.specs.declared.call_answer.CheckAnswer.{CheckAnswer}
 use Rattle.sd_c.specs.declared.handle.Handle.{Handle}
 use Rattle.sd_c.specs.declared.handle.kept.Kept.{Kept}
@@ -31,10 +28,9 @@ use Rattle.sd_c.specs.declared.stop.NotRead.{NotRead}
 use Rattle.sd_c.specs.declared.stop.NotRead.TheVariants.{DescriptorHandle, NewHandle}
 use Rattle.sd_c.specs.declared.stop.Stop.{Stop}
 use Rattle.sd_c.specs.declared.stop.Stop.TheVariants as stops
-use Rattle.sd_c.specs.CallAnswer.{unwritten, why_not}
-use Rattle.sd_c.specs.Kept.{descriptor_in, is_kept}
+use Rattle.sd_c.specs.CallAnswer.{unread, why_not}
+use Rattle.sd_c.specs.Kept.{KeepsLines, LinesInUse, descriptor_in, is_kept}
 use Rattle.sd_c.specs.Request.{◌>>=◌, Fails, groups_read, mapping_read}
-use Rattle.sd_c.specs.Written.{Writes}
 
 -- ---- the arguments, from the left
 
@@ -78,33 +74,41 @@ Stops kept groups states mapping stop =
     Fails stop (asked_over kept groups states mapping)
     × (stop ≡ stops.Memory → IsOk kept × ((0 < length states) ⊎ IsOk (asked_over kept groups states mapping)))
 
+-- the lines are these of what is kept and the base
+abbrev pub AreLinesOf :
+    {D : Type 0} → (D → BaseValue → List LineOf → Type 0) → Result D NotRead → List ℕ → List ℕ → Mapping
+    → List LineOf → Type 0
+AreLinesOf {D} AreLines kept groups states mapping ls =
+    (d : D) × (base : BaseValue) × (asked_over kept groups states mapping ≡ Ok (d, base)) × AreLines d base ls
+
+-- they are kept, or nothing is for a reason that holds
+abbrev pub AnswersLines :
+    {D : Type 0} → (D → BaseValue → List LineOf → Type 0) → Result D NotRead → List ℕ → List ℕ → Mapping
+    → (old new : Handle) → CheckAnswer → Type 0
+AnswersLines {D} AreLines kept groups states mapping old new answer =
+    ((ls : List LineOf) × AreLinesOf AreLines kept groups states mapping ls × KeepsLines ls old new
+    × (answer ≡ unread 0 0 0 0))
+    ⊎ ((stop : Stop) × (old.is_there ≡ 0) × Stops kept groups states mapping stop × (new ≡ old)
+    × (answer ≡ why_not stop))
+    ⊎ LinesInUse old new answer
+
 -- ---- who
 
 -- the lines of accesses that say exactly who is granted each right once, of the tokens with the base
-abbrev pub IsWhoText : DescriptorValue → BaseValue → ℕ → List ℕ → Type 0
-IsWhoText d base asked printed =
+abbrev pub AreWhoLines : ℕ → DescriptorValue → BaseValue → List LineOf → Type 0
+AreWhoLines asked d base ls =
     (all : List Access)
     × IsWho d.owner (dacl_entries d.dacl) base.mapping base.groups (rights_asked base.mapping asked) all
     × IsMost d.owner (dacl_entries d.dacl) base.mapping base.groups (rights_asked base.mapping asked) all
     × HasEachOnce (rights_asked base.mapping asked) all
     × AllBeyond base.groups all
-    × (printed ≡ lines_text Number (who_lines all))
+    × (ls ≡ who_lines all)
 
-abbrev pub IsWhoOf : Result DescriptorValue NotRead → List ℕ → List ℕ → Mapping → ℕ → List ℕ → Type 0
-IsWhoOf kept groups states mapping asked printed =
-    (d : DescriptorValue) × (base : BaseValue) × (asked_over kept groups states mapping ≡ Ok (d, base))
-    × IsWhoText d base asked printed
+-- ---- lint
 
-abbrev pub no_accesses : CheckAnswer → WhoAnswer
-no_accesses told = record { written = unwritten told; argument = told.argument }
-
--- the lines are written, or the buffer is too small for them; or nothing is, for a reason that holds
-abbrev pub AnswersWho : Result DescriptorValue NotRead → List ℕ → List ℕ → Mapping → ℕ → List ℕ → List ℕ → WhoAnswer
-    → Type 0
-AnswersWho kept groups states mapping asked old new answer =
-    ((printed : List ℕ) × IsWhoOf kept groups states mapping asked printed × Writes printed old new answer.written
-    × (answer.argument ≡ 0))
-    ⊎ ((stop : Stop) × Stops kept groups states mapping stop × (new ≡ old) × (answer ≡ no_accesses (why_not stop)))
+-- the lines of what is doubtful
+abbrev pub AreLintLines : DescriptorValue → BaseValue → List LineOf → Type 0
+AreLintLines d base ls = AreFindings base.mapping base.groups d ls
 
 -- ---- compare
 
@@ -112,41 +116,32 @@ AnswersWho kept groups states mapping asked old new answer =
 abbrev pub bits_of : List Change → ℕ
 bits_of changes = mask_of (is_reported changes) 32
 
--- `same` where there is no line
-abbrev pub lines_or_same : List LineOf → List LineOf
-lines_or_same [] = line_of (form SAME) [] ∷ []
-lines_or_same (l ∷ ls) = l ∷ ls
-
--- the lines of what tokens with the base gain and lose where the new descriptor takes the place of the old one, of the
+-- the lines of what tokens with the base gain and lose where the second descriptor takes the place of the first, of the
 -- object itself, none where both are the same to a check, and of what is made in it, if it is a container; and whether
 -- its list is protected from inheritance where it was not. The bits that some token gains of the object itself, and
 -- those that some token loses
-abbrev pub IsCompareText : DescriptorValue → DescriptorValue → BaseValue → List ℕ → ℕ → ℕ → Type 0
-IsCompareText old new base printed gained_bits lost_bits =
+abbrev pub AreCompareLines : DescriptorValue × DescriptorValue → BaseValue → (gained_bits lost_bits : ℕ) → List LineOf → Type 0
+AreCompareLines ds base gained_bits lost_bits ls =
     (gained lost : List Change) × (below : List DescendantChange)
-    × AreGains base.mapping base.groups (parts_in old) (parts_in new) gained
-    × AreGains base.mapping base.groups (parts_in new) (parts_in old) lost
-    × (parts_in old ≡ parts_in new → (gained ≡ []) × (lost ≡ []))
-    × AreDescendantChanges base.mapping base.groups (entries_in old.dacl) (entries_in new.dacl) below
-    × (printed ≡ lines_text Number (lines_or_same
-    (gains_and_losses None (parts_in old) (parts_in new) gained lost
-    ++ descendants_lines below ++ inheritance_lines old.protected new.protected)))
+    × AreGains base.mapping base.groups (parts_in ds.0) (parts_in ds.1) gained
+    × AreGains base.mapping base.groups (parts_in ds.1) (parts_in ds.0) lost
+    × (parts_in ds.0 ≡ parts_in ds.1 → (gained ≡ []) × (lost ≡ []))
+    × AreDescendantChanges base.mapping base.groups (entries_in ds.0.dacl) (entries_in ds.1.dacl) below
+    × (ls ≡ gains_and_losses None (parts_in ds.0) (parts_in ds.1) gained lost
+    ++ descendants_lines below ++ inheritance_lines ds.0.protected ds.1.protected)
     × (gained_bits ≡ bits_of gained) × (lost_bits ≡ bits_of lost)
 
-abbrev pub IsCompareOf :
-    Result (DescriptorValue × DescriptorValue) NotRead → List ℕ → List ℕ → Mapping → List ℕ → ℕ → ℕ → Type 0
-IsCompareOf kept groups states mapping printed gained lost =
-    (ds : DescriptorValue × DescriptorValue) × (base : BaseValue)
-    × (asked_over kept groups states mapping ≡ Ok (ds, base))
-    × IsCompareText ds.0 ds.1 base printed gained lost
-
 abbrev pub no_comparison : CheckAnswer → CompareAnswer
-no_comparison told = record { written = unwritten told; argument = told.argument; gained = 0; lost = 0 }
+no_comparison told = record { answer = told; gained = 0; lost = 0 }
 
+-- the lines are kept, or nothing is for a reason that holds
 abbrev pub AnswersCompare :
-    Result (DescriptorValue × DescriptorValue) NotRead → List ℕ → List ℕ → Mapping → List ℕ → List ℕ → CompareAnswer
+    Result (DescriptorValue × DescriptorValue) NotRead → List ℕ → List ℕ → Mapping → (old new : Handle) → CompareAnswer
     → Type 0
 AnswersCompare kept groups states mapping old new answer =
-    ((printed : List ℕ) × IsCompareOf kept groups states mapping printed answer.gained answer.lost
-    × Writes printed old new answer.written × (answer.argument ≡ 0))
-    ⊎ ((stop : Stop) × Stops kept groups states mapping stop × (new ≡ old) × (answer ≡ no_comparison (why_not stop)))
+    ((ls : List LineOf)
+    × AreLinesOf (λ ds base lines. AreCompareLines ds base answer.gained answer.lost lines) kept groups states mapping ls
+    × KeepsLines ls old new × (answer.answer ≡ unread 0 0 0 0))
+    ⊎ ((stop : Stop) × (old.is_there ≡ 0) × Stops kept groups states mapping stop × (new ≡ old)
+    × (answer ≡ no_comparison (why_not stop)))
+    ⊎ ((old.is_there ≡ 1) × (new ≡ old) × (answer ≡ no_comparison (unread 11 17 0 0)))

@@ -1,10 +1,12 @@
 -- The answers of the calls over handles, and the content of the handles afterwards.
-use Rattle.std.specs.Prelude.{◌≡◌, ◌⊎◌, ℕ, ◌<◌, ◌==◌, List, length, Option, Some, None, IsSome, Result, Ok, Err}
+use Rattle.std.specs.Prelude.{◌≡◌, ◌⊎◌, ℕ, ◌<◌, ◌==◌, Bool, true, false, List, length, Option, Some, None, Result}
+use Rattle.std.specs.Prelude.{Ok, Err}
 use Rattle.std.specs.Prelude.{if◌then◌else◌}
 use Rattle.std.specs.Arc.{arc_value}
 use Rattle.sd_acl.specs.Descriptor.{DescriptorValue, descriptor_of}
 use Rattle.sd_check.specs.Token.{TokenValue}
 use Rattle.sd_edit.specs.History.{History, history_of}
+use Rattle.sd_line.specs.Line.{LineOf}
 use Rattle.sd_versions.specs.Versions.{VersionsValue}
 use Rattle.sd_wire.specs.Reading.{descriptor_read}
 use Rattle.sd_c.specs.declared.call_answer.CheckAnswer.{CheckAnswer}
@@ -44,6 +46,11 @@ abbrev pub view_in : Kept → Option History
 view_in (kinds.View v) = Some (history_of v)
 view_in _ = None
 
+-- the lines of an answer
+abbrev pub lines_in : Kept → Option (List LineOf)
+lines_in (kinds.Lines ls) = Some ls.items
+lines_in _ = None
+
 -- the request of a kept descriptor and a kept token
 unfoldable pub asked_of : Kept → Kept → Mapping → Result RequestValue NotRead
 asked_of first second mapping =
@@ -66,6 +73,14 @@ Stays old new = (new.is_there ≡ old.is_there) × (new.is_there ≡ 1 → new.s
 -- the handle keeps this
 abbrev pub Keeps : Handle → Kept → Type 0
 Keeps new kept = (new.is_there ≡ 1) × (new.seal.kept ≡ kept)
+
+-- an empty handle keeps these lines
+abbrev pub KeepsLines : List LineOf → Handle → Handle → Type 0
+KeepsLines ls old new = (kept : Kept) × (old.is_there ≡ 0) × (lines_in kept ≡ Some ls) × Keeps new kept
+
+-- the handle for lines is in use, and unchanged
+abbrev pub LinesInUse : Handle → Handle → CheckAnswer → Type 0
+LinesInUse old new answer = (old.is_there ≡ 1) × (new ≡ old) × (answer ≡ unread 11 17 0 0)
 
 -- the handle is in use, and unchanged
 abbrev pub InUse : Handle → Handle → Written → Type 0
@@ -106,6 +121,12 @@ TokenInUse old new answer = (old.is_there ≡ 1) × (new ≡ old) × (answer ≡
 
 -- ---- sharing
 
+-- a store, or the lines of an answer
+abbrev pub has_one_handle : Kept → Bool
+has_one_handle (kinds.Store s) = true
+has_one_handle (kinds.Lines ls) = true
+has_one_handle _ = false
+
 -- what gives the same answers
 abbrev pub IsSame : Kept → Kept → Type 0
 IsSame kept other =
@@ -117,7 +138,7 @@ abbrev pub IsShared : Handle → Handle → Handle → Written → Type 0
 IsShared handle old new answer =
     ((handle.is_there ≡ 1) × (old.is_there ≡ 0) × (new.is_there ≡ 1) × IsSame handle.seal.kept new.seal.kept
     × (answer ≡ not_written 0 0 0))
-    ⊎ ((handle.is_there ≡ 1) × (old.is_there ≡ 0) × (store_in handle.seal.kept ≡ None) × (new ≡ old)
+    ⊎ ((handle.is_there ≡ 1) × (old.is_there ≡ 0) × (has_one_handle handle.seal.kept ≡ false) × (new ≡ old)
     × (answer ≡ not_written 1 0 0))
-    ⊎ (((handle.is_there ≡ 0) ⊎ (old.is_there ≡ 1) ⊎ IsSome (store_in handle.seal.kept)) × (new ≡ old)
+    ⊎ (((handle.is_there ≡ 0) ⊎ (old.is_there ≡ 1) ⊎ (has_one_handle handle.seal.kept ≡ true)) × (new ≡ old)
     × (answer ≡ not_written 11 0 0))

@@ -16,6 +16,7 @@ pub mod OverBytes
 pub mod Explaining
 pub mod Meaning
 pub mod Entries
+pub mod Lines
 pub mod WithoutSacl
 pub mod Analysis
 pub mod Review

@@ -13,8 +13,7 @@ use Rattle.sd_review.specs.Review.{Trees, former, trees_after}
 use Rattle.sd_review.specs.declared.compared.Compared.{Compared}
 use Rattle.sd_review.specs.declared.review.Former.{Former}
 use Rattle.sd_review.specs.declared.review.Former.TheVariants.{Same, Moved, New}
-use Rattle.sd_line.specs.Printed.{lines_text}
-use Rattle.sd_line.specs.declared.spelling.Spelling.TheVariants.{Number}
+use Rattle.sd_c.specs.declared.call_answer.Written.{Written}
 use Rattle.sd_c.specs.declared.handle.Handle.{Handle}
 use Rattle.sd_c.specs.declared.handle.kept.Kept.{Kept}
 use Rattle.sd_c.specs.declared.not_done.NotDone.{NotDone}
@@ -22,21 +21,22 @@ use Rattle.sd_c.specs.declared.not_done.NotDone.TheVariants as reasons
 use Rattle.sd_c.specs.declared.review.Changes.{Changes}
 use Rattle.sd_c.specs.declared.review.NodeReview.{NodeReview}
 use Rattle.sd_c.specs.declared.review.ReviewAnswer.{ReviewAnswer}
+use Rattle.sd_c.specs.declared.review.MadeReview.{MadeReview}
 use Rattle.sd_c.specs.Analysis.{bits_of}
-use Rattle.sd_c.specs.Kept.{store_in}
-use Rattle.sd_c.specs.Views.{IsNotFound, not_told}
-use Rattle.sd_c.specs.Written.{Writes}
+use Rattle.sd_c.specs.Kept.{Keeps, lines_in, store_in}
+use Rattle.sd_c.specs.Views.{not_told}
+use Rattle.sd_c.specs.Written.{Writes, not_written}
 
 -- ---- what tokens gain and lose
 
 abbrev pub AreNone : Changes → Type 0
-AreNone changes = (string_bytes changes.lines ≡ []) × (changes.gained ≡ 0) × (changes.lost ≡ 0)
+AreNone changes = (changes.lines.items ≡ []) × (changes.gained ≡ 0) × (changes.lost ≡ 0)
 
 -- the lines of a comparison, and the bits of its node; none where one of the nodes isn't there
 abbrev pub AreChangesOf : Option Compared → Changes → Type 0
 AreChangesOf None changes = AreNone changes
 AreChangesOf (Some c) changes =
-    (string_bytes changes.lines ≡ lines_text Number (lines c)) × (changes.gained ≡ bits_of c.comparison.gained.items)
+    (changes.lines.items ≡ lines c) × (changes.gained ≡ bits_of c.comparison.gained.items)
     × (changes.lost ≡ bits_of c.comparison.lost.items)
 
 -- of the node at a path, beside the node at a path of the published tree, for all tokens
@@ -47,7 +47,7 @@ AreChangesAt ts before path changes = (c : Option Compared) × IsComparedAt ts b
 
 -- 1 where there is no line: no token gains or loses a right, of the node or of what is made in it. Else 2
 abbrev pub same_or_changed : Changes → ℕ
-same_or_changed changes = if length (string_bytes changes.lines) == 0 then 1 else 2
+same_or_changed changes = if length changes.lines.items == 0 then 1 else 2
 
 -- a node of the store's tree: 1 or 2 where a published node is at its path, 4 with the path that it was moved from,
 -- else 3
@@ -95,29 +95,54 @@ IsNotReviewed store place why =
     ((store_in store ≡ None) × (why ≡ reasons.StoreHandle))
     ⊎ ((v : VersionsValue) × (store_in store ≡ Some v) × IsNoReviewAt (trees_in v) place why)
 
--- the path, the one before a move, and the lines, one after the other
+-- the path, and the one before a move
 abbrev pub text_in : NodeReview → List ℕ
-text_in r = string_bytes r.path ++ string_bytes r.before ++ string_bytes r.changes.lines
-
--- the review of the place, and its text
-abbrev pub IsReviewed : Kept → ℕ → NodeReview → List ℕ → Type 0
-IsReviewed store place r text =
-    (v : VersionsValue) × (store_in store ≡ Some v) × IsReviewAt (trees_in v) place r × (text ≡ text_in r)
+text_in r = string_bytes r.path ++ string_bytes r.before
 
 abbrev pub IsTold : NodeReview → ReviewAnswer → Type 0
 IsTold r told =
     (told.what ≡ r.what) × (told.gained ≡ r.changes.gained) × (told.lost ≡ r.changes.lost)
     × (told.path ≡ length (string_bytes r.path)) × (told.before ≡ length (string_bytes r.before))
 
-abbrev pub unreviewed : NotDone → ReviewAnswer
-unreviewed why =
-    record { written = not_told why; what = 0; gained = 0; lost = 0; path = 0; before = 0 }
+-- a node's review as it is answered
+abbrev pub IsMadeOf : NodeReview → MadeReview → Type 0
+IsMadeOf r made =
+    (string_bytes made.text ≡ text_in r) × (lines_in made.lines.value ≡ Some r.changes.lines.items)
+    × IsTold r made.answer
 
--- a node's review is written, or the buffer is too small for it; or nothing is, for a reason that holds
-abbrev pub Reviews : Handle → ℕ → List ℕ → List ℕ → ReviewAnswer → Type 0
-Reviews store place old new told =
-    ((text : List ℕ) × (r : NodeReview) × (store.is_there ≡ 1) × IsReviewed store.seal.kept place r text
-    × Writes text old new told.written × IsTold r told)
-    ⊎ ((why : NotDone) × (store.is_there ≡ 1) × IsNotReviewed store.seal.kept place why × (new ≡ old)
-    × (told ≡ unreviewed why))
-    ⊎ ((store.is_there ≡ 0) × (new ≡ old) × (told ≡ unreviewed reasons.StoreHandle))
+-- the review of the place
+abbrev pub IsReviewed : Kept → ℕ → MadeReview → Type 0
+IsReviewed store place made =
+    (v : VersionsValue) × (r : NodeReview) × (store_in store ≡ Some v) × IsReviewAt (trees_in v) place r
+    × IsMadeOf r made
+
+abbrev pub with_written : ReviewAnswer → Written → ReviewAnswer
+with_written told written = record {
+  written = written;
+  what = told.what;
+  gained = told.gained;
+  lost = told.lost;
+  path = told.path;
+  before = told.before;
+}
+
+-- what was made is kept where the paths fit their buffer
+abbrev pub KeepsWritten : Written → Kept → Handle → Handle → Type 0
+KeepsWritten written kept old new =
+    ((written.status ≡ 0) × Keeps new kept) ⊎ ((written.status ≡ 2) × (new ≡ old))
+
+abbrev pub unreviewed : Written → ReviewAnswer
+unreviewed written = record { written = written; what = 0; gained = 0; lost = 0; path = 0; before = 0 }
+
+-- a node's paths are written and its lines kept, or the buffer is too small for the paths; or nothing is, for a reason
+-- that holds
+abbrev pub Reviews : Handle → ℕ → List ℕ → List ℕ → Handle → Handle → ReviewAnswer → Type 0
+Reviews store place old new old_lines new_lines told =
+    ((made : MadeReview) × (store.is_there ≡ 1) × (old_lines.is_there ≡ 0) × IsReviewed store.seal.kept place made
+    × Writes (string_bytes made.text) old new told.written
+    × KeepsWritten told.written made.lines.value old_lines new_lines × (told ≡ with_written made.answer told.written))
+    ⊎ ((why : NotDone) × (store.is_there ≡ 1) × (old_lines.is_there ≡ 0) × IsNotReviewed store.seal.kept place why
+    × (new ≡ old) × (new_lines ≡ old_lines) × (told ≡ unreviewed (not_told why)))
+    ⊎ ((store.is_there ≡ 0) × (old_lines.is_there ≡ 0) × (new ≡ old) × (new_lines ≡ old_lines)
+    × (told ≡ unreviewed (not_told reasons.StoreHandle)))
+    ⊎ ((old_lines.is_there ≡ 1) × (new ≡ old) × (new_lines ≡ old_lines) × (told ≡ unreviewed (not_written 11 0 0)))

@@ -106,6 +106,13 @@ pub(crate) fn unread(status: u32, argument: u32, fault: u8, place: u64) -> Check
     }
 }
 
+/// The answer that says that the handle for lines, the argument 17, is in use.
+pub(crate) fn lines_in_use() -> CheckAnswer
+    ensures { result ≡ unread 11 17 0 0 }
+{
+    unread(HANDLE, 17, 0, 0)
+}
+
 /// The answer that says which argument is invalid.
 pub(crate) fn not_read(why: NotRead) -> CheckAnswer
     ensures { result ≡ not_read why }

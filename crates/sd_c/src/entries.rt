@@ -239,7 +239,7 @@ fn dacl_in(kept: &Kept) -> DaclAnswer
 {
     match kept {
         Kept::Descriptor(descriptor) => dacl_answer(descriptor),
-        Kept::Token(_) | Kept::Store(_) | Kept::View(_) => no_dacl(),
+        _ => no_dacl(),
     }
 }
 
@@ -274,7 +274,7 @@ fn where_set(test: bool, bit: u32) -> u32
 }
 
 /// The answer that says why no part is returned.
-fn no_part(why: NoPart) -> Written
+pub(crate) fn no_part(why: NoPart) -> Written
     ensures { result ≡ no_part why }
 {
     match why {

@@ -4,17 +4,19 @@ ghost use Rattle.std.specs.Prelude.{◌≡◌, [], IfErr, IfOk, Some, string_byt
 ghost use Rattle.sd_path.specs.PathText.{text_of};
 ghost use Rattle.sd_review.specs.Review.{trees_of};
 ghost use Rattle.sd_c.specs.Kept.{Stays};
-ghost use Rattle.sd_c.specs.Review.{AreChangesAt, AreChangesOf, AreNone, IsNoReviewAt, IsNodeReview, IsNotReviewed};
-ghost use Rattle.sd_c.specs.Review.{IsPublishedReview, IsReviewAt, IsReviewed, IsTold, Reviews, same_or_changed};
-ghost use Rattle.sd_c.specs.Review.{text_in, unreviewed};
+ghost use Rattle.sd_c.specs.Review.{AreChangesAt, AreChangesOf, AreNone, IsMadeOf, IsNoReviewAt, IsNodeReview};
+ghost use Rattle.sd_c.specs.Review.{IsNotReviewed, IsPublishedReview, IsReviewAt, IsReviewed, KeepsWritten, Reviews};
+ghost use Rattle.sd_c.specs.Review.{same_or_changed, unreviewed, with_written};
 ghost use Rattle.sd_c.specs.Written.{Writes};
+ghost use Rattle.sd_c.specs.declared.review.NodeReview.{NodeReview};
 
 use crate::analysis::bits_of;
-use crate::call_answer::{Written, write};
+use crate::call_answer::{HANDLE, OK, Written, length_told, not_written, write};
 use crate::handle::{Handle, Kept};
+use crate::lines::kept_lines;
 use crate::not_done::NotDone;
 use crate::views::not_told;
-use sd_line::{Spelling, lines_text};
+use sd_line::Line;
 use sd_path::Path;
 use sd_review::{Compared, Former, Review};
 use sd_sid::Mask;
@@ -62,55 +64,73 @@ pub(crate) struct NodeReview {
 /// What tokens gain and lose: the lines of `compare`, and the bits of the node itself.
 #[derive(Drop)]
 pub(crate) struct Changes {
-    lines: String,
+    lines: Vec<Line>,
     gained: Mask,
     lost: Mask,
 }
 
-/// Writes what a publish would change, for all tokens ([MS-DTYP] 2.5.3.2), at the node of a place into the buffer: its
-/// path, the path from which a moved one was moved, and the lines of `compare` without `same`. The places are first
-/// those of the store's tree in path order, then those of the tree as it was last published. Refused if the handle
-/// keeps no store, after the last place, or out of memory; then, and if the buffer is too small, nothing is written.
+/// What a publish would change, for all tokens ([MS-DTYP] 2.5.3.2), at the node of a place: writes its path, and the path
+/// from which a moved one was moved, into the buffer, and keeps the lines of `hudarin_compare`. The places are first those
+/// of the store's tree in path order, then those of the tree as it was last published. Refused if `lines` is in use, if
+/// the other handle keeps no store, after the last place, or out of memory; then, and if the buffer is too small, nothing
+/// is written or kept.
 #[unsafe(no_mangle)]
 pub extern "C" fn hudarin_store_review(
     alloc: Global,
     store: &mut Handle,
     place: u64,
     room: &mut [u8],
+    lines: &mut Handle,
 ) -> ReviewAnswer
-    ensures answer { Reviews store.old place room.old room.new result }
+    ensures answer { Reviews store.old place room.old room.new lines.old lines.new result }
     ensures store { Stays store.old store.new }
 {
+    if lines.is_there == 1 {
+        return unreviewed(not_written(HANDLE, 0, 0));
+    }
     let Some(kept) = store.take(alloc) else {
-        return unreviewed(NotDone::StoreHandle);
+        return unreviewed(not_told(NotDone::StoreHandle));
     };
     let answer = match reviewed(alloc, &kept, place) {
-        Ok((review, text)) => told(&review, text.as_bytes(), room),
-        Err(why) => unreviewed(why),
+        Ok(made) => told(made, room, lines),
+        Err(why) => unreviewed(not_told(why)),
     };
     store.put(kept);
     answer
 }
 
-fn told(review: &NodeReview, text: &[u8], room: &mut [u8]) -> ReviewAnswer
-    ensures written { Writes text.now room.old room.new result.written }
-    ensures told { IsTold review.now result }
-{
-    ReviewAnswer {
-        written: write(text, room),
-        what: review.what,
-        gained: review.changes.gained.bits(),
-        lost: review.changes.lost.bits(),
-        path: review.path.len() as u64,
-        before: review.before.len() as u64,
-    }
+/// A review as it is answered: all but what is written, the text that is, and the lines in their box.
+#[derive(Drop)]
+struct MadeReview {
+    answer: ReviewAnswer,
+    text: String,
+    lines: Box<Kept>,
 }
 
-fn unreviewed(why: NotDone) -> ReviewAnswer
-    ensures { result ≡ unreviewed why }
+/// Writes the text, and puts the lines into the handle, which keeps nothing yet, if that fits.
+fn told(made: MadeReview, room: &mut [u8], lines: &mut Handle) -> ReviewAnswer
+    requires { lines.old.is_there ≡ 0 }
+    ensures written { Writes (string_bytes made.text) room.old room.new result.written }
+    ensures kept { KeepsWritten result.written made.lines.value lines.old lines.new }
+    ensures told { result ≡ with_written made.answer result.written }
+{
+    let MadeReview {
+        answer,
+        text,
+        lines: kept,
+    } = made;
+    let written = write(text.as_bytes(), room);
+    if written.status == OK {
+        lines.put(kept);
+    }
+    ReviewAnswer { written, ..answer }
+}
+
+fn unreviewed(written: Written) -> ReviewAnswer
+    ensures { result ≡ unreviewed written }
 {
     ReviewAnswer {
-        written: not_told(why),
+        written,
         what: 0,
         gained: 0,
         lost: 0,
@@ -119,9 +139,9 @@ fn unreviewed(why: NotDone) -> ReviewAnswer
     }
 }
 
-/// The review of a place, and its text.
-fn reviewed(alloc: Global, kept: &Kept, place: u64) -> Result<(NodeReview, String), NotDone>
-    ensures ok { IfOk result (λ made. IsReviewed kept.now place made.0 (string_bytes made.1)) }
+/// The review of a place.
+fn reviewed(alloc: Global, kept: &Kept, place: u64) -> Result<MadeReview, NotDone>
+    ensures ok { IfOk result (λ made. IsReviewed kept.now place made) }
     ensures err { IfErr result (λ why. IsNotReviewed kept.now place why) }
 {
     let Kept::Store(store) = kept else {
@@ -132,46 +152,44 @@ fn reviewed(alloc: Global, kept: &Kept, place: u64) -> Result<(NodeReview, Strin
     Ok(made)
 }
 
-fn review_at(
-    alloc: Global,
-    review: &Review<'_>,
-    place: u64,
-) -> Result<(NodeReview, String), NotDone>
-    ensures ok { IfOk result (λ made. IsReviewAt (trees_of review.now) place made.0
-        × (string_bytes made.1 ≡ text_in made.0)) }
+fn review_at(alloc: Global, review: &Review<'_>, place: u64) -> Result<MadeReview, NotDone>
+    ensures ok { IfOk result (λ made. (r : NodeReview) × IsReviewAt (trees_of review.now) place r × IsMadeOf r made) }
     ensures err { IfErr result (λ why. IsNoReviewAt (trees_of review.now) place why) }
 {
     let place = place as usize;
     if let Some(node) = review.new.node(place) {
         let made = node_review(alloc, review, node.path)?;
-        return Ok(with_text(alloc, made)?);
+        return Ok(made_of(alloc, made)?);
     }
     let index = place.saturating_sub(review.new.node_count());
     match review.old.node(index) {
         Some(node) => {
             let made = published_review(alloc, review, node.path)?;
-            Ok(with_text(alloc, made)?)
+            Ok(made_of(alloc, made)?)
         }
         None => Err(NotDone::NoNode),
     }
 }
 
-/// The review, and its text.
-fn with_text(alloc: Global, review: NodeReview) -> Result<(NodeReview, String), AllocError>
-    ensures same { IfOk result (λ made. made.0 ≡ review) }
-    ensures text { IfOk result (λ made. string_bytes made.1 ≡ text_in review) }
-{
-    let text = review_text(alloc, &review)?;
-    Ok((review, text))
-}
-
-fn review_text(alloc: Global, review: &NodeReview) -> Result<String, AllocError>
-    ensures { IfOk result (λ text. string_bytes text ≡ text_in review.now) }
+fn made_of(alloc: Global, review: NodeReview) -> Result<MadeReview, AllocError>
+    ensures { IfOk result (IsMadeOf review) }
 {
     let (path, before) = (review.path.as_str(), review.before.as_str());
-    let lines = review.changes.lines.as_str();
-    let text = format!(in alloc; "{path}{before}{lines}")?;
-    Ok(text)
+    let text = format!(in alloc; "{path}{before}")?;
+    let answer = ReviewAnswer {
+        written: length_told(0),
+        what: review.what,
+        gained: review.changes.gained.bits(),
+        lost: review.changes.lost.bits(),
+        path: path.len() as u64,
+        before: before.len() as u64,
+    };
+    let lines = kept_lines(alloc, review.changes.lines)?;
+    Ok(MadeReview {
+        answer,
+        text,
+        lines,
+    })
 }
 
 /// The review of a node of the store's tree.
@@ -264,7 +282,7 @@ fn no_changes(alloc: Global) -> Changes
     ensures { AreNone result }
 {
     Changes {
-        lines: String::new(alloc),
+        lines: Vec::new(alloc),
         gained: Mask(0),
         lost: Mask(0),
     }
@@ -290,7 +308,7 @@ fn changes_at(
 fn changes_of(alloc: Global, compared: &Compared) -> Result<Changes, AllocError>
     ensures { IfOk result (AreChangesOf (Some compared.now)) }
 {
-    let lines = lines_text(alloc, Spelling::Number, &compared.lines(alloc)?)?;
+    let lines = compared.lines(alloc)?;
     let gained = bits_of(&compared.comparison.gained);
     let lost = bits_of(&compared.comparison.lost);
     Ok(Changes {

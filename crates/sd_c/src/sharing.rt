@@ -1,7 +1,7 @@
 //! Another handle of what a handle keeps.
 
-ghost use Rattle.std.specs.Prelude.{◌≡◌, IsSome, MatchOption, MatchResult, None};
-ghost use Rattle.sd_c.specs.Kept.{IsShared, IsSame, Stays, store_in};
+ghost use Rattle.std.specs.Prelude.{◌≡◌, MatchOption, MatchResult, false, true};
+ghost use Rattle.sd_c.specs.Kept.{IsShared, IsSame, Stays, has_one_handle};
 
 use crate::call_answer::{HANDLE, MEMORY, OK, Written, not_written};
 use crate::handle::{Handle, Kept};
@@ -9,7 +9,7 @@ use std::alloc::{AllocError, Global};
 use std::sync::Arc;
 
 /// Makes `other` another handle of what `handle` keeps, as for another thread: nothing is copied, and it is freed with
-/// its last handle. Refused if `handle` keeps nothing or a store, or `other` is in use; then both are unchanged.
+/// its last handle. Refused if `handle` keeps nothing, a store or lines, or `other` is in use; then both are unchanged.
 #[unsafe(no_mangle)]
 pub extern "C" fn hudarin_share(alloc: Global, handle: &mut Handle, other: &mut Handle) -> Written
     ensures shared { IsShared handle.old other.old other.new result }
@@ -33,17 +33,17 @@ pub extern "C" fn hudarin_share(alloc: Global, handle: &mut Handle, other: &mut 
     answer
 }
 
-/// Another handle's content; none of a store, which has one handle.
+/// Another handle's content; none of what has one handle.
 fn shared(alloc: Global, kept: &Kept) -> Result<Option<Box<Kept>>, AllocError>
     ensures { MatchResult result
-        (λ second. MatchOption second (IsSome (store_in kept.now)) (λ other. IsSame kept.now other.value))
-        (λ _. store_in kept.now ≡ None) }
+        (λ second. MatchOption second (has_one_handle kept.now ≡ true) (λ other. IsSame kept.now other.value))
+        (λ _. has_one_handle kept.now ≡ false) }
 {
     let second = match kept {
         Kept::Descriptor(descriptor) => Kept::Descriptor(Arc::try_clone(descriptor)?),
         Kept::Token(token) => Kept::Token(Arc::try_clone(token)?),
         Kept::View(tree) => Kept::View(tree.share()?),
-        Kept::Store(_) => return Ok(None),
+        Kept::Store(_) | Kept::Lines(_) => return Ok(None),
     };
     may_cross(&second);
     Ok(Some(Box::new(alloc, second)?))

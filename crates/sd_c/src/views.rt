@@ -128,7 +128,7 @@ fn length_in(kept: &Kept) -> Written
     match kept {
         Kept::Store(store) => length_told(store.draft().len()),
         Kept::View(tree) => length_told(tree.get().len()),
-        Kept::Descriptor(_) | Kept::Token(_) => not_written(HANDLE, 0, 0),
+        _ => not_written(HANDLE, 0, 0),
     }
 }
 

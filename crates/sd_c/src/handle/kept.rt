@@ -2,15 +2,18 @@
 
 use sd_acl::Descriptor;
 use sd_check::Token;
+use sd_line::Line;
 use sd_tree::{Shared, Tree};
 use sd_versions::Versions;
 use std::sync::Arc;
 
-/// What was parsed once and is used often, by each handle that shares it; or a store, which has one handle.
+/// What was parsed once and is used often, by each handle that shares it; or a store, or the lines of an answer, which
+/// have one handle.
 #[derive(Drop)]
 pub enum Kept {
     Descriptor(Arc<Descriptor>),
     Token(Arc<Token>),
     Store(Box<Versions>),
     View(Shared<Tree>),
+    Lines(Vec<Line>),
 }

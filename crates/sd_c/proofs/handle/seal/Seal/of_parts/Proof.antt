@@ -1,5 +1,5 @@
 -- `of_parts` moves two fields into a seal, and what they own goes with them.
-use Rattle.sd_c.proofs.Cited.{ !, B, D, Fun, Goes-dropped, Item, List, Logic, Memory, Routine, SProp, Stays, Tables, Ura, Val, WpFn, WpFn-mono, agg, alloc_all, and_then, box_out, box_typed, by, done, drop, emp, ends_at, ent, enter, entered, fjoin, fld, free_all, fsep, fsplit, ftrue, get, get_in, join, look_at, move, no_more, nothing, of_opd, pass_all, qed, raw, returns, says, sets, split, stay_dropped, stop, sub, suffices, tables, triple_of, walk_Meets, walk_of, whole, word, yes, ‵, ◌$◌, ◌++◌, ◌∵◌, ◌∷◌, ◌⊛◌}
+use Rattle.sd_c.proofs.Cited.{ !, B, D, Fun, Goes-dropped, Item, List, Logic, Memory, Routine, SProp, Stays, Tables, Ura, Val, WpFn, WpFn-mono, agg, alloc_all, and_then, box_out, box_typed, by, done, drop, emp, ends_at, ent, enter, entered, fjoin, fld, free_all, fsep, fsplit, ftrue, get, get_in, join, look_at, move, no_more, nothing, of_opd, pass_all, qed, raw, returns, says, sets, split, stay_dropped, stop, sub, suffices, tables, triple_of, walk_Meets, walk_of, whole, word, ‵, ◌$◌, ◌++◌, ◌∵◌, ◌∷◌, ◌⊛◌}
 use mathlib.Core.Path.{refl, sym, subst}
 use mathlib.Core.List.{[]}
 use contract.Running.{tables_of}
@@ -11,7 +11,7 @@ use Rattle.sd_c.proofs.handle.seal.Seal.of_parts.Statement as stated
 use Rattle.sd_c.proofs.handle.seal.Seal.of_parts.Code as code
 
 abbrev stayed : Stays (F.ended).signature.params (F.ended).kept
-stayed = (stay_dropped From yes, tt)
+stayed = (stay_dropped From (F.ended).kept.0, tt)
 
 module _ {M : Type 1} {𝓤 : Ura M} (𝓛 : Logic 𝓤) (at_mem : Memory → SProp 𝓤) (run : Routine → Fun 𝓤) (𝓣 : Tables 𝓤 𝓛.H) where
   open 𝓛 use {H}
@@ -40,5 +40,5 @@ unfolding tables_of
 of_parts_spec 𝓤 𝓛 𝓜 𝓡 wired =
     let 𝓣 : Tables 𝓤 𝓛.H = tables_of 𝓤 𝓛.H 𝓜 (tables 𝓤 𝓛.H 𝓜 𝓡 𝓡.env) in
     entered 𝓤 𝓛.H (triple_of 𝓛 F.signature (F.spec 𝓛 𝓜.mem 𝓡.returns)) 𝓣.C 𝓣.Λ #self code.function (code.unfolded 𝓤 𝓛.H 𝓜 𝓡 wired)
-    (walk_Meets 𝓛 F.ended stayed (Goes-dropped 𝓛 0 From yes (λ κs x f. refl), tt) (F.clauses 𝓛 𝓜.mem 𝓡.returns) (WpFn 𝓤 𝓛.H 𝓣.C 𝓣.Λ code.function) (WpFn-mono 𝓤 𝓛.H 𝓛.laws 𝓣 code.function)
+    (walk_Meets 𝓛 F.ended stayed (Goes-dropped 𝓛 0 From (F.ended).kept.0 (λ κs x f. refl), tt) (F.clauses 𝓛 𝓜.mem 𝓡.returns) (WpFn 𝓤 𝓛.H 𝓣.C 𝓣.Λ code.function) (WpFn-mono 𝓤 𝓛.H 𝓛.laws 𝓣 code.function)
     (walk 𝓛 𝓜.mem 𝓡.returns 𝓣))
