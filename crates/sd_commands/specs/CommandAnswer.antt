@@ -1,5 +1,5 @@
 -- What a command about a descriptor answers, and whether it did what was asked for. The arguments are read from left to
--- right, and the first that isn't read is told as a fault.
+-- right, and the answer is the fault of the first that is invalid.
 use Rattle.std.specs.Prelude.{◌≡◌, ◌⊎◌, ℕ, Bool, ◌||◌, MatchBool, List, [], ◌∷◌, ◌++◌, Result, Ok, Err, codes}
 use Rattle.std.specs.Prelude.{Option, Some, None, string_bytes, drop, if◌then◌else◌, slice_get}
 use Rattle.std.specs.Option.{option_map_or}
@@ -96,7 +96,7 @@ or_worse Done other = other
 
 -- ---- answers
 
--- the lines, what standard error is told beside them, and what came of it
+-- the lines, what standard error says beside them, and the outcome
 pub record AnswerValue : Type 0 where
   pub lines : List LineOf
   pub told : List ℕ
@@ -121,7 +121,7 @@ AreDone lines = IsAnswer lines [] Done
 abbrev pub IsDone : LineOf → AnswerValue → Type 0
 IsDone line = AreDone (line ∷ [])
 
--- this line of a fault is the answer, and this is told of it
+-- this line of a fault is the answer, and standard error says this of it
 abbrev pub IsFault : LineOf → List ℕ → AnswerValue → Type 0
 IsFault line told = IsAnswer (line ∷ []) told Fault
 
@@ -157,7 +157,7 @@ argument arguments place = option_map_or (λ text. text.now) (slice_get argument
 
 -- ---- a descriptor's text
 
--- the other answer, and where a SACL was left out, that is told first
+-- the other answer, and where a SACL was left out, standard error says that first
 unfoldable pub IsNoted : List ℕ → Bool → AnswerValue → AnswerValue → Type 0
 IsNoted argument left_out inner answer = answer ≡ record inner { told = sacl_note argument left_out ++ inner.told }
 
@@ -166,7 +166,7 @@ abbrev pub Noting : List ℕ → Bool → (AnswerValue → Type 0) → AnswerVal
 Noting argument left_out Answers answer =
     (inner : AnswerValue) × IsNoted argument left_out inner answer × Answers inner
 
--- the other answer, and where OI or CI of entries were left out, that is told first
+-- the other answer, and where OI or CI of entries were left out, standard error says that first
 unfoldable pub IsObjectNoted : Bool → AnswerValue → AnswerValue → Type 0
 IsObjectNoted left_out inner answer = answer ≡ record inner { told = object_note left_out ++ inner.told }
 

@@ -1,4 +1,4 @@
--- What standard error is told beside an answer: which argument isn't read, and why; or what is left out.
+-- What standard error says beside an answer: which argument isn't read, and why; or what is left out.
 use Rattle.std.specs.Prelude.{◌≡◌, ◌⊎◌, ℕ, ◌+◌, ◌==◌, Bool, false, MatchBool, List, [], ◌∷◌, ◌++◌}
 use Rattle.std.specs.Prelude.{if◌then◌else◌, codes}
 use Rattle.std.specs.Fmt.{decimal}

@@ -56,7 +56,7 @@ impl Outcome {
     }
 }
 
-/// The lines of an answer, what standard error is told beside them, and what came of it.
+/// The lines of an answer, what standard error says beside them, and the outcome.
 #[derive(Drop)]
 pub struct Answer {
     pub lines: Vec<Line>,
@@ -66,14 +66,14 @@ pub struct Answer {
 }
 
 impl Answer {
-    /// What was asked for was done, and nothing is told beside it.
+    /// What was asked for was done, and standard error says nothing.
     pub fn done(alloc: Global, lines: Vec<Line>) -> Answer
         ensures { AreDone lines.items (answer_of result) }
     {
         Answer::of(alloc, lines, Outcome::Done)
     }
 
-    /// What was asked for was done, of which this is the one line, and nothing is told beside it.
+    /// What was asked for was done, of which this is the one line, and standard error says nothing.
     pub(crate) fn line(alloc: Global, line: Line) -> Answered
         ensures { IfOk result (λ answer. IsDone line (answer_of answer)) }
     {
@@ -81,7 +81,7 @@ impl Answer {
         Ok(Answer::done(alloc, lines))
     }
 
-    /// Nothing is told beside the lines.
+    /// Standard error says nothing beside the lines.
     pub(crate) fn of(alloc: Global, lines: Vec<Line>, outcome: Outcome) -> Answer
         ensures { IsAnswer lines.items [] outcome (answer_of result) }
     {
@@ -126,7 +126,7 @@ fn descriptor_name(question: DescriptorCommand) -> &'static str
     }
 }
 
-/// The answer to an argument that isn't read: what it should have been, and what is told of it. The only error is out
+/// The answer to an argument that is invalid: what it should have been, and what standard error says of it. The only error is out
 /// of memory.
 pub fn fault(alloc: Global, what: &str, told: String) -> Result<Answer, AllocError>
     ensures { IfOk result (λ answer. IsFault (fault_line what.now) (string_bytes told) (answer_of answer)) }
@@ -135,7 +135,7 @@ pub fn fault(alloc: Global, what: &str, told: String) -> Result<Answer, AllocErr
     fault_told(alloc, line, told)
 }
 
-/// The answer that is this line of a fault, and what is told of it.
+/// The answer that is this line of a fault, and what standard error says of it.
 pub(crate) fn fault_told(alloc: Global, line: Line, told: String) -> Answered
     ensures { IfOk result (λ answer. IsFault line (string_bytes told) (answer_of answer)) }
 {

@@ -55,7 +55,7 @@ pub(crate) fn missing_dacl(settings: Settings, dacl: &Dacl) -> Option<&'static s
     }
 }
 
-/// The answer, and before what is told beside it, that a SACL was left out of the argument, where one was.
+/// The answer, and before what else standard error says, that a SACL was left out of the argument, where one was.
 #[tactic(auto, unfolding(crate::specs::CommandAnswer::IsNoted))]
 pub(crate) fn note_left_out_sacl(
     alloc: Global,
@@ -73,7 +73,7 @@ pub(crate) fn note_left_out_sacl(
     Ok(answer)
 }
 
-/// The answer, and before what is told beside it, that OI or CI of entries were left out, where they were.
+/// The answer, and before what else standard error says, that OI or CI of entries were left out, where they were.
 #[tactic(auto, unfolding(crate::specs::CommandAnswer::IsObjectNoted))]
 pub(crate) fn note_object(alloc: Global, left_out: bool, mut answer: Answer) -> Answered
     ensures { IfOk result (λ noted. IsObjectNoted left_out (answer_of answer) (answer_of noted)) }

@@ -1,4 +1,4 @@
-//! What standard error is told beside an answer: which argument isn't read, and why.
+//! What standard error says beside an answer: which argument isn't read, and why.
 ghost use Rattle.std.specs.Prelude.{◌≡◌, ◌<◌, ◌^◌, ◌++◌, IfOk, string_bytes};
 ghost use Rattle.sd_commands.specs.Pointer.{pointed};
 ghost use Rattle.sd_commands.specs.Diagnostic.{IsSidReason, IsStateReason, IsWordReason, at_byte};

@@ -17,7 +17,7 @@ use sd_sid::{Mask, Sid};
 use sd_text::read_sid_text_in;
 use std::alloc::AllocError;
 
-/// What is told of a verdict.
+/// What an answer says of a verdict.
 #[derive(Clone, Copy)]
 pub(crate) enum Form {
     /// The verdict alone.
