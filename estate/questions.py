@@ -1,5 +1,6 @@
 """Questions about what was read, which the program sdstore answers."""
 
+import json
 import os
 import re
 import shutil
@@ -7,6 +8,7 @@ import subprocess
 from collections.abc import Iterable, Iterator
 from dataclasses import dataclass
 from pathlib import Path as File
+from typing import Any
 
 from hudarin import Refused, Sid
 
@@ -21,10 +23,8 @@ _PROGRAMS = (_HERE.parent / "crates/sdstore/out/sdstore", _HERE.parents[2] / "bi
 
 #: What is one word of a line of a script.
 _WORD = re.compile(r"[!-~]+")
-_GRANT = re.compile(r"(0x[0-9a-f]+) to (\S+)( as the owner)?(?: unless (.*))?")
-_DIFFERENCE = re.compile(r"(gained|lost) (0x[0-9a-f]+) by (.*)")
-#: Of what would be made in a folder, which is no node of the script.
-_OF_NEW_NODES = re.compile(r"(?:(?:(?:objects|containers) below )?new (?:objects|containers)|inheritance): .*")
+#: The kinds of lines of `compare` about what would be made in a folder, which is no node of the script; and `same`.
+_OF_NO_NODE = ("gained below", "lost below", "nothing inherited", "no longer protected", "now protected", "same")
 
 
 def program() -> str:
@@ -52,12 +52,19 @@ def _ran(words: list[str], lines: Iterable[str] = ()) -> str:
     return asked.stdout
 
 
-def _each(words: list[str], texts: Iterable[str], options: tuple[str, ...] = ()) -> dict[str, list[str]]:
-    """The lines that a command of `sdstore each` answers about each text, of which it is asked once. No text is an
-    option of the program: each is a line of its input."""
+def _each(words: list[str], texts: Iterable[str], option: str, end: str = "") -> dict[str, list[str]]:
+    """The lines that a command of `sdstore each` answers about each text, of which it is asked once; `end` is the line
+    after each answer. No text is an option of the program: each is a line of its input."""
     distinct = list(dict.fromkeys(texts))
-    answers = _ran([*options, "each", *words], distinct).removesuffix("\n\n").split("\n\n") if distinct else []
+    ends = f"\n{end}\n"
+    answers = _ran([option, "each", *words], distinct).removesuffix(ends).split(ends) if distinct else []
     return dict(zip(distinct, (answer.split("\n") for answer in answers), strict=True))
+
+
+def _each_object(words: list[str], texts: Iterable[str]) -> dict[str, list[dict[str, Any]]]:
+    """The same as the objects of `--json`."""
+    answers = _each(words, texts, "--json", '{"text":""}')
+    return {text: list(map(json.loads, lines)) for text, lines in answers.items()}
 
 
 def lint(script: Script, table: Table) -> int:
@@ -75,7 +82,7 @@ def lint(script: Script, table: Table) -> int:
 
 def findings_of(texts: Iterable[str]) -> dict[str, list[str]]:
     """What `sdstore --risks lint` finds about each text."""
-    found = _each(["lint"], texts, ("--risks",))
+    found = _each(["lint"], texts, "--risks")
     return {text: [line for line in lines if line != "clean"] for text, lines in found.items()}
 
 
@@ -120,7 +127,8 @@ def who(script: Script, path_text: str, words: list[str], table: Table) -> int:
     """A row for each line of `sdstore who` about a node, as the tree is after the changes of the script, and how many
     there are."""
     path = node_of(script, path_text)
-    grants = _grants(_ran(["who", "--", script.descriptor(path), *words]).splitlines())
+    lines = _ran(["--json", "who", "--", script.descriptor(path), *words]).splitlines()
+    grants = list(map(_grant, map(json.loads, lines)))
     for grant in grants:
         to = f"{grant.to} as the owner" if grant.is_owner else grant.to
         cells = {"path": spelled(path), "rights": f"{grant.rights:#x}", "to": to}
@@ -130,17 +138,14 @@ def who(script: Script, path_text: str, words: list[str], table: Table) -> int:
 
 def grants_of(texts: Iterable[str], rights: int) -> dict[str, list[Grant]]:
     """What `sdstore who` answers about each text, of all users."""
-    return {text: _grants(lines) for text, lines in _each(["who", f"{rights:#x}"], texts).items()}
+    answers = _each_object(["who", f"{rights:#x}"], texts)
+    return {text: list(map(_grant, lines)) for text, lines in answers.items()}
 
 
-def _grants(lines: list[str]) -> list[Grant]:
-    grants = []
-    for line in lines:
-        found = _GRANT.fullmatch(line)
-        if found is None:
-            raise Invalid(f"sdstore who: {line}")
-        grants.append(Grant(int(found[1], 16), found[2], found[3] is not None, tuple((found[4] or "").split())))
-    return grants
+def _grant(line: dict[str, Any]) -> Grant:
+    if line.get("answer") != "who":
+        raise Invalid(f"sdstore who: {line}")
+    return Grant(int(line["mask"], 16), line["to"], "as" in line, tuple(line.get("unless", ())))
 
 
 # What a change grants and takes away
@@ -174,18 +179,17 @@ def reviewed(script: Script, words: list[str]) -> Iterator[tuple[Path, list[Diff
     olds: dict[str, list[str]] = {}
     for change in changes:
         olds.setdefault(change.after, []).append(change.before)
-    answers = {new: _each(["compare", "--", new, *words], texts) for new, texts in olds.items()}
+    answers = {new: _each_object(["compare", "--", new, *words], texts) for new, texts in olds.items()}
     for change in changes:
-        lines = [line for line in answers[change.after][change.before] if not _OF_NEW_NODES.fullmatch(line)]
-        if lines and lines != ["same"]:
+        lines = [line for line in answers[change.after][change.before] if line.get("answer") not in _OF_NO_NODE]
+        if lines:
             yield change.path, list(map(_difference, lines))
 
 
-def _difference(line: str) -> Difference:
-    found = _DIFFERENCE.fullmatch(line)
-    if found is None:
+def _difference(line: dict[str, Any]) -> Difference:
+    if line.get("answer") not in ("gained", "lost"):
         raise Invalid(f"sdstore compare: {line}")
-    return Difference(found[1] == "gained", int(found[2], 16), found[3])
+    return Difference(line["answer"] == "gained", int(line["mask"], 16), " ".join([line["by"], *line.get("with", ())]))
 
 
 # Where a user may do something
