@@ -35,7 +35,7 @@ extern "C" {
 /* ---- The header's version; hudarin_version returns the library's */
 
 #define HUDARIN_VERSION_MAJOR 0u
-#define HUDARIN_VERSION_MINOR 1u
+#define HUDARIN_VERSION_MINOR 2u
 #define HUDARIN_VERSION_PATCH 0u
 
 /* Ignoring an answer is a mistake, of which GCC and Clang warn. */
@@ -533,7 +533,7 @@ typedef struct hudarin_view {
 /* A version. */
 typedef struct hudarin_library {
     uint32_t major; /* another one may change what exists */
-    uint32_t minor; /* another one adds to it */
+    uint32_t minor; /* another one adds to it, and while `major` is 0 may change what exists */
     uint32_t patch; /* another one fixes it */
 } hudarin_library;
 

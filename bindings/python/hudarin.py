@@ -27,7 +27,7 @@ import threading
 from typing import Any, Callable, ContextManager, Iterable, Iterator, List, NamedTuple, NoReturn, Optional
 from typing import SupportsBytes, Tuple, Type, TypeVar, Union, cast
 
-__version__ = "0.1.0"
+__version__ = "0.2.0"
 
 __all__ = [
     "ARGUMENTS",
@@ -237,7 +237,7 @@ class _Version(ctypes.Structure):
 def _named_library() -> str:
     """The library's path, if this file is in a checkout or an installation, else its soname for the system's loader.
     (Beside a copy of this file anybody may have put a library.)"""
-    name = "libhudarin.so.0"
+    name = "libhudarin.so." + __version__.rpartition(".")[0]
     folder, file = os.path.split(os.path.abspath(__file__))
     if file == "__init__.py":
         folder = os.path.dirname(folder)
@@ -250,8 +250,8 @@ def _named_library() -> str:
 
 
 def _found_library() -> ctypes.CDLL:
-    """The library, if it has the calls of this module. Another major version may return other results, and an earlier
-    minor version lacks calls."""
+    """The library, if it has the calls of this module. While the major version is 0 another minor one may change what
+    exists."""
     named = os.environ.get("HUDARIN_LIBRARY") or _named_library()
     try:
         library = ctypes.CDLL(named)
@@ -261,7 +261,7 @@ def _found_library() -> ctypes.CDLL:
         raise ImportError(f"{named}: {e}; {made}") from e
     found = library.hudarin_version()
     major, minor, _ = (int(number) for number in __version__.split("."))
-    if found.major != major or found.minor < minor:
+    if (found.major, found.minor) != (major, minor):
         version = f"{found.major}.{found.minor}.{found.patch}"
         raise ImportError(f"{named}: it is version {version}, and {__version__} is required")
     return library

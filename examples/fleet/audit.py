@@ -58,7 +58,7 @@ class Modules(WorkerPlugin):
 @contextmanager
 def local_client(workers: int) -> Iterator[Client]:
     """A cluster of processes on this machine, whose library is the one of bindings/build unless another is named."""
-    os.environ.setdefault("HUDARIN_LIBRARY", str(TOP / "bindings/out/libhudarin.so.0"))
+    os.environ.setdefault("HUDARIN_LIBRARY", str(TOP / "bindings/out/libhudarin.so"))
     with tempfile.TemporaryDirectory(prefix="fleet.") as folder:
         place = {"dashboard_address": None, "local_directory": folder}
         with LocalCluster(n_workers=workers, threads_per_worker=1, processes=True, **place) as cluster:

@@ -23,7 +23,7 @@ TOP = Path(__file__).resolve().parent.parent.parent
 HERE = TOP / "examples/fleet"
 #: The seconds that a cluster may take: far more than it does, as the machine may be busy.
 PATIENCE = 1200
-os.environ.setdefault("HUDARIN_LIBRARY", str(TOP / "bindings/out/libhudarin.so.0"))
+os.environ.setdefault("HUDARIN_LIBRARY", str(TOP / "bindings/out/libhudarin.so"))
 
 passed = failed = 0
 

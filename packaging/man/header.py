@@ -28,6 +28,11 @@ class Header:
     types: list[Item] = field(default_factory=list)
     calls: list[Item] = field(default_factory=list)
 
+    def version(self) -> str:
+        """That of the library, as "0.2.0"."""
+        lines = [each.lines[0].partition(" ") for section in self.sections for each in section.constants]
+        return ".".join(value.rstrip("u") for name, _, value in lines if name.startswith("HUDARIN_VERSION_"))
+
 
 _PIECE = re.compile(
     r"/\*(?P<comment>.*?)\*/"

@@ -2,7 +2,8 @@
 
 ghost use Rattle.std.specs.Prelude.{◌≡◌};
 
-/// A version: another `major` may change what exists, another `minor` adds to it, another `patch` fixes it.
+/// A version: another `major` may change what exists, another `minor` adds to it, another `patch` fixes it. While
+/// `major` is 0 another `minor` may change what exists too.
 #[repr(C)]
 #[derive(Clone, Copy, Debug, PartialEq, Eq)]
 pub struct Version {
@@ -14,11 +15,11 @@ pub struct Version {
 /// The version of the library, which a caller may compare with that of its header.
 #[unsafe(no_mangle)]
 pub extern "C" fn hudarin_version() -> Version
-    ensures { (result.major ≡ 0) × (result.minor ≡ 1) × (result.patch ≡ 0) }
+    ensures { (result.major ≡ 0) × (result.minor ≡ 2) × (result.patch ≡ 0) }
 {
     Version {
         major: 0,
-        minor: 1,
+        minor: 2,
         patch: 0,
     }
 }
