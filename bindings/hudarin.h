@@ -38,6 +38,11 @@ extern "C" {
 #define HUDARIN_VERSION_MINOR 2u
 #define HUDARIN_VERSION_PATCH 0u
 
+/* What a program of 0.1 changes: hudarin_who, hudarin_compare and hudarin_store_review take a hudarin_lines as their
+ * last argument; hudarin_line_print writes the lines, which hudarin_who and hudarin_compare put into a buffer, and
+ * hudarin_store_review after the paths. hudarin_who returns a hudarin_verdict, and hudarin_accesses is gone; the status
+ * of a hudarin_comparison is in `answer`, which was `written`. Instead of "same" there is no line. */
+
 /* Ignoring an answer is a mistake, of which GCC and Clang warn. */
 #if defined(__GNUC__)
 #define HUDARIN_ANSWERS __attribute__((warn_unused_result))
@@ -88,7 +93,7 @@ typedef enum hudarin_status {
     HUDARIN_NO_NODE = 16,
     /* A SID is no domain's, which is S-1-5-21 and three more sub-authorities. */
     HUDARIN_DOMAIN = 17,
-    /* The descriptor has no owner, no group, or no entry at the index. */
+    /* The descriptor has no owner, no group, or no entry at the index; or there is no such line, or value of a line. */
     HUDARIN_NO_PART = 18,
     /* A limit of the store is out of range: the fault is HUDARIN_LIMITS_... */
     HUDARIN_LIMITS = 19
@@ -188,7 +193,9 @@ typedef enum hudarin_argument {
     HUDARIN_ARGUMENT_NEW_DESCRIPTOR = 14,
     /* The limits of hudarin_store_open_within. */
     HUDARIN_ARGUMENT_NODES = 15,
-    HUDARIN_ARGUMENT_EDITS = 16
+    HUDARIN_ARGUMENT_EDITS = 16,
+    /* The handle for lines. */
+    HUDARIN_ARGUMENT_LINES = 17
 } hudarin_argument;
 
 /* ---- Verdicts */
@@ -302,6 +309,24 @@ typedef enum hudarin_entry_kind {
 #define HUDARIN_SUCCESSFUL_ACCESS 0x40u
 #define HUDARIN_FAILED_ACCESS 0x80u
 
+/* ---- Values of a line: the kind of each */
+
+typedef enum hudarin_value_kind {
+    HUDARIN_VALUE_MASK = 1,
+    HUDARIN_VALUE_NUMBER = 2,
+    HUDARIN_VALUE_SID = 3,
+    HUDARIN_VALUE_TEXT = 4
+} hudarin_value_kind;
+
+/* ---- What a SID is in the token of a gain or a loss, beside its user */
+
+typedef enum hudarin_mark {
+    /* A group for denies alone. */
+    HUDARIN_MARK_DENY = 1,
+    /* A restricting SID. */
+    HUDARIN_MARK_RESTRICT = 2
+} hudarin_mark;
+
 /* ---- States of a group. They are two bits of the attributes of Windows; both at once are rejected. */
 
 #define HUDARIN_GROUP_DISABLED 0x0u
@@ -347,9 +372,9 @@ typedef struct hudarin_mapping {
 #define HUDARIN_SERVICE_MAPPING { 0x0002008du, 0x00020002u, 0x00020170u, 0x000f01ffu }
 #define HUDARIN_PROCESS_MAPPING { 0x00020410u, 0x00020beau, 0x00121001u, 0x001fffffu }
 
-/* The answer of a check, an edit, hudarin_keep_token and a call that opens a store. `place` is, of HUDARIN_SID and
- * HUDARIN_STATE, the index of the group or restricting SID, from 0; of HUDARIN_BEHIND_GROUPS the number of states; of
- * HUDARIN_UTF8 the number of valid bytes at the front of the path. */
+/* The answer of a check, an edit, hudarin_keep_token, hudarin_who, hudarin_lint and a call that opens a store. `place`
+ * is, of HUDARIN_SID and HUDARIN_STATE, the index of the group or restricting SID, from 0; of HUDARIN_BEHIND_GROUPS the
+ * number of states; of HUDARIN_UTF8 the number of valid bytes at the front of the path. */
 typedef struct hudarin_verdict {
     uint32_t status;   /* HUDARIN_OK, or why there is no verdict, or the edit isn't made */
     uint32_t argument; /* the invalid argument: HUDARIN_ARGUMENT_.., else 0 */
@@ -471,21 +496,19 @@ typedef struct hudarin_entry {
     uint32_t mask;
 } hudarin_entry;
 
-/* The answer of hudarin_who. `written.place` is, of HUDARIN_SID and HUDARIN_STATE, the index of the group, from 0; of
- * HUDARIN_BEHIND_GROUPS the number of states. */
-typedef struct hudarin_accesses {
-    hudarin_written written;
-    uint32_t argument; /* the invalid argument: HUDARIN_ARGUMENT_.., else 0 */
-} hudarin_accesses;
-
-/* The answer of hudarin_compare: `written` and `argument` as in hudarin_accesses. `gained` and `lost` are 0 unless the
- * status is HUDARIN_OK or HUDARIN_ROOM. */
+/* The answer of hudarin_compare. */
 typedef struct hudarin_comparison {
-    hudarin_written written;
-    uint32_t argument;
-    uint32_t gained; /* the bits that some token gains of the object itself */
-    uint32_t lost;   /* the bits that some token loses of the object itself */
+    hudarin_verdict answer; /* as of hudarin_who */
+    uint32_t gained;        /* with HUDARIN_OK the bits that some token gains of the object itself, else 0 */
+    uint32_t lost;          /* with HUDARIN_OK the bits that some token loses of the object itself, else 0 */
 } hudarin_comparison;
+
+/* The answer of hudarin_line_value. `kind` and `number` are 0 unless the status is HUDARIN_OK or HUDARIN_ROOM. */
+typedef struct hudarin_value {
+    hudarin_written written;
+    uint32_t kind;   /* HUDARIN_VALUE_.. */
+    uint64_t number; /* the mask or the number; of a SID HUDARIN_MARK_DENY, HUDARIN_MARK_RESTRICT or 0; of a text 0 */
+} hudarin_value;
 
 /* The answer of hudarin_mask_from_text. */
 typedef struct hudarin_mask {
@@ -529,6 +552,11 @@ typedef struct hudarin_store {
 typedef struct hudarin_view {
     hudarin_kept kept;
 } hudarin_view;
+
+/* Keeps the lines of an answer. */
+typedef struct hudarin_lines {
+    hudarin_kept kept;
+} hudarin_lines;
 
 /* A version. */
 typedef struct hudarin_library {
@@ -716,32 +744,58 @@ HUDARIN_ANSWERS hudarin_explanation hudarin_explain(hudarin_descriptor *descript
     HUDARIN_NONNULL(1, 2);
 
 /*
- * Who is granted which rights of `asked` by a kept descriptor, of all tokens that have the groups, which are passed as
- * to hudarin_check; all rights, if `asked` has MAXIMUM_ALLOWED. The lines of `sdstore who`, each with a newline at its
- * end, as "0x1 to S-1-5-32-545 unless S-1-5-32-546". The handle is tested first, then the groups are parsed, then the
- * mapping.
+ * Keeps the lines of `sdstore who`: who is granted which rights of `asked` by a kept descriptor, of all tokens that
+ * have the groups, which are passed as to hudarin_check; of all rights, if `asked` has MAXIMUM_ALLOWED. A line is as
+ * "0x1 to S-1-5-32-545 unless S-1-5-32-546". `lines` is tested first, then the descriptor's handle, then the groups are
+ * parsed, then the mapping. With HUDARIN_OK the answer's `kind` and `mask` are 0.
  */
-HUDARIN_ANSWERS hudarin_accesses hudarin_who(hudarin_descriptor *descriptor, const void *groups, size_t groups_length,
+HUDARIN_ANSWERS hudarin_verdict hudarin_who(hudarin_descriptor *descriptor, const void *groups, size_t groups_length,
+                                            const uint32_t *states, size_t state_count, hudarin_mapping mapping,
+                                            uint32_t asked, hudarin_lines *lines)
+    HUDARIN_NONNULL(1, 8);
+
+/* Keeps the lines of `sdstore lint`: what is doubtful in a kept descriptor, where all tokens have the groups, as "entry
+ * 2 (A;;FR;;;BU) has no effect"; no line where nothing is. Arguments are tested as in hudarin_who. */
+HUDARIN_ANSWERS hudarin_verdict hudarin_lint(hudarin_descriptor *descriptor, const void *groups, size_t groups_length,
                                              const uint32_t *states, size_t state_count, hudarin_mapping mapping,
-                                             uint32_t asked, char *room, size_t room_length)
-    HUDARIN_NONNULL(1);
+                                             hudarin_lines *lines)
+    HUDARIN_NONNULL(1, 7);
 
 /*
- * What tokens that have the groups gain and lose if the new descriptor takes the old one's place. The lines of
- * `sdstore compare`: "same", or each token that shows it, as "gained 0x2 by S-1-5-32-545"; then as "new objects: gained
- * 0x2 by S-1-5-32-545" of what is made in it, if it is a container, and whether inheritance is blocked otherwise. Of
- * all tokens, restricted ones and those with privileges too, none gains a bit outside `gained`, nor loses one outside
- * `lost`. Both handles are tested first, then the groups are parsed, then the mapping.
+ * Keeps the lines of `sdstore compare`: what tokens that have the groups gain and lose if the new descriptor takes the
+ * old one's place. There is one for each token that shows it, as "gained 0x2 by S-1-5-32-545"; then as "new objects:
+ * gained 0x2 by S-1-5-32-545" of what is made in it, if it is a container, and whether inheritance is blocked
+ * otherwise; no line where nothing changes. Of all tokens, restricted ones and those with privileges too, none gains a
+ * bit outside `gained`, nor loses one outside `lost`. Arguments are tested as in hudarin_who, the new descriptor's
+ * handle after the old one's.
  */
 HUDARIN_ANSWERS hudarin_comparison hudarin_compare(hudarin_descriptor *descriptor, hudarin_descriptor *new_descriptor,
                                                    const void *groups, size_t groups_length, const uint32_t *states,
-                                                   size_t state_count, hudarin_mapping mapping, char *room,
+                                                   size_t state_count, hudarin_mapping mapping, hudarin_lines *lines)
+    HUDARIN_NONNULL(1, 2, 8);
+
+/* The number of kept lines: `length`. Takes no memory. */
+HUDARIN_ANSWERS hudarin_written hudarin_lines_count(hudarin_lines *lines)
+    HUDARIN_NONNULL(1);
+
+/* The line at the index, from 0, as the program prints it, with a newline at its end; unless `is_json` is 0 as an
+ * object of JSON, as after `sdstore --json`. HUDARIN_NO_PART after the last one. */
+HUDARIN_ANSWERS hudarin_written hudarin_line_print(hudarin_lines *lines, uint64_t index, uint32_t is_json, char *room,
                                                    size_t room_length)
-    HUDARIN_NONNULL(1, 2);
+    HUDARIN_NONNULL(1);
+
+/*
+ * The value in the line at the index that has this name in JSON; "answer" is the line's kind, a text. Of `unless` and
+ * `with` it is the SID at the place, from 0; of any other value the place is 0. The buffer gets the bytes of a SID, or
+ * of a text; of a mask and a number nothing. HUDARIN_NO_PART if there is no such line, value or place.
+ */
+HUDARIN_ANSWERS hudarin_value hudarin_line_value(hudarin_lines *lines, uint64_t index, const char *name,
+                                                 size_t name_length, uint64_t place, void *room, size_t room_length)
+    HUDARIN_NONNULL(1);
 
 /* Makes `other` another handle of what `handle` keeps, as for another thread: nothing is copied, and the object is
- * freed with its last handle. HUDARIN_HANDLE if `handle` keeps nothing or a store, or `other` is in use. The answer's
- * `length` is 0. The three below do the same for each kind. */
+ * freed with its last handle. HUDARIN_HANDLE if `handle` keeps nothing, a store or lines, or `other` is in use. The
+ * answer's `length` is 0. The three below do the same for each other kind. */
 HUDARIN_ANSWERS hudarin_written hudarin_share(hudarin_kept *handle, hudarin_kept *other)
     HUDARIN_NONNULL(1, 2);
 
@@ -834,13 +888,13 @@ HUDARIN_ANSWERS hudarin_written hudarin_store_revert(hudarin_store *store, hudar
  * What the next publish changes, for all tokens, at the node of a place: that of the store's tree beside what the last
  * publish or revert left, or beside the root alone. Places from 0 are those of the nodes of the store's tree in path
  * order, and after them of the published nodes in path order; HUDARIN_NO_NODE after the last one. The buffer gets the
- * node's path, of a moved one the path where it was, and the lines of hudarin_compare without groups, but none instead
- * of "same", and none of what is made in an object. They are the lines of `review` in `sdstore script`, without a path
- * at the front of each.
+ * node's path, and of a moved one the path where it was; a buffer of HUDARIN_PATH_BYTES twice always suffices. `lines`
+ * keeps the lines of hudarin_compare without groups, none of what is made in an object: the lines of `review` in
+ * `sdstore script`, without a path at the front of each. `lines` is tested first.
  */
 HUDARIN_ANSWERS hudarin_review hudarin_store_review(hudarin_store *store, uint64_t place, char *room,
-                                                    size_t room_length)
-    HUDARIN_NONNULL(1);
+                                                    size_t room_length, hudarin_lines *lines)
+    HUDARIN_NONNULL(1, 5);
 
 /* The number of edits in the journal of a store, or of a view: `length`. */
 HUDARIN_ANSWERS hudarin_written hudarin_journal_length(hudarin_kept *store_or_view)

@@ -55,6 +55,37 @@ static void list(hudarin_descriptor *descriptor)
     }
 }
 
+/* The SIDs in a line that a token must not have, until there is none. */
+static void list_unless(hudarin_lines *lines, uint64_t index)
+{
+    unsigned char bytes[HUDARIN_SID_BYTES];
+    char text[HUDARIN_SID_TEXT_BYTES];
+    uint64_t place;
+    for (place = 0;; place++) {
+        hudarin_value value = hudarin_line_value(lines, index, "unless", 6, place, bytes, sizeof bytes);
+        hudarin_written sid = hudarin_sid_bytes_to_full_text(bytes, (size_t)value.written.length, text, sizeof text);
+        if (value.written.status != HUDARIN_OK || sid.status != HUDARIN_OK) {
+            return;
+        }
+        printf("not with %.*s\n", (int)sid.length, text);
+    }
+}
+
+/* Whom a kept descriptor grants the rights: each line as a text, and a part of it as a value. */
+static void who(hudarin_descriptor *descriptor, hudarin_mapping mapping, uint32_t asked)
+{
+    hudarin_lines lines = HUDARIN_NOTHING;
+    hudarin_verdict answer = hudarin_who(descriptor, NULL, 0, NULL, 0, mapping, asked, &lines);
+    uint64_t index, count = answer.status == HUDARIN_OK ? hudarin_lines_count(&lines).length : 0;
+    for (index = 0; index < count; index++) {
+        char text[200];
+        hudarin_written line = hudarin_line_print(&lines, index, 0, text, sizeof text);
+        printf("%.*s", line.status == HUDARIN_OK ? (int)line.length : 0, text);
+        list_unless(&lines, index);
+    }
+    hudarin_free(&lines.kept);
+}
+
 int main(void)
 {
     static const char sddl[] = "o:bag:syd:(d;;fw;;;s-1-5-21-1-2-3-1001)(a;;fa;;;bu)";
@@ -110,8 +141,8 @@ int main(void)
     show("read, as kept", hudarin_check_kept(&kept, &token, files, 0x1));
 
     /* Of all users, not of one. */
-    hudarin_accesses who = hudarin_who(&kept, NULL, 0, NULL, 0, files, 0x2, text, sizeof text);
-    printf("write: %.*s", who.written.status == HUDARIN_OK ? (int)who.written.length : 0, text);
+    printf("write: ");
+    who(&kept, files, 0x2);
     hudarin_free(&kept.kept);
     show("a handle that was freed", hudarin_check_kept(&kept, &token, files, 0x1));
     hudarin_free(&token.kept);

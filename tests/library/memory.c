@@ -5,10 +5,10 @@
 #include "tally.h"
 #include "refusing.h"
 
-/* The last five keep something or check. */
+/* The three before CHECK keep lines; it and those after it check, or keep something by which a check is made. */
 enum call {
     TO_BYTES, TRIM_TEXT, TO_SDDL, CANONICAL, LENGTH, SID_BYTES, SID_TEXT, FULL_TEXT, MASK_TEXT, OWNER, ENTRY, SUBJECT,
-    WHO, COMPARE, CHECK, KEEP_SDDL, KEEP_BYTES, KEEP_TOKEN, SHARE
+    LINE, OBJECT, VALUE, WHO, LINT, COMPARE, CHECK, KEEP_SDDL, KEEP_BYTES, KEEP_TOKEN, SHARE
 };
 
 /* A call, what it is given, and what it answers: what it writes, NULL where that isn't looked at, and how much; a fault of a
@@ -29,6 +29,9 @@ typedef struct row {
 #define CHECKED "O:BAG:SYD:(D;;0x1;;;BU)(A;;FR;;;WD)(A;;FA;;;S-1-5-21-1-2-3-1001)"
 /* The same without one right of the user. */
 #define CHANGED "O:BAG:SYD:(D;;0x1;;;BU)(A;;FR;;;WD)(A;;0x1f01fd;;;S-1-5-21-1-2-3-1001)"
+
+/* Its second entry does nothing. */
+#define DOUBLED "D:(A;;FR;;;BU)(A;;FR;;;BU)"
 
 static const char row_1[] = "010004801400000024000000000000003000000001020000000000052000000020020000010100000000000512000000"
                             "02001c000100000000001400ff011f00010100000000000100000000";
@@ -65,7 +68,12 @@ static const row rows[] = {
     { OWNER, CHECKED, "01020000000000052000000020020000", 16, 0, 0 },
     { ENTRY, CHECKED, "010100000000000100000000", 12, 0, 0 },
     { SUBJECT, CHECKED, "010100000000000100000000", 12, 0, 0 },
+    { LINE, CHECKED, "0x2 to S-1-5-21-1-2-3-1001\n", 27, 0, 0 },
+    { OBJECT, CHECKED, "{\"answer\":\"who\",\"mask\":\"0x2\",\"to\":\"S-1-5-21-1-2-3-1001\"}\n", 57, 0, 0 },
+    { VALUE, "to", "0105000000000005150000000100000002000000" "03000000e9030000", 28, 0, 0 },
+    { VALUE, "answer", "77686f", 3, 0, 0 },
     { WHO, CHECKED, "0x1 to nobody\n0x2 to S-1-5-21-1-2-3-1001\n", 41, 0, 0 },
+    { LINT, DOUBLED, "entry 2 (A;;FR;;;BU) repeats entry 1\nentry 2 (A;;FR;;;BU) has no effect\n", 72, 0, 0 },
     { COMPARE, CHECKED, "lost 0x2 by S-1-5-21-1-2-3-1001\n", 32, 0, 0 },
     { CHECK, CHECKED, NULL, 0, 0, 0 },
     { KEEP_SDDL, CHECKED, NULL, 0, 0, 0 },
@@ -85,13 +93,15 @@ typedef struct loan {
 } loan;
 
 static loan lent;
-static hudarin_descriptor descriptor, changed;
+static hudarin_descriptor descriptor, changed, doubled;
 static hudarin_token token;
-/* What the call keeps, of the one kind or the other. */
+static hudarin_lines lines;
+/* What the call keeps, of one kind or another. */
 static union {
     hudarin_kept kept;
     hudarin_descriptor descriptor;
     hudarin_token token;
+    hudarin_lines lines;
 } held;
 
 /* What a call answered, wrote and keeps, and the verdict on what it keeps. */
@@ -121,6 +131,36 @@ static hudarin_verdict keep_token(hudarin_token *handle)
     return hudarin_keep_token(lent.user, lent.user_length, lent.groups, lent.groups_length, states, 2, NULL, 0, 0, handle);
 }
 
+static hudarin_verdict who(hudarin_lines *handle)
+{
+    return hudarin_who(&descriptor, lent.groups, lent.groups_length, states, 2, files, 0x3, handle);
+}
+
+static hudarin_verdict lint(hudarin_lines *handle)
+{
+    return hudarin_lint(&doubled, lent.groups, lent.groups_length, states, 2, files, handle);
+}
+
+static hudarin_verdict compare(hudarin_lines *handle)
+{
+    return hudarin_compare(&descriptor, &changed, lent.groups, lent.groups_length, states, 2, files, handle).answer;
+}
+
+/* Writes the text of all lines that are kept, or checks by what else is. */
+static void used(const row *row, outcome *it)
+{
+    uint64_t index, count = row->call < CHECK ? hudarin_lines_count(&held.lines).length : 0;
+    for (index = 0; index < count; index++) {
+        char *room = (char *)it->room + it->length;
+        it->length += hudarin_line_print(&held.lines, index, 0, room, sizeof it->room - (size_t)it->length).length;
+    }
+    if (row->call == KEEP_TOKEN) {
+        judged(it, hudarin_check_kept(&descriptor, &held.token, files, 0x80000000u));
+    } else if (row->call > CHECK) {
+        judged(it, hudarin_check_kept(&held.descriptor, &token, files, 0x80000000u));
+    }
+}
+
 static void made(const row *row, outcome *it)
 {
     size_t text = strlen(row->text), room = sizeof it->room;
@@ -140,12 +180,12 @@ static void made(const row *row, outcome *it)
     case OWNER: written(it, hudarin_descriptor_owner(&descriptor, it->room, room)); break;
     case ENTRY: written(it, hudarin_descriptor_entry(&descriptor, 1, it->room, room).written); break;
     case SUBJECT: written(it, hudarin_descriptor_subject(&descriptor, 1, it->room, room)); break;
-    case WHO:
-        written(it, hudarin_who(&descriptor, lent.groups, lent.groups_length, states, 2, files, 0x3, chars, room).written);
-        break;
-    case COMPARE:
-        written(it, hudarin_compare(&descriptor, &changed, lent.groups, lent.groups_length, states, 2, files, chars, room).written);
-        break;
+    case LINE: written(it, hudarin_line_print(&lines, 1, 0, chars, room)); break;
+    case OBJECT: written(it, hudarin_line_print(&lines, 1, 1, chars, room)); break;
+    case VALUE: written(it, hudarin_line_value(&lines, 1, row->text, text, 0, it->room, room).written); break;
+    case WHO: judged(it, who(&held.lines)); break;
+    case LINT: judged(it, lint(&held.lines)); break;
+    case COMPARE: judged(it, compare(&held.lines)); break;
     case CHECK:
         judged(it, hudarin_check(lent.bytes, lent.length, lent.user, lent.user_length, lent.groups, lent.groups_length, states, 2,
                                  NULL, 0, 0, files, 0x80000000u));
@@ -157,9 +197,7 @@ static void made(const row *row, outcome *it)
     }
     granted = -1;
     if (held.kept.is_there) {
-        int is_token = row->call == KEEP_TOKEN;
-        judged(it, hudarin_check_kept(is_token ? &descriptor : &held.descriptor, is_token ? &held.token : &token, files,
-                                      0x80000000u));
+        used(row, it);
     }
 }
 
@@ -193,8 +231,8 @@ static size_t bytes_of(const char *digits, unsigned char *bytes)
 
 static int writes_text(enum call call)
 {
-    return call == TO_SDDL || call == CANONICAL || call == SID_TEXT || call == FULL_TEXT || call == MASK_TEXT || call == WHO ||
-           call == COMPARE;
+    return call == TO_SDDL || call == CANONICAL || call == SID_TEXT || call == FULL_TEXT || call == MASK_TEXT ||
+           call == LINE || call == OBJECT || (call >= WHO && call <= COMPARE);
 }
 
 /* Whether the row's text or bytes were written. */
@@ -279,6 +317,7 @@ static void takes_none(void)
         HOLDS(verdict.status == HUDARIN_OK && verdict.kind == HUDARIN_DENIED && verdict.mask == 1);
         HOLDS(hudarin_mask_from_text("RCSD", 4).mask == 0x30000u);
         HOLDS(hudarin_descriptor_dacl(&descriptor).entries == 3);
+        HOLDS(hudarin_lines_count(&lines).length == 2);
         HOLDS(hudarin_status_text(HUDARIN_MEMORY, (char *)bytes + length, 13).length == 13);
         HOLDS(hudarin_fault_name(HUDARIN_SID, HUDARIN_SID_SHORT, (char *)bytes + length, 5).length == 5);
     }
@@ -296,7 +335,8 @@ int main(void)
     HOLDS(lent.user_length == 28 && lent.groups_length == 28 && taken == 0);
     HOLDS(hudarin_keep_sddl(CHECKED, sizeof CHECKED - 1, &descriptor).status == HUDARIN_OK);
     HOLDS(hudarin_keep_sddl(CHANGED, sizeof CHANGED - 1, &changed).status == HUDARIN_OK);
-    HOLDS(keep_token(&token).status == HUDARIN_OK);
+    HOLDS(hudarin_keep_sddl(DOUBLED, sizeof DOUBLED - 1, &doubled).status == HUDARIN_OK);
+    HOLDS(keep_token(&token).status == HUDARIN_OK && who(&lines).status == HUDARIN_OK);
     HOLDS(descriptor.kept.is_there && token.kept.is_there);
     for (at = 0; at < sizeof rows / sizeof rows[0]; at++) {
         static outcome due;
@@ -310,7 +350,9 @@ int main(void)
     takes_none();
     hudarin_free(&descriptor.kept);
     hudarin_free(&changed.kept);
+    hudarin_free(&doubled.kept);
     hudarin_free(&token.kept);
+    hudarin_free(&lines.kept);
     HOLDS(taken == 0 && refusals > 0);
     printf("%ld requests for memory were refused\n", refusals);
     return close_tally();

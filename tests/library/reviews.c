@@ -1,9 +1,10 @@
 /*
  * What a publish would change, a node at a time, beside the lines of `sdstore script` for the same edits, which
- * tests/scripts/reviews.rows has; each buffer too small, a handle that keeps nothing, and each request for memory
- * refused.
+ * tests/scripts/reviews.rows has; each buffer too small, a handle that keeps nothing, one for lines that is in use, and
+ * each request for memory refused. `reviews FORMS`, where that is docs/JSON.md.
  */
 #include "edits.h"
+#include "forms.h"
 #include "refusing.h"
 
 /* A line of a script: an edit, a publish (0), or the lines of a review up to its last one. */
@@ -83,85 +84,117 @@ static const step exchanged[] = {
     END,
 };
 
-/* The bits of the lines of a kind. */
-static uint32_t bits_of(const char *lines, size_t length, const char *kind)
-{
-    uint32_t bits = 0;
-    size_t at, size = strlen(kind);
-    for (at = 0; at + size < length; at++) {
-        if ((at == 0 || lines[at - 1] == '\n') && memcmp(lines + at, kind, size) == 0) {
-            bits |= (uint32_t)strtoul(lines + at + size, NULL, 16);
-        }
-    }
-    return bits;
-}
+/* What a place is answered: the paths, the lines, and their text. */
+struct told {
+    hudarin_review review;
+    char room[400], text[1000];
+    hudarin_lines lines;
+};
 
-/* Adds the lines of a node to a text, as a script has them. */
-static size_t add_lines(char *text, const hudarin_review *review, const char *room)
+/* Adds the lines of a node to a text, as a script has them, and looks at the values of each; how long it is then. */
+static size_t add_lines(char *text, struct told *told)
 {
-    const char *before = room + review->path, *line = before + review->before, *end = room + review->written.length;
-    int path = (int)review->path;
-    size_t length = 0;
-    if (review->what == HUDARIN_REVIEW_NEW || review->what == HUDARIN_REVIEW_GONE) {
-        length += (size_t)sprintf(text, "%s %.*s\n", review->what == HUDARIN_REVIEW_NEW ? "new" : "gone", path, room);
-    } else if (review->what == HUDARIN_REVIEW_MOVED) {
-        length += (size_t)sprintf(text, "moved %.*s %.*s\n", (int)review->before, before, path, room);
+    const char *room = told->room, *before = room + told->review.path;
+    int path = (int)told->review.path;
+    uint64_t index, count = hudarin_lines_count(&told->lines).length;
+    size_t length = 0, end = 0;
+    told->text[0] = 0;
+    if (told->review.what == HUDARIN_REVIEW_NEW || told->review.what == HUDARIN_REVIEW_GONE) {
+        const char *word = told->review.what == HUDARIN_REVIEW_NEW ? "new" : "gone";
+        length += (size_t)sprintf(text, "%s %.*s\n", word, path, room);
+    } else if (told->review.what == HUDARIN_REVIEW_MOVED) {
+        length += (size_t)sprintf(text, "moved %.*s %.*s\n", (int)told->review.before, before, path, room);
     }
-    while (line < end) {
-        const char *next = (const char *)memchr(line, '\n', (size_t)(end - line)) + 1;
-        length += (size_t)sprintf(text + length, "%.*s %.*s", path, room, (int)(next - line), line);
-        line = next;
+    for (index = 0; index < count; index++) {
+        char line[ROOM];
+        size_t size = (size_t)hudarin_line_print(&told->lines, index, 0, line, sizeof line).length;
+        HOLDS(size > 0 && size < sizeof line && line[size - 1] == '\n');
+        line[size - 1] = 0;
+        line_is(&told->lines, index, line);
+        end += (size_t)sprintf(told->text + end, "%s\n", line);
+        length += (size_t)sprintf(text + length, "%.*s %s\n", path, room, line);
     }
+    no_line(&told->lines, count, HUDARIN_NO_PART);
     return length;
 }
 
-/* One place, with each buffer that is too small by a byte, and each request for memory refused. */
-static hudarin_review review_at(hudarin_store *store, uint64_t place, char *room, size_t length)
+/* One place, once more for each request for memory, of which that one is refused; what is answered in the end. */
+static void told_at(hudarin_store *store, uint64_t place, struct told *told)
 {
-    hudarin_review review = hudarin_store_review(store, place, NULL, 0), told;
+    static const hudarin_lines nothing = HUDARIN_NOTHING;
     long at = 0, blocks = taken;
-    size_t size = (size_t)review.written.length;
     do {
-        memset(room, 0x5A, length);
+        memset(told->room, 0x5A, sizeof told->room);
+        told->lines = nothing;
         granted = at++;
-        told = hudarin_store_review(store, place, room, length);
+        told->review = hudarin_store_review(store, place, told->room, sizeof told->room, &told->lines);
         granted = -1;
-        HOLDS(taken == blocks && (told.written.status == HUDARIN_OK || (room[0] == 0x5A && told.what == 0 && told.path == 0)));
-    } while (told.written.status == HUDARIN_MEMORY && at < 1000);
-    if (review.written.status == HUDARIN_NO_NODE) {
-        HOLDS(told.written.status == HUDARIN_NO_NODE && told.written.length == 0 && told.gained == 0 && told.lost == 0);
-        return told;
+        HOLDS(told->lines.kept.is_there == (told->review.written.status == HUDARIN_OK ? 1u : 0u));
+        HOLDS(told->lines.kept.is_there || (taken == blocks && told->room[0] == 0x5A && told->review.what == 0));
+    } while (told->review.written.status == HUDARIN_MEMORY && at < 1000);
+}
+
+static int is_same(const hudarin_review *one, const hudarin_review *other)
+{
+    return one->what == other->what && one->gained == other->gained && one->lost == other->lost &&
+           one->path == other->path && one->before == other->before && one->written.length == other->written.length;
+}
+
+/* A buffer that is too small by some bytes, up to all, gets nothing, and no line is kept; one that is just large enough
+ * is. */
+static void rooms_of(hudarin_store *store, uint64_t place, const struct told *told)
+{
+    size_t length, size = (size_t)told->review.written.length;
+    for (length = 0; length <= size; length++) {
+        hudarin_lines lines = HUDARIN_NOTHING;
+        unsigned char *room = fresh_room(length);
+        int has_room = length == size;
+        hudarin_review review = hudarin_store_review(store, place, length == 0 ? NULL : (char *)room, length, &lines);
+        HOLDS(review.written.status == (has_room ? HUDARIN_OK : HUDARIN_ROOM) && is_same(&review, &told->review));
+        HOLDS(room_is(room, length, told->room, has_room ? size : 0) && lines.kept.is_there == (has_room ? 1u : 0u));
+        hudarin_free(&lines.kept);
     }
-    HOLDS(review.written.status == HUDARIN_ROOM && size > 0 && size < length && room[size] == 0x5A);
-    HOLDS(told.written.length == size && told.what == review.what && told.path == review.path && told.before == review.before);
-    HOLDS(told.gained == review.gained && told.lost == review.lost);
-    memset(room, 0x5A, size);
-    review = hudarin_store_review(store, place, room, size - 1);
-    HOLDS(review.written.status == HUDARIN_ROOM && review.written.length == size && room[0] == 0x5A);
-    return hudarin_store_review(store, place, room, size);
+}
+
+/* A handle that keeps lines is refused before the store, and unchanged. */
+static void in_use(hudarin_store *store, uint64_t place, hudarin_lines *lines)
+{
+    hudarin_store nothing = HUDARIN_NOTHING;
+    hudarin_kept before = lines->kept;
+    unsigned char *room = fresh_room(ROOM);
+    HOLDS(hudarin_store_review(store, place, (char *)room, ROOM, lines).written.status == HUDARIN_HANDLE);
+    HOLDS(hudarin_store_review(&nothing, place, (char *)room, ROOM, lines).written.status == HUDARIN_HANDLE);
+    HOLDS(room_is(room, ROOM, "", 0) && lines->kept.at == before.at && lines->kept.is_there == 1);
 }
 
 /* The text of all places, whose numbers are those of the nodes of both trees. */
 static void reviews(hudarin_store *store, const char *wanted)
 {
-    char room[400], text[1000] = "";
+    static struct told told;
+    char text[1000] = "";
     size_t length = 0;
     uint64_t place;
     for (place = 0;; place++) {
-        hudarin_review review = review_at(store, place, room, sizeof room);
-        size_t lines = (size_t)(review.path + review.before);
-        if (review.written.status != HUDARIN_OK) {
+        const hudarin_review *review = &told.review;
+        size_t first = length;
+        told_at(store, place, &told);
+        if (review->written.status != HUDARIN_OK) {
             break;
         }
-        HOLDS(review.gained == bits_of(room + lines, (size_t)review.written.length - lines, "gained "));
-        HOLDS(review.lost == bits_of(room + lines, (size_t)review.written.length - lines, "lost "));
-        HOLDS((review.what == HUDARIN_REVIEW_MOVED) == (review.before > 0));
-        HOLDS(review.what != HUDARIN_REVIEW_SAME || review.written.length == review.path);
-        HOLDS(review.what != HUDARIN_REVIEW_CHANGED || review.written.length > review.path);
-        length += add_lines(text + length, &review, room);
+        HOLDS(review->written.length == review->path + review->before && told.room[review->written.length] == 0x5A);
+        HOLDS((review->what == HUDARIN_REVIEW_MOVED) == (review->before > 0));
+        length += add_lines(text + length, &told);
+        HOLDS(review->gained == bits_of(told.text, "gained ") && review->lost == bits_of(told.text, "lost "));
+        HOLDS((review->what == HUDARIN_REVIEW_SAME || review->what == HUDARIN_REVIEW_STANDS) == (length == first));
+        HOLDS(review->what != HUDARIN_REVIEW_CHANGED || told.text[0] != 0);
+        rooms_of(store, place, &told);
+        in_use(store, place, &told.lines);
+        hudarin_free(&told.lines.kept);
     }
-    HOLDS(strcmp(text, wanted) == 0);
-    HOLDS(hudarin_store_review(store, UINT64_MAX, room, sizeof room).written.status == HUDARIN_NO_NODE);
+    HOLDS(told.review.written.status == HUDARIN_NO_NODE && told.review.written.length == 0 && told.review.path == 0);
+    HOLDS(told.review.what == 0 && told.review.gained == 0 && told.review.lost == 0 && strcmp(text, wanted) == 0);
+    HOLDS(hudarin_store_review(store, UINT64_MAX, NULL, 0, &told.lines).written.status == HUDARIN_NO_NODE);
+    HOLDS(told.lines.kept.is_there == 0);
 }
 
 static void script(const char *root, const step *steps)
@@ -208,22 +241,27 @@ static void reverts(void)
     hudarin_free(&store.kept);
 }
 
-/* A handle that keeps no store is refused, and nothing is written. */
+/* A handle that keeps no store is refused, and nothing is written or kept. */
 static void kinds(void)
 {
     hudarin_descriptor descriptor = HUDARIN_NOTHING;
     hudarin_store nothing = HUDARIN_NOTHING;
+    hudarin_lines lines = HUDARIN_NOTHING;
     char room[8] = { 0x5A };
-    hudarin_review review = hudarin_store_review(&nothing, 0, room, sizeof room);
-    HOLDS(review.written.status == HUDARIN_HANDLE && review.what == 0 && room[0] == 0x5A);
+    hudarin_review review = hudarin_store_review(&nothing, 0, room, sizeof room, &lines);
+    HOLDS(review.written.status == HUDARIN_HANDLE && review.what == 0 && room[0] == 0x5A && lines.kept.is_there == 0);
     HOLDS(hudarin_keep_sddl("D:", 2, &descriptor).status == HUDARIN_OK);
-    review = hudarin_store_review((hudarin_store *)&descriptor, 0, room, sizeof room);
-    HOLDS(review.written.status == HUDARIN_HANDLE && review.what == 0 && room[0] == 0x5A && descriptor.kept.is_there == 1);
+    review = hudarin_store_review((hudarin_store *)&descriptor, 0, room, sizeof room, &lines);
+    HOLDS(review.written.status == HUDARIN_HANDLE && review.what == 0 && room[0] == 0x5A && lines.kept.is_there == 0);
+    HOLDS(descriptor.kept.is_there == 1);
     hudarin_free(&descriptor.kept);
 }
 
-int main(void)
+int main(int count, char **arguments)
 {
+    HOLDS(count == 2);
+    open_rooms();
+    read_forms(arguments[1]);
     script(first_root, inherited);
     script(first_root, moved);
     script(empty_root, exchanged);
