@@ -24,6 +24,10 @@ print("write:", *descriptor.who(0x2))
 for change in descriptor.compare(Descriptor.from_sddl("O:BAG:SYD:(A;;FA;;;BU)")).gained:
     print(change)
 
+# What is doubtful in a descriptor.
+for finding in Descriptor.from_sddl("D:(A;;FR;;;BU)(A;;FR;;;BU)").lint():
+    print(finding.entry, finding.kind)
+
 # What a publish would change, of the nodes of a tree.
 with Store(Descriptor.from_sddl("O:BAG:SYD:(A;OICI;FR;;;BU)")) as store:
     store.add_object("/report", Descriptor.from_sddl("O:BAG:SYD:"))

@@ -22,9 +22,8 @@ import ctypes
 import functools
 import itertools
 import os
-import re
 import threading
-from typing import Any, Callable, ContextManager, Iterable, Iterator, List, NamedTuple, NoReturn, Optional
+from typing import Any, Callable, ContextManager, Dict, Iterable, Iterator, List, NamedTuple, NoReturn, Optional
 from typing import SupportsBytes, Tuple, Type, TypeVar, Union, cast
 
 __version__ = "0.2.0"
@@ -45,6 +44,7 @@ __all__ = [
     "FAULTS",
     "FILES",
     "FLAGS",
+    "Finding",
     "Group",
     "Judge",
     "KEYS",
@@ -114,6 +114,7 @@ ARGUMENTS = {
     14: "new descriptor",
     15: "nodes",
     16: "edits",
+    17: "lines",
 }
 
 CAUSES = {
@@ -147,6 +148,8 @@ _DESCRIPTOR_BYTES = 65688
 _LIST, _ALLOW, _PROTECTED = 3, 1, 0x1000
 _BY_THE_LIST = 2
 _NO_PASS, _NO_ENTRY = 0, 3
+_OF_SID, _OF_TEXT = 3, 4
+_OF_DENIES, _RESTRICTING = 1, 2
 _REVIEWS = {2: "changed", 3: "new", 4: "moved", 5: "gone"}
 _ADD_CONTAINER, _ADD_OBJECT, _SET_OWNER, _SET_GROUP, _SET_DACL, _REMOVE, _PROTECT_KEEPING, _MOVE = range(1, 9)
 
@@ -207,12 +210,13 @@ class _EntryAnswer(ctypes.Structure):
     _fields_ = [("written", _Written), ("kind", _U32), ("flags", _U32), ("mask", _U32)]
 
 
-class _Accesses(ctypes.Structure):
-    _fields_ = [("written", _Written), ("argument", _U32)]
-
-
 class _Comparison(ctypes.Structure):
-    _fields_ = [("written", _Written), ("argument", _U32), ("gained", _U32), ("lost", _U32)]
+    _fields_ = [("answer", _Verdict), ("gained", _U32), ("lost", _U32)]
+
+
+class _Value(ctypes.Structure):
+    # What is written is here field by field, as in _ViewVerdict.
+    _fields_ = [*_Written._fields_, ("kind", _U32), ("number", _U64)]
 
 
 class _Review(ctypes.Structure):
@@ -299,15 +303,19 @@ def _load() -> ctypes.CDLL:
         "check_kept": ([kept, kept] + request, _Verdict),
         "check_bytes": (given + [kept] + request, _Verdict),
         "explain": ([kept, kept] + request, _Explanation),
-        "who": ([kept] + groups + request + buffer, _Accesses),
-        "compare": ([kept, kept] + groups + [_Mapping] + buffer, _Comparison),
+        "who": ([kept] + groups + request + [kept], _Verdict),
+        "lint": ([kept] + groups + [_Mapping, kept], _Verdict),
+        "compare": ([kept, kept] + groups + [_Mapping, kept], _Comparison),
+        "lines_count": ([kept], _Written),
+        "line_print": ([kept, _U64, _U32] + buffer, _Written),
+        "line_value": ([kept, _U64] + given + [_U64] + buffer, _Value),
         "share": ([kept, kept], _Written),
         "store_open_within": (given + [_Mapping, _U64, _U64, kept], _Verdict),
         "store_edit": ([kept, _U32] + given * 2, _Verdict),
         "store_judge": ([kept, _U32] + given * 2, _Verdict),
         "store_publish": ([kept, kept], _Written),
         "store_revert": ([kept, kept], _Written),
-        "store_review": ([kept, _U64] + buffer, _Review),
+        "store_review": ([kept, _U64] + buffer + [kept], _Review),
         "view_check": ([kept] + given + [kept, _U32], _ViewVerdict),
         "view_descriptor": ([kept] + given + buffer, _Written),
         "view_own": ([kept] + given + buffer, _NodeAnswer),
@@ -324,9 +332,21 @@ def _load() -> ctypes.CDLL:
 
 _library = _load()
 
-# The same call without leaving Python's lock: it takes less than to leave that, and to wait for the next turn.
-_view_check = ctypes.PyDLL(_library._name, handle=_library._handle).hudarin_view_check
-_view_check.argtypes, _view_check.restype = _library.hudarin_view_check.argtypes, _ViewVerdict
+_short_calls = ctypes.PyDLL(_library._name, handle=_library._handle)
+
+
+def _short(name: str) -> Callable[..., Any]:
+    """A short call of the library. It is made without leaving Python's lock: to leave that, and to wait for the next
+    turn, takes longer."""
+    call, same = getattr(_short_calls, name), getattr(_library, name)
+    call.argtypes, call.restype = same.argtypes, same.restype
+    return cast(Callable[..., Any], call)
+
+
+_view_check = _short("hudarin_view_check")
+_lines_count = _short("hudarin_lines_count")
+_line_print = _short("hudarin_line_print")
+_line_value = _short("hudarin_line_value")
 
 
 def _fault_names(status: int) -> Iterator[str]:
@@ -825,39 +845,124 @@ class Comparison(NamedTuple):
         return "\n".join(filter(None, lines)) or "same"
 
 
-_ACCESS = re.compile(r"(0x[0-9a-f]+) to (\S+)( as the owner)?(?: unless (.+))?")
-_CHANGE = re.compile(r"(?:(.+): )?(gained|lost) (0x[0-9a-f]+) by (\S+)(?: (\S+)=deny)?((?: \S+=restrict)*)")
-_INHERITANCE = "inheritance: "
+class Finding(NamedTuple):
+    """What is doubtful in a descriptor. It prints as a line of ``sdstore lint``."""
+
+    #: "no effect", "out of order" and so on: a kind of docs/JSON.md.
+    kind: str
+    #: The entry of which it is, counted from 1, and its text; or None.
+    entry: Optional[int]
+    ace: Optional[str]
+    #: The entry that this one is behind, or that it repeats, counted from 1; or None.
+    other: Optional[int]
+    #: The line.
+    text: str
+
+    def __str__(self) -> str:
+        return self.text
 
 
-def _fields(form: "re.Pattern[str]", line: str) -> Tuple[Any, ...]:
-    """The fields of a line that the library wrote."""
-    found = form.fullmatch(line)
-    if found is None:
-        raise RuntimeError(f"the library wrote {line!r}")
-    return found.groups()
+class _Lines:
+    """The lines of an answer, until the end of a ``with``. They are of one call, so no other thread has them."""
+
+    __slots__ = ("_buffer", "_kept", "_sids")
+
+    def __init__(self) -> None:
+        self._kept = _Kept()
+        self._buffer = (ctypes.c_char * 256)()
+        # By their bytes: making one takes longer than finding it.
+        self._sids: Dict[bytes, Sid] = {}
+
+    def close(self) -> None:
+        """Frees the lines. Others can be kept then."""
+        _library.hudarin_release(self._kept)
+
+    def __enter__(self) -> "_Lines":
+        return self
+
+    def __exit__(self, *_: object) -> None:
+        self.close()
+
+    def __len__(self) -> int:
+        return int(_checked(_lines_count(self._kept)).length)
+
+    def printed(self, index: int) -> str:
+        """The line as the program prints it, without its end."""
+        length = _checked(self._written(_line_print, index, 0)).length
+        return self._buffer.raw[: length - 1].decode()
+
+    def value(self, index: int, name: bytes) -> Any:
+        """The value that has this name in JSON: a number, a ``Sid`` or a text; or None."""
+        return self._found(index, name, 0)[0]
+
+    def sids(self, index: int, name: bytes) -> List[Tuple[Sid, int]]:
+        """The SIDs of this name, each with what it is in a token."""
+        found: List[Tuple[Sid, int]] = []
+        for place in itertools.count():
+            sid, mark = self._found(index, name, place)
+            if sid is None:
+                break
+            found.append((sid, mark))
+        return found
+
+    def _found(self, index: int, name: bytes, place: int) -> Tuple[Any, int]:
+        """The value at the place, and the number of the library's answer; or None and 0."""
+        answer = self._written(_line_value, index, name, len(name), place)
+        if answer.status == _NO_PART:
+            return None, 0
+        _checked(answer)
+        data = self._buffer.raw[: answer.length]
+        if answer.kind == _OF_SID:
+            return self._sid(data), answer.number
+        return data.decode() if answer.kind == _OF_TEXT else answer.number, 0
+
+    def _written(self, call: Callable[..., Any], *arguments: Any) -> Any:
+        """The answer of a call that writes into the buffer; one that is too small is replaced."""
+        while True:
+            answer = call(self._kept, *arguments, self._buffer, len(self._buffer))
+            if answer.status != _ROOM:
+                return answer
+            self._buffer = (ctypes.c_char * answer.length)()
+
+    def _sid(self, data: bytes) -> Sid:
+        found = self._sids.get(data)
+        if found is None:
+            found = self._sids[data] = Sid._of(data)
+        return found
 
 
-def _access(line: str) -> Access:
-    bits, holder, as_owner, unless = _fields(_ACCESS, line)
-    sid = None if holder in ("everyone", "nobody") else Sid.from_text(holder)
-    kind = holder if sid is None else "owner" if as_owner else "sid"
-    return Access(int(bits, 16), kind, sid, tuple(map(Sid.from_text, (unless or "").split())))
+def _access(lines: _Lines, index: int) -> Access:
+    to = lines.value(index, b"to")
+    sid = to if isinstance(to, Sid) else None
+    holder = to if sid is None else lines.value(index, b"as") or "sid"
+    return Access(lines.value(index, b"mask"), holder, sid, tuple(each for each, _ in lines.sids(index, b"unless")))
 
 
-def _change(line: str, everyone: Sid, base: Tuple[Group, ...]) -> Change:
-    """A change; ``everyone`` is a user whom neither descriptor names."""
-    of, kind, bits, user, denied, restricting = _fields(_CHANGE, line)
+def _change(lines: _Lines, index: int, everyone: Callable[[], Sid], base: Tuple[Group, ...]) -> Change:
+    """A change; ``everyone`` finds a user whom neither descriptor names."""
+    user, others = lines.value(index, b"by"), lines.sids(index, b"with")
     return Change(
-        kind,
-        int(bits, 16),
-        everyone if user == "everyone" else Sid.from_text(user),
-        user == "everyone",
-        Sid.from_text(denied) if denied else None,
-        tuple(Sid.from_text(word.partition("=")[0]) for word in restricting.split()),
+        lines.value(index, b"answer").partition(" ")[0],
+        lines.value(index, b"mask"),
+        user if isinstance(user, Sid) else everyone(),
+        not isinstance(user, Sid),
+        next((sid for sid, mark in others if mark == _OF_DENIES), None),
+        tuple(sid for sid, mark in others if mark == _RESTRICTING),
         base,
-        of or "",
+        _descendant(lines, index),
     )
+
+
+def _descendant(lines: _Lines, index: int) -> str:
+    """What is made in a container of which a line is; "" of the container itself."""
+    new, below = lines.value(index, b"new"), lines.value(index, b"below")
+    return f"new {new}" if new else f"{below} below new containers" if below else ""
+
+
+def _finding(lines: _Lines, index: int) -> Finding:
+    kind, entry, ace = (lines.value(index, name) for name in (b"answer", b"entry", b"ace"))
+    other = lines.value(index, b"behind") or lines.value(index, b"repeats")
+    return Finding(kind, entry, ace, other, lines.printed(index))
 
 
 class Descriptor(_Bytes):
@@ -979,9 +1084,17 @@ class Descriptor(_Bytes):
         token that nothing restricts, and without privileges, is granted a right if and only if one of the accesses with
         that right holds for it."""
         given, request = _groups(base), (_mapping(mapping), _mask(asked, "asked"))
-        with KeptDescriptor(self) as kept:
-            lines, _ = _filled(lambda *buffer: _library.hudarin_who(kept._kept, *given, *request, *buffer))
-        return tuple(map(_access, lines.decode().splitlines()))
+        with KeptDescriptor(self) as kept, _Lines() as lines:
+            _checked(_library.hudarin_who(kept._kept, *given, *request, lines._kept))
+            return tuple(_access(lines, index) for index in range(len(lines)))
+
+    def lint(self, base: Iterable[Group] = (), mapping: Iterable[Mask] = FILES) -> Tuple[Finding, ...]:
+        """What is doubtful in the descriptor, where all tokens have the groups of the ``base``, in the order of
+        ``sdstore lint``. Without the entries that have no effect no check of such a token has another verdict."""
+        given, masks = _groups(base), _mapping(mapping)
+        with KeptDescriptor(self) as kept, _Lines() as lines:
+            _checked(_library.hudarin_lint(kept._kept, *given, masks, lines._kept))
+            return tuple(_finding(lines, index) for index in range(len(lines)))
 
     def compare(
         self, new: "Descriptor", base: Iterable[Group] = (), mapping: Iterable[Mask] = FILES
@@ -989,15 +1102,15 @@ class Descriptor(_Bytes):
         """What tokens that have the groups of the ``base`` gain and lose if ``new`` takes this descriptor's place, each
         change with a token that shows it; also of what is made in it, if it is a container. No token gains or loses
         another right, restricted ones and those with privileges included."""
-        groups = tuple(base)
+        groups, everyone = tuple(base), functools.lru_cache(None)(lambda: _unnamed(self, new))
         given, masks = _groups(groups), _mapping(mapping)
-        with KeptDescriptor(self) as kept, KeptDescriptor(new) as other:
-            call = _library.hudarin_compare
-            lines, _ = _filled(lambda *buffer: call(kept._kept, other._kept, *given, masks, *buffer))
-        everyone = _unnamed(self, new)
-        found = [line for line in lines.decode().splitlines() if line != "same"]
-        inheritance = found.pop() if found and found[-1].startswith(_INHERITANCE) else ""
-        changes = [_change(line, everyone, groups) for line in found]
+        with KeptDescriptor(self) as kept, KeptDescriptor(new) as other, _Lines() as lines:
+            _checked(_library.hudarin_compare(kept._kept, other._kept, *given, masks, lines._kept).answer)
+            count, inheritance = len(lines), ""
+            # The line about protection is the last one, and has no bits.
+            if count > 0 and lines.value(count - 1, b"mask") is None:
+                count, inheritance = count - 1, lines.printed(count - 1)
+            changes = [_change(lines, index, everyone, groups) for index in range(count)]
         own = [tuple(each for each in changes if (each.of, each.kind) == ("", kind)) for kind in ("gained", "lost")]
         return Comparison(own[0], own[1], tuple(each for each in changes if each.of), inheritance)
 
@@ -1010,8 +1123,8 @@ def _unnamed(*descriptors: Descriptor) -> Sid:
 
 
 def _entry_texts(text: str) -> Tuple[str, ...]:
-    """The entries of a canonical text: each is from a bracket to the next."""
-    return tuple(re.findall(r"\([^()]*\)", text))
+    """The entries of a canonical text, which ends with them: each begins with a bracket, and has no other such one."""
+    return tuple("(" + entry for entry in text.split("(")[1:])
 
 
 class KeptDescriptor(_Held):
@@ -1252,10 +1365,12 @@ class Reviewed(NamedTuple):
         return "\n".join(lines)
 
 
-def _reviewed(written: bytes, answer: Any) -> Reviewed:
-    end = answer.path + answer.before
-    path, before = written[: answer.path].decode(), written[answer.path : end].decode()
-    changes = tuple(written[end:].decode().splitlines())
+def _reviewed(written: bytes, answer: Any, lines: _Lines) -> Optional[Reviewed]:
+    """What the library wrote and answered of a place, or None if nothing happens to the node there."""
+    if answer.what not in _REVIEWS:
+        return None
+    path, before = written[: answer.path].decode(), written[answer.path :].decode()
+    changes = tuple(map(lines.printed, range(len(lines))))
     return Reviewed(_REVIEWS[answer.what], path, before or None, answer.gained, answer.lost, changes)
 
 
@@ -1311,22 +1426,25 @@ class Store(_Held, _Edits):
         alone: each node of the tree that is new, moved or changed, in the order of the paths, and then each that is
         gone. The next one after an edit is a RuntimeError."""
         length = len(self)
-        for place in itertools.count():
-            try:
-                written, answer = self._review_at(place)
-            except Refused as refused:
-                if refused.status == STATUSES[_NO_NODE]:
-                    return
-                raise
-            if len(self) != length:
-                raise RuntimeError("the store was edited during its review")
-            if answer.what in _REVIEWS:
-                yield _reviewed(written, answer)
+        with _Lines() as lines:
+            for place in itertools.count():
+                try:
+                    written, answer = self._review_at(place, lines)
+                except Refused as refused:
+                    if refused.status == STATUSES[_NO_NODE]:
+                        return
+                    raise
+                if len(self) != length:
+                    raise RuntimeError("the store was edited during its review")
+                reviewed = _reviewed(written, answer, lines)
+                lines.close()
+                if reviewed is not None:
+                    yield reviewed
 
-    def _review_at(self, place: int) -> Tuple[bytes, Any]:
+    def _review_at(self, place: int, lines: _Lines) -> Tuple[bytes, Any]:
         with self._turn:
             return _filled(
-                lambda *buffer: _library.hudarin_store_review(self._kept, place, *buffer),
+                lambda *buffer: _library.hudarin_store_review(self._kept, place, *buffer, lines._kept),
                 argument=lambda _: self._argument,
             )
 

@@ -11,6 +11,7 @@ from hudarin import (
     Descriptor,
     Entry,
     Explanation,
+    Finding,
     KeptDescriptor,
     Node,
     Refused,
@@ -31,6 +32,8 @@ why: Explanation = descriptor.explain(user, asked=0x1, mapping=("FR", "FW", 0, "
 kind: str = verdict.kind
 accesses: Tuple[Access, ...] = descriptor.who("FR", [user, (user, DENY_ONLY)], mapping=FILES)
 holders: Tuple[Optional[Sid], ...] = tuple(access.sid for access in descriptor.who())
+findings: Tuple[Finding, ...] = descriptor.lint([user, (user, DENY_ONLY)], mapping=FILES)
+numbers: Tuple[Optional[int], ...] = tuple(finding.entry for finding in descriptor.lint())
 comparison: Comparison = descriptor.compare(descriptor, [user])
 changes: Tuple[Change, ...] = comparison.gained + comparison.lost
 tokens: Tuple[Token, ...] = tuple(change.token() for change in changes)
@@ -71,6 +74,7 @@ descriptor.check(user, ["WD"])  # type: ignore
 descriptor.check(user, asked=1.0)  # type: ignore
 descriptor.check_by(user)  # type: ignore
 descriptor.who(1.0)  # type: ignore
+descriptor.lint(1.0)  # type: ignore
 descriptor.compare("D:")  # type: ignore
 sid: Sid = descriptor.owner  # type: ignore
 copied.owner = user  # type: ignore

@@ -25,6 +25,7 @@ from hudarin import (  # noqa: E402
     Comparison,
     Descriptor,
     Explanation,
+    Finding,
     KeptDescriptor,
     Part,
     Refused,
@@ -80,6 +81,7 @@ VALUES = {
     "a Verdict": Verdict("denied", 0x2),
     "an Explanation": READERS.explain(USER, [USERS], 0x3),
     "an Entry": (READERS.entries or ())[0],
+    "a Finding": Descriptor.from_sddl("O:BA").lint()[0],
 }
 
 
@@ -351,6 +353,7 @@ def analysis() -> None:
     wide, state = (0, 0, 0, 0x200000), [USERS, (USERS, 0x1)]
     asks: List[Tuple[str, Callable[..., Any]]] = [
         ("who", lambda **words: READERS.who("FR", **words)),
+        ("lint", lambda **words: READERS.lint(**words)),
         ("compare", lambda **words: READERS.compare(READERS, **words)),
     ]
     for name, ask in asks:
@@ -359,6 +362,28 @@ def analysis() -> None:
         raises(f"{name}, no groups", TypeError, lambda: ask(base=USERS))
         raises(f"{name}, texts for groups", TypeError, lambda: ask(base=["WD"]))
     raises("compare with a text", TypeError, lambda: READERS.compare("D:"))  # type: ignore[arg-type]
+
+
+def findings() -> None:
+    """What is doubtful in a descriptor, as values: the worked rows of docs/CHECK.md, and of tests/program."""
+    twice = Descriptor.from_sddl("D:(A;;FR;;;BU)(A;;FR;;;BU)").lint()
+    repeated = Finding("repeated", 2, "(A;;FR;;;BU)", 1, "entry 2 (A;;FR;;;BU) repeats entry 1")
+    useless = Finding("no effect", 2, "(A;;FR;;;BU)", None, "entry 2 (A;;FR;;;BU) has no effect")
+    gives("an entry twice", (repeated, useless), lambda: twice)
+    gives("its lines", (repeated.text, useless.text), lambda: tuple(map(str, twice)))
+    gives("nothing", (), READERS.lint)
+    absent = (Finding("no DACL", None, None, None, "no DACL grants everything"),)
+    gives("of no entry", absent, Descriptor.from_sddl("O:BA").lint)
+    late = Descriptor.from_sddl("D:(A;;FR;;;BU)(D;;FW;;;BU)(A;;0x1;;;BU)").lint()[0]
+    gives("out of order", ("out of order", 2, "(D;;FW;;;BU)", 1), lambda: late[:4])
+    based = Descriptor.from_sddl("D:(D;;0x1;;;WD)(A;;0x3;;;BU)(A;;0x1;;;BG)")
+    everyone = Sid.from_text("WD")
+    gives("without a base", (), based.lint)
+    gives("by a base", ["entry 3 (A;;0x1;;;BG) has no effect"], lambda: list(map(str, based.lint([everyone]))))
+    # GENERIC_READ is KEY_READ of a key, and of a file it has other bits.
+    mapped = Descriptor.from_sddl("D:(A;;KR;;;BU)(A;;GR;;;BU)")
+    gives("by the mapping of files", (), mapped.lint)
+    gives("by that of keys", [("no effect", 2)], lambda: [each[:2] for each in mapped.lint(mapping=hudarin.KEYS)])
 
 
 def reviews() -> None:
@@ -381,6 +406,12 @@ def reviews() -> None:
         store.add_object("/c", Descriptor.from_sddl("O:BAG:SYD:"))
         raises("a node after an edit", RuntimeError, lambda: next(walk))
         gives("one that is new", Reviewed("new", "/c", None, 0, 0, ()), lambda: list(store.review())[2])
+        long = "S-1-5" + 15 * "-4294967295"
+        store.set_dacl("/c", Descriptor.from_sddl(f"D:P(D;;0x1;;;{long})(A;;0x3;;;{long[:-1]}4)"))
+        store.publish().close()
+        store.set_dacl("/c", Descriptor.from_sddl(f"D:P(A;;0x3;;;{long[:-1]}4)"))
+        shown = f"/c gained 0x1 by {long[:-1]}4 {long}=deny"
+        gives("a long line", shown, lambda: str(next(store.review())))
 
 
 def _users(rights: str) -> Descriptor:
@@ -392,7 +423,7 @@ def _user(change: Change) -> Tuple[bool, str]:
 
 
 def main() -> int:
-    for test in (truth, copies, refusals, pool, again, parts, names, one_exception, sacls, analysis, reviews):
+    for test in (truth, copies, refusals, pool, again, parts, names, one_exception, sacls, analysis, findings, reviews):
         test()
     gives("all names of the module", [], lambda: [name for name in hudarin.__all__ if not hasattr(hudarin, name)])
     gives("the mapping of files", FILES, lambda: (mask("FR"), mask("FW"), mask("FX"), mask("FA")))

@@ -21,7 +21,7 @@ import hudarin  # noqa: E402
 import tally  # noqa: E402
 
 PROGRAM, USER, FILES = sys.argv[1], sys.argv[2], sys.argv[3:]
-COMMANDS = ("verdict", "why", "who", "compare", "print", "tobin", "frombin")
+COMMANDS = ("verdict", "why", "who", "lint", "compare", "print", "tobin", "frombin")
 STATES = {"deny": hudarin.DENY_ONLY, "off": hudarin.DISABLED}
 PRIVILEGES = {"+security": hudarin.SECURITY, "+take": hudarin.TAKE_OWNERSHIP}
 
@@ -114,6 +114,12 @@ def who(sddl, asked, *words):
     return refused or "\n".join(map(str, descriptor.who(mask, base)))
 
 
+def lint(sddl, *words):
+    descriptor, refused = fault(lambda: hudarin.Descriptor.from_sddl(sddl), "sddl")
+    base, refused = (None, refused) if refused else base_words(words)
+    return refused or "\n".join(map(str, descriptor.lint(base))) or "clean"
+
+
 def shows(change, granting, denying):
     """The change's token is granted all of its bits by the one descriptor, and none of them by the other."""
     with change.token() as token:
@@ -148,7 +154,7 @@ def answer(command, *words):
     return refused or (str(read) if command == "print" else bytes(read).hex())
 
 
-QUESTIONS = {"verdict": verdict, "why": why, "who": who, "compare": compare}
+QUESTIONS = {"verdict": verdict, "why": why, "who": who, "lint": lint, "compare": compare}
 
 
 def ask(place, *words):
@@ -225,6 +231,8 @@ class Table:
                 ask(place, "verdict", "D:", USER, name)
         elif heads == "SDDL|MASK|Base|Lines":
             ask(place, "who", one, cells[1], *cells[2].split())
+        elif heads == "Text|Finds":
+            ask(place, "lint", one)
         elif heads == "OLD|NEW|Base|Lines":
             ask(place, "compare", one, two, *cells[2].split())
         elif heads == "DACL|Words|Asked|Verdict":
