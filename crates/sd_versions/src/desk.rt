@@ -9,7 +9,7 @@ use crate::Versions;
 use sd_check::Token;
 use sd_edit::{Answer, MAX_READERS, Reply, Request, StartError};
 use sd_sid::{GenericMapping, Mask};
-use sd_tree::{Edit, Journal, Limits, Path, RootSpec, Tree, TreeError};
+use sd_tree::{Edit, Journal, Limits, Path, RootSpec, Shared, Tree, TreeError};
 use std::alloc::{AllocError, Global};
 use std::marker::Model;
 
@@ -120,6 +120,15 @@ impl Desk {
         ensures journal { result.now.journal ≡ self.now.published }
     {
         self.tree.published()
+    }
+
+    /// The tree that readers see, for one holder more, which stays as it is. `AllocError` only where its count of
+    /// holders is full.
+    pub fn snapshot(&self) -> Result<Shared<Tree>, AllocError>
+        ensures opening { IfOk result (λ tree. tree.opening ≡ self.now.opening) }
+        ensures journal { IfOk result (λ tree. tree.journal ≡ self.now.published) }
+    {
+        self.tree.snapshot()
     }
 
     /// The tree with all edits that were accepted: those that are seen, and then those that are pending.
