@@ -1,6 +1,6 @@
 -- The lines that make a tree, and whether they are read as what makes it.
 use Rattle.sd_script.proofs.Cited.{AreAskedBy, Asking, Bool, Decides, IsAskedBy, LineRequest, List, Names, NodeRow, None, Notation, Option, PlainTree, Publish, Some, [], add-one, ap, append-nil, append_assoc, arith, drop-cons, drop_of_length-le, entries, entry_there, eq_by_cmp, false, false≢true, flat_map, get_or_from_slice_get, inl, inr, join_with_byte, join_with_byte-slice_split, len, len-entries, length, length-append, length-map, lines, lines_of_parts, lt-ltb, making, makings, names_cmp, nat_lt, nat_tests, nil_from_length, one_path, path_itself, refl, row_at, slice_get, slice_get_cases, slice_get_within, slice_split, subst, suc, sym, true, wanted, zero, ℕ, ◌++◌, ◌+◌, ◌<◌, ◌==◌, ◌∙◌, ◌∷◌, ◌≡◌, ◌≤◌}
-use Rattle.std.specs.Prelude.{drop, map}
+use Rattle.std.specs.Prelude.{drop}
 
 -- the order of paths tells whether they are one
 pub path_decides : (p q : Names) (r : Bool) → r ≡ eq_by_cmp names_cmp p q → Decides r (p ≡ q)
@@ -40,17 +40,6 @@ pub none_left : {B : Type 0} (f : Names × NodeRow → List B) (t : PlainTree) (
     → text ++ flat_map f (drop k (entries t)) ≡ whole → text ≡ whole
 none_left f t k n text whole count past so_far =
     sym (append-nil text) ∙ ap (λ es. text ++ flat_map f es) (sym (nothing_left t k n count past)) ∙ so_far
-
--- and one line more
-pub line_more : {A B : Type 0} (f : A → B) (es : List A) (k : ℕ) (x : A) (lines grown whole : List B) (line : B) → Some x ≡ slice_get es k
-    → line ≡ f x → grown ≡ lines ++ line ∷ [] → lines ++ map f (drop k es) ≡ whole → grown ++ map f (drop (k + 1) es) ≡ whole
-line_more f es k x lines grown whole line at is more so_far =
-    rw (more, is) (append_assoc lines (f x ∷ []) (map f (drop (k + 1) es)) ∙ ap (λ xs. lines ++ map f xs) (sym (next_left es k x at)) ∙ so_far)
-
-pub no_line_left : {B : Type 0} (f : Names × NodeRow → B) (t : PlainTree) (k n : ℕ) (lines whole : List B) → n ≡ len t → n ≤ k
-    → lines ++ map f (drop k (entries t)) ≡ whole → lines ≡ whole
-no_line_left f t k n lines whole count past so_far =
-    sym (append-nil lines) ∙ ap (λ es. lines ++ map f es) (sym (nothing_left t k n count past)) ∙ so_far
 
 -- ---- the lines that are left
 

@@ -1,12 +1,14 @@
 pub mod Cited
 pub mod AsChecked
 pub mod Askings
+pub mod Counting
 pub mod Dumping
 pub mod FirstKind
 pub mod NoId
 pub mod OneOutput
 pub mod OneReading
 pub mod OnlyThese
+pub mod Printing
 pub mod Readings
 pub mod Reviewed
 pub mod Silence

@@ -1,3 +1,4 @@
+pub mod Answer
 pub mod Argument
 pub mod Command
 pub mod Fault

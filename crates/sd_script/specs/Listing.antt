@@ -61,11 +61,15 @@ abbrev pub lacks_words : PathSpelling → PlainTree → Names → Bool
 lacks_words Plain t top = list_any (is_split_below top) (entries t)
 lacks_words Percent t top = false
 
--- the lines of the nodes at and below a path, after a title; or one line where no node is at the path, or where a path
--- can't be printed
+-- the lines of the nodes at and below a path
+abbrev pub nodes_below : PathSpelling → Opening → List Edit → Names → NodeFilter → List LineOf
+nodes_below paths opening journal top which =
+    let t = replay opening journal in flat_map (lines_below paths opening.mapping t top which) (entries t)
+
+-- the same after a title; or one line where no node is at the path, or where a path can't be printed
 abbrev pub nodes_lines : PathSpelling → Opening → List Edit → Names → NodeFilter → LineOf → List LineOf → List LineOf
 nodes_lines paths opening journal top which no_node title =
     let t = replay opening journal in
     if is_none (kind_at t top) then no_node ∷ []
     else if lacks_words paths t top then fault_line (codes "name") ∷ []
-    else title ++ flat_map (lines_below paths opening.mapping t top which) (entries t)
+    else title ++ nodes_below paths opening journal top which

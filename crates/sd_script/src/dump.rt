@@ -1,72 +1,138 @@
 //! A published tree as lines of a script.
-ghost use Rattle.std.specs.Prelude.{◌≡◌, IfOk, Some, map, option_map};
+ghost use Rattle.std.specs.Prelude.{◌≡◌, ◌++◌, IfOk, OnOk, Some, option_map};
 ghost use Rattle.std.specs.Bool.{Decides};
-ghost use Rattle.std.specs.FinMap.{entries};
 ghost use Rattle.sd_edit.specs.Journal.{replay};
 ghost use Rattle.sd_tree.specs.Listing.{listed};
 ghost use Rattle.sd_edit.specs.Plain.{row_at};
 ghost use Rattle.sd_line.specs.Line.{form_of};
-ghost use Rattle.sd_script.specs.Dump.{IsAskedBy, IsDumpOf, IsReadBack, adding_form, making_line, wanted};
+ghost use Rattle.sd_line.specs.Printed.{printed, tag_of};
+ghost use Rattle.sd_script.specs.Dump.{IsAskedBy, IsDumpOf, IsReadBack, adding_form, dump_lines, dump_text};
+ghost use Rattle.sd_script.specs.Dump.{making_line, wanted};
 
+use crate::answer::{Answer, Made};
 use crate::fault::LineStop;
 use crate::line::read_line;
 use crate::lines::is_silent;
-use crate::listing::Lister;
-use crate::reply::{alone, plain_line};
+use crate::paths::path_value;
+use crate::reply::plain_line;
 use crate::same::is_wanted;
+use crate::script_options::{Notation, text_style};
 use sd_answer::{ADD_CONTAINER, ADD_OBJECT, OPEN, PUBLISH, fault_line};
-use sd_line::{Line, LineForm, Value, lines_text};
+use sd_line::{Line, LineForm, Style, Tag, Value, push_printed_line};
 use sd_lines::{Ending, first_line};
-use sd_tree::{NodeKind, NodeRef};
-use std::alloc::AllocError;
+use sd_tree::{NodeKind, NodeRef, Shared, Tree};
+use std::alloc::{AllocError, Global};
 
-impl Lister<'_> {
-    /// The lines that make the tree: an opening for so many readers, an addition for each other node, a parent before
-    /// what it holds, and `publish`. `fault name` where the text of one of them isn't parsed to what makes its node.
-    pub(crate) fn dump(&self, readers: u64) -> Result<Vec<Line>, AllocError>
-        ensures { IfOk result (λ lines. IsDumpOf self.now.notation readers
-            (replay self.now.tree.now.opening self.now.tree.now.journal) lines.items) }
+/// The lines that make a tree, with their text, which was read back.
+#[derive(Drop)]
+pub(crate) struct Dump {
+    tree: Shared<Tree>,
+    notation: Notation,
+    readers: u64,
+    text: Vec<u8>,
+    ghost text_is: { text.items ≡ dump_text notation readers (replay tree.opening tree.journal) },
+}
+
+impl Dump {
+    /// Adds the lines as they are printed, each after a tag: their text where that is it, and else they are made once
+    /// more. The only error is out of memory.
+    pub(crate) fn push_printed(
+        &self,
+        alloc: Global,
+        style: Style,
+        tag: Tag<'_>,
+        out: &mut Vec<u8>,
+    ) -> Result<(), AllocError>
+        ensures { OnOk result (out.new.items ≡ out.old.items ++ printed style (tag_of tag.entry) (dump_lines
+            self.now.notation.paths self.now.readers (replay self.now.tree.opening self.now.tree.journal))) }
     {
-        let mut lines = self.making_lines(readers)?;
-        lines.push(plain_line(self.alloc, PUBLISH)?)?;
-        let text = lines_text(self.alloc, self.notation.spelling, &lines)?;
-        if self.is_read_back(readers, text.as_bytes())? {
-            Ok(lines)
-        } else {
-            alone(self.alloc, fault_line(self.alloc, "name")?)
+        if matches!(tag, Tag::None) && style == text_style(self.notation.spelling) {
+            return out.extend_from_slice(&self.text);
         }
+        let dumper = Dumper {
+            alloc,
+            notation: self.notation,
+            readers: self.readers,
+            tree: self.tree.get(),
+        };
+        dumper.push_lines(style, tag, out)
     }
+}
 
-    /// The lines that make the nodes.
-    fn making_lines(&self, readers: u64) -> Result<Vec<Line>, AllocError>
-        ensures { IfOk result (λ lines. lines.items ≡ map (making_line self.now.notation.paths readers)
-            (entries (replay self.now.tree.now.opening self.now.tree.now.journal))) }
+/// The lines that make the tree: an opening for so many readers, an addition for each other node, a parent before what
+/// it holds, and `publish`. `fault name` where the text of one of them isn't parsed to what makes its node.
+pub(crate) fn dump_answer(
+    alloc: Global,
+    notation: Notation,
+    readers: u64,
+    tree: Shared<Tree>,
+) -> Result<Answer, AllocError>
+    ensures { IfOk result (λ answer. IsDumpOf notation readers (replay tree.opening tree.journal) answer) }
+{
+    let dumper = Dumper {
+        alloc,
+        notation,
+        readers,
+        tree: tree.get(),
+    };
+    let mut text = Vec::new(alloc);
+    dumper.push_lines(text_style(notation.spelling), Tag::None, &mut text)?;
+    if dumper.is_read_back(&text)? {
+        let dump = Dump {
+            tree,
+            notation,
+            readers,
+            text,
+        };
+        Ok(Answer::made(alloc, Vec::new(alloc), Made::Dump(dump)))
+    } else {
+        Answer::alone(alloc, fault_line(alloc, "name")?)
+    }
+}
+
+/// What dumps a tree for so many readers.
+#[derive(Clone, Copy)]
+struct Dumper<'a> {
+    alloc: Global,
+    notation: Notation,
+    readers: u64,
+    tree: &'a Tree,
+}
+
+impl Dumper<'_> {
+    /// Adds the lines that make the tree as they are printed, each after a tag.
+    fn push_lines(&self, style: Style, tag: Tag<'_>, out: &mut Vec<u8>) -> Result<(), AllocError>
+        ensures { OnOk result (out.new.items ≡ out.old.items ++ printed style (tag_of tag.entry) (dump_lines
+            self.now.notation.paths self.now.readers
+            (replay self.now.tree.now.opening self.now.tree.now.journal))) }
     {
-        let mut lines = Vec::new(self.alloc);
         for index in 0..self.tree.node_count() {
             let Some(node) = self.tree.node(index) else {
                 unreachable!()
             };
-            lines.push(self.making_line(readers, &node)?)?;
+            let line = self.making_line(&node)?;
+            push_printed_line(self.alloc, out, style, tag, &line)?;
         }
-        Ok(lines)
+        let publish = plain_line(self.alloc, PUBLISH)?;
+        push_printed_line(self.alloc, out, style, tag, &publish)?;
+        Ok(())
     }
 
     /// The line that makes a node of the tree: an opening for the root, and else an addition.
-    fn making_line(&self, readers: u64, node: &NodeRef<'_>) -> Result<Line, AllocError>
+    fn making_line(&self, node: &NodeRef<'_>) -> Result<Line, AllocError>
         requires { row_at (replay self.now.tree.now.opening self.now.tree.now.journal) (listed node.now).0
             ≡ Some (listed node.now).1 }
-        ensures { IfOk result (λ line. line ≡ making_line self.now.notation.paths readers (listed node.now)) }
+        ensures { IfOk result (λ line. line ≡ making_line self.now.notation.paths self.now.readers (listed node.now)) }
     {
         let Some((_, given)) = self.tree.given(node.path)? else {
             unreachable!()
         };
         let given = Value::descriptor(given);
         if node.path.as_path_ref().is_root() {
-            let readers = Value::Number(readers);
+            let readers = Value::Number(self.readers);
             return Line::new(self.alloc, OPEN, vec![in self.alloc; readers, given]?);
         }
-        let path = self.path_value(node.path)?;
+        let path = path_value(self.alloc, self.notation.paths, node.path)?;
         Line::new(
             self.alloc,
             adding_form(node.kind),
@@ -76,8 +142,8 @@ impl Lister<'_> {
 
     /// Whether the text is parsed to what makes the tree, line by line, and a publish. Only for the first line no store
     /// is open.
-    fn is_read_back(&self, readers: u64, text: &[u8]) -> Result<bool, AllocError>
-        ensures { IfOk result (λ is. Decides is (IsReadBack self.now.notation readers
+    fn is_read_back(&self, text: &[u8]) -> Result<bool, AllocError>
+        ensures { IfOk result (λ is. Decides is (IsReadBack self.now.notation self.now.readers
             (replay self.now.tree.now.opening self.now.tree.now.journal) text.now)) }
     {
         let mut rest = text;
@@ -87,7 +153,7 @@ impl Lister<'_> {
             }
             let (line, after) = first_line(Ending::Feed, rest);
             let node = self.tree.node(index);
-            if !self.is_read_as(index > 0, line, readers, &node)? {
+            if !self.is_read_as(index > 0, line, &node)? {
                 return Ok(false);
             }
             rest = after;
@@ -100,17 +166,16 @@ impl Lister<'_> {
         &self,
         is_open: bool,
         line: &[u8],
-        readers: u64,
         node: &Option<NodeRef<'_>>,
     ) -> Result<bool, AllocError>
         ensures { IfOk result (λ is. Decides is
-            (IsAskedBy self.now.notation is_open line.now (wanted readers (option_map listed node.now)))) }
+            (IsAskedBy self.now.notation is_open line.now (wanted self.now.readers (option_map listed node.now)))) }
     {
         if is_silent(line) {
             return Ok(false);
         }
         match read_line(self.alloc, self.notation, is_open, line) {
-            Ok(asked) => Ok(is_wanted(&asked, readers, node)),
+            Ok(asked) => Ok(is_wanted(&asked, self.readers, node)),
             Err(LineStop::Fault(_)) => Ok(false),
             Err(LineStop::Memory) => Err(AllocError),
         }

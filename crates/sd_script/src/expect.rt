@@ -3,26 +3,27 @@ ghost use Rattle.std.specs.Prelude.{◌≡◌, ◌++◌, Some, None, IfOk, OnOk}
 ghost use Rattle.sd_script.specs.Expect.{expect_line, expects, is_expectation, is_met, lines_of, spelled};
 ghost use Rattle.sd_script.specs.Expect.{spelled_byte, without_feed};
 
+use crate::answer::Answer;
 use crate::lines::{head_len, word_len};
 use crate::reply::ok_line;
 use sd_answer::fault_line;
-use sd_line::{Line, Spelling, lines_text};
+use sd_line::{Line, Spelling, Style, Tag};
 use std::alloc::{AllocError, Global};
 use std::marker::Model;
 
 /// The last answer, if any line was answered. Contracts see its lines.
 #[derive(Drop)]
 pub struct LastAnswer {
-    answer: Option<Vec<Line>>,
+    answer: Option<Answer>,
 }
 
 impl Model for LastAnswer {
-    ghost use Rattle.std.specs.Prelude.{List, Option, option_map};
+    ghost use Rattle.std.specs.Prelude.{List, Option};
     ghost use Rattle.sd_line.specs.Line.{LineOf};
 
     ghost Value = { Option (List LineOf) };
 
-    ghost view = { λ a. option_map (λ answer. answer.items) a.answer };
+    ghost view = { λ a. a.answer };
 }
 
 impl LastAnswer {
@@ -34,8 +35,8 @@ impl LastAnswer {
     }
 
     /// This whole answer, with all its lines.
-    pub(crate) fn of(answer: Vec<Line>) -> LastAnswer
-        ensures { result ≡ Some answer.items }
+    pub(crate) fn of(answer: Answer) -> LastAnswer
+        ensures { result ≡ Some answer }
     {
         LastAnswer {
             answer: Some(answer),
@@ -54,8 +55,13 @@ impl LastAnswer {
     {
         match &self.answer {
             Some(answer) => {
-                let text = lines_text(alloc, spelling, answer)?;
-                let text = spelled(alloc, text.as_bytes())?;
+                let style = Style {
+                    spelling,
+                    is_json: false,
+                };
+                let mut text = Vec::new(alloc);
+                answer.push_printed(alloc, style, Tag::None, &mut text)?;
+                let text = spelled(alloc, &text)?;
                 Ok(text.as_slice() == &line[head_len(line)..])
             }
             None => Ok(false),

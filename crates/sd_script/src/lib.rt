@@ -17,6 +17,7 @@
 //! What parses a line and what answers a reply is public, for who carries out a script in another way.
 #![tactic(auto)]
 
+mod answer;
 mod argument;
 mod command;
 mod deletion;

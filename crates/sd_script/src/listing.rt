@@ -1,20 +1,20 @@
 //! The nodes of a published tree, a line for each.
-ghost use Rattle.std.specs.Prelude.{◌≡◌, IfOk};
+ghost use Rattle.std.specs.Prelude.{◌≡◌, ◌++◌, IfOk, OnOk};
 ghost use Rattle.sd_edit.specs.Journal.{replay};
 ghost use Rattle.sd_tree.specs.Listing.{listed};
 ghost use Rattle.sd_line.specs.Line.{form_of};
-ghost use Rattle.sd_line.specs.declared.line.Value.TheVariants.{Text};
-ghost use Rattle.sd_script.specs.Listing.{grants, is_split_below, kind_form, lacks_words, lines_below, nodes_lines};
-ghost use Rattle.sd_script.specs.Paths.{path_word};
+ghost use Rattle.sd_line.specs.Printed.{printed, tag_of};
+ghost use Rattle.sd_script.specs.Listing.{grants, is_split_below, kind_form, lacks_words, lines_below, nodes_below};
+ghost use Rattle.sd_script.specs.Listing.{nodes_lines};
 
-use crate::paths::{PathSpelling, is_split, path_word};
+use crate::answer::{Answer, Made};
+use crate::paths::{PathSpelling, is_split, path_value, path_word};
 use crate::reply::alone;
-use crate::script_options::Notation;
 use sd_answer::{CONTAINER, OBJECT, fault_line};
 use sd_check::{Token, Verdict};
-use sd_line::{Line, LineForm, Value};
+use sd_line::{Line, LineForm, Style, Tag, Value, push_printed};
 use sd_sid::Mask;
-use sd_tree::{CheckReply, NodeKind, NodeRef, Path, Tree};
+use sd_tree::{CheckReply, NodeKind, NodeRef, Path, Shared, Tree};
 use std::alloc::{AllocError, Global};
 
 /// Which nodes have a line.
@@ -26,85 +26,83 @@ pub enum NodeFilter {
     Granting { token: Token, asked: Mask },
 }
 
-/// What lists a tree in a notation.
-#[derive(Clone, Copy)]
-pub(crate) struct Lister<'a> {
-    pub(crate) alloc: Global,
-    pub(crate) notation: Notation,
-    pub(crate) tree: &'a Tree,
+/// Nodes of a tree whose lines are made as they are printed: those at and below a path, as far as they have one.
+#[derive(Drop)]
+pub(crate) struct Nodes {
+    pub(crate) tree: Shared<Tree>,
+    pub(crate) paths: PathSpelling,
+    pub(crate) top: Path,
+    pub(crate) which: NodeFilter,
 }
 
-impl Lister<'_> {
-    /// The lines of the nodes at and below a path, in the order of their paths, after a title; one line where none
-    /// stands there, and `fault name` where the path of one would be more than one word.
-    pub(crate) fn nodes_lines(
-        &self,
-        top: &Path,
-        which: &NodeFilter,
+impl Nodes {
+    /// The lines of the nodes, in the order of their paths, after a title; one line where none stands at the path, and
+    /// `fault name` where the path of one would be more than one word.
+    pub(crate) fn answer(
+        self,
+        alloc: Global,
         no_node: Line,
         title: Vec<Line>,
-    ) -> Result<Vec<Line>, AllocError>
-        ensures { IfOk result (λ lines. lines.items ≡ nodes_lines self.now.notation.paths self.now.tree.now.opening
-            self.now.tree.now.journal top.now which.now no_node title.items) }
+    ) -> Result<Answer, AllocError>
+        ensures { IfOk result (λ answer. answer ≡ nodes_lines self.paths self.tree.opening self.tree.journal self.top
+            self.which no_node title.items) }
     {
-        if self.tree.lookup(top).is_none() {
-            return alone(self.alloc, no_node);
+        if self.tree.get().lookup(&self.top).is_none() {
+            return Answer::alone(alloc, no_node);
         }
-        if lacks_words(self.alloc, self.notation.paths, self.tree, top)? {
-            return alone(self.alloc, fault_line(self.alloc, "name")?);
+        if lacks_words(alloc, self.paths, self.tree.get(), &self.top)? {
+            return Answer::alone(alloc, fault_line(alloc, "name")?);
         }
-        let mut lines = title;
-        for index in 0..self.tree.node_count() {
-            let Some(node) = self.tree.node(index) else {
+        Ok(Answer::made(alloc, title, Made::Nodes(self)))
+    }
+
+    /// Adds the lines as they are printed, each after a tag. The only error is out of memory.
+    pub(crate) fn push_printed(
+        &self,
+        alloc: Global,
+        style: Style,
+        tag: Tag<'_>,
+        out: &mut Vec<u8>,
+    ) -> Result<(), AllocError>
+        ensures { OnOk result (out.new.items ≡ out.old.items ++ printed style (tag_of tag.entry)
+            (nodes_below self.now.paths self.now.tree.opening self.now.tree.journal self.now.top self.now.which)) }
+    {
+        let tree = self.tree.get();
+        for index in 0..tree.node_count() {
+            let Some(node) = tree.node(index) else {
                 unreachable!()
             };
-            let mut below = self.lines_below(top, which, &node)?;
-            lines.append(&mut below)?;
+            let lines = self.lines_of(alloc, &node)?;
+            push_printed(alloc, out, style, tag, &lines)?;
         }
-        Ok(lines)
+        Ok(())
     }
 
     /// The line of a node, where it stands at or below the path, and else nothing.
-    fn lines_below(
-        &self,
-        top: &Path,
-        which: &NodeFilter,
-        node: &NodeRef<'_>,
-    ) -> Result<Vec<Line>, AllocError>
-        ensures { IfOk result (λ lines. lines.items ≡ lines_below self.now.notation.paths
-            self.now.tree.now.opening.mapping (replay self.now.tree.now.opening self.now.tree.now.journal)
-            top.now which.now (listed node.now)) }
+    fn lines_of(&self, alloc: Global, node: &NodeRef<'_>) -> Result<Vec<Line>, AllocError>
+        ensures { IfOk result (λ lines. lines.items ≡ lines_below self.now.paths self.now.tree.opening.mapping
+            (replay self.now.tree.opening self.now.tree.journal) self.now.top self.now.which (listed node.now)) }
     {
-        if !node.path.as_path_ref().is_within(&top.as_path_ref()) {
-            return Ok(Vec::new(self.alloc));
+        if !node.path.as_path_ref().is_within(&self.top.as_path_ref()) {
+            return Ok(Vec::new(alloc));
         }
-        match which {
+        let tree = self.tree.get();
+        match &self.which {
             NodeFilter::All => {
-                let Some(descriptor) = self.tree.descriptor(node.path)? else {
-                    return Ok(Vec::new(self.alloc));
+                let Some(descriptor) = tree.descriptor(node.path)? else {
+                    return Ok(Vec::new(alloc));
                 };
-                let path = self.path_value(node.path)?;
-                let values = vec![in self.alloc; path, Value::descriptor(descriptor)]?;
-                alone(
-                    self.alloc,
-                    Line::new(self.alloc, kind_form(node.kind), values)?,
-                )
+                let path = path_value(alloc, self.paths, node.path)?;
+                let values = vec![in alloc; path, Value::descriptor(descriptor)]?;
+                alone(alloc, Line::new(alloc, kind_form(node.kind), values)?)
             }
-            NodeFilter::Granting { token, asked }
-                if grants(self.tree.check(node.path, token, *asked)) => {
-                let path = path_word(self.alloc, self.notation.paths, node.path)?;
-                alone(self.alloc, Line::text(self.alloc, path)?)
-            }
-            NodeFilter::Granting { .. } => Ok(Vec::new(self.alloc)),
+            NodeFilter::Granting { token, asked } if grants(tree.check(node.path, token, *asked)) =>
+                {
+                    let path = path_word(alloc, self.paths, node.path)?;
+                    alone(alloc, Line::text(alloc, path)?)
+                }
+            NodeFilter::Granting { .. } => Ok(Vec::new(alloc)),
         }
-    }
-
-    /// A path as a word.
-    pub(crate) fn path_value(&self, path: &Path) -> Result<Value, AllocError>
-        ensures { IfOk result (λ value. value ≡ Text (path_word self.now.notation.paths path.now)) }
-    {
-        let word = path_word(self.alloc, self.notation.paths, path)?;
-        Ok(Value::text(word))
     }
 }
 

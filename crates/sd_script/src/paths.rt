@@ -1,5 +1,6 @@
 //! Paths in lines: how a word spells one.
 ghost use Rattle.std.specs.Prelude.{◌≡◌, IfOk, string_bytes};
+ghost use Rattle.sd_line.specs.declared.line.Value.TheVariants.{Text};
 ghost use Rattle.sd_script.specs.Argument.{path};
 ghost use Rattle.sd_script.specs.Fault.{UnlessMemory};
 ghost use Rattle.sd_script.specs.Paths.{is_split, path_word};
@@ -9,6 +10,7 @@ use crate::fault::{LineFault, LineStop};
 use percent_encoding::{
     AsciiSet, CONTROLS, DecodeError, ascii_set, percent_decode, utf8_percent_encode,
 };
+use sd_line::Value;
 use sd_tree::{Path, PathError};
 use std::alloc::{AllocError, Global};
 
@@ -76,6 +78,17 @@ pub(crate) fn path_word(
             Ok(word)
         }
     }
+}
+
+/// A path as a value of a line.
+pub(crate) fn path_value(
+    alloc: Global,
+    paths: PathSpelling,
+    path: &Path,
+) -> Result<Value, AllocError>
+    ensures { IfOk result (λ value. value ≡ Text (path_word paths path.now)) }
+{
+    Ok(Value::text(path_word(alloc, paths, path)?))
 }
 
 /// Whether the path's text, as it is, would be more than one word of a line.

@@ -3,13 +3,16 @@ ghost use Rattle.std.specs.Prelude.{◌≡◌, ◌⊎◌, List, IfOk, OnErr, opt
 ghost use Rattle.sd_acl.specs.Descriptor.{descriptor_of};
 ghost use Rattle.sd_edit.specs.Answers.{descriptor_at};
 ghost use Rattle.sd_edit.specs.Journal.{replay};
+ghost use Rattle.sd_edit.specs.Machine.{Steps};
+ghost use Rattle.sd_edit.specs.declared.request.Request.TheVariants.{Show};
 ghost use Rattle.sd_line.specs.Line.{LineOf};
 ghost use Rattle.sd_script.specs.Question.{IsSeen, question_lines};
 ghost use Rattle.sd_script.specs.Reply.{node_why_lines, seen_lines};
 ghost use Rattle.sd_script.specs.declared.session.Session.TheVariants.{Opened};
 
+use crate::answer::Answer;
 use crate::deletion::{DELETE, deletion_line, parent_grants};
-use crate::listing::{Lister, NodeFilter};
+use crate::listing::{NodeFilter, Nodes};
 use crate::reply::{alone, plain_line, reply_line, seen_line};
 use crate::script_options::Notation;
 use sd_acl::Descriptor;
@@ -36,67 +39,73 @@ impl NodeQuestion {
     /// Has a reader see the published tree, and answers the question by that; or as the reply to any other request is
     /// answered. The reader asks for the node's descriptor, and the reasons are that descriptor's.
     pub(crate) fn answer(
-        &self,
+        self,
         alloc: Global,
         notation: Notation,
         desk: &mut Desk,
         reader: u64,
-        path: &Path,
-    ) -> Result<Vec<Line>, AllocError>
-        ensures done { IfOk result (λ answer. IsSeen notation desk.old reader path.now self.now
-            answer.items (Opened notation desk.new)) }
+        path: Path,
+    ) -> Result<Answer, AllocError>
+        ensures done { IfOk result
+            (λ answer. IsSeen notation desk.old reader path self answer (Opened notation desk.new)) }
         ensures failed { OnErr result ((desk.new ≡ desk.old) ⊎ ((answer : List LineOf)
-            × IsSeen notation desk.old reader path.now self.now answer (Opened notation desk.new))) }
+            × IsSeen notation desk.old reader path self answer (Opened notation desk.new))) }
     {
-        let path_asked = path.copy(alloc)?;
-        let reply = desk.step(&Request::Show {
-            reader,
-            path: path_asked,
-        });
-        match reply {
+        match shown(alloc, desk, reader, &path)? {
             Reply::Shown { descriptor, .. } => {
-                self.lines(alloc, notation, desk, path, &descriptor)
+                self.seen(alloc, notation, desk, path, &descriptor)
             }
-            reply => alone(alloc, reply_line(alloc, reply)?),
+            reply => Answer::alone(alloc, reply_line(alloc, reply)?),
         }
     }
 
     /// The answer to a reader that is there, by the descriptor of the node.
-    fn lines(
-        &self,
+    fn seen(
+        self,
         alloc: Global,
         notation: Notation,
         desk: &Desk,
-        path: &Path,
+        path: Path,
         descriptor: &Option<Descriptor>,
-    ) -> Result<Vec<Line>, AllocError>
+    ) -> Result<Answer, AllocError>
         requires { option_map descriptor_of descriptor.now ≡ descriptor_at desk.now.opening.mapping
-            (replay desk.now.opening desk.now.published) path.now }
-        ensures { IfOk result (λ lines. lines.items ≡ question_lines notation desk.now path.now self.now) }
+            (replay desk.now.opening desk.now.published) path }
+        ensures { IfOk result (λ answer. answer ≡ question_lines notation desk.now path self) }
     {
         let tree = desk.published();
         match self {
             NodeQuestion::Why { token, asked } => {
-                let lines = node_why_lines(alloc, tree.mapping(), token, *asked, descriptor)?;
-                seen_lines(alloc, tree.len(), lines)
+                let lines = node_why_lines(alloc, tree.mapping(), &token, asked, descriptor)?;
+                Ok(Answer::of(alloc, seen_lines(alloc, tree.len(), lines)?))
             }
             NodeQuestion::Find(which) => {
                 let no_node = seen_line(alloc, tree.len(), plain_line(alloc, NO_NODE)?)?;
                 let found = seen_line(alloc, tree.len(), plain_line(alloc, FOUND)?)?;
-                let lister = Lister {
-                    alloc,
-                    notation,
-                    tree,
+                let nodes = Nodes {
+                    tree: desk.snapshot()?,
+                    paths: notation.paths,
+                    top: path,
+                    which,
                 };
-                lister.nodes_lines(path, which, no_node, alone(alloc, found)?)
+                nodes.answer(alloc, no_node, alone(alloc, found)?)
             }
             NodeQuestion::Delete { token } => {
-                let by_parent = parent_grants(alloc, tree, path, token)?;
-                let what = deletion_line(alloc, tree.check(path, token, DELETE), by_parent)?;
-                alone(alloc, seen_line(alloc, tree.len(), what)?)
+                let by_parent = parent_grants(alloc, tree, &path, &token)?;
+                let what = deletion_line(alloc, tree.check(&path, &token, DELETE), by_parent)?;
+                Answer::alone(alloc, seen_line(alloc, tree.len(), what)?)
             }
         }
     }
+}
+
+/// The reply to a reader that asks for the descriptor of the node of a path. The only error is out of memory: then
+/// nothing has changed.
+fn shown(alloc: Global, desk: &mut Desk, reader: u64, path: &Path) -> Result<Reply, AllocError>
+    ensures shown { IfOk result (λ reply. Steps desk.old (Show reader path.now) reply desk.new) }
+    ensures failed { OnErr result (desk.new ≡ desk.old) }
+{
+    let path = path.copy(alloc)?;
+    Ok(desk.step(&Request::Show { reader, path }))
 }
 
 /// The explanation by the descriptor of a node, where there is one ([MS-DTYP] 2.5.3.2).

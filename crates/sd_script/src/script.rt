@@ -7,6 +7,7 @@ ghost use Rattle.sd_script.specs.Output.{IsAnswered, IsAnsweredAfter, IsDone, Is
 ghost use Rattle.sd_script.specs.Output.{IsUntold, opens};
 ghost use Rattle.sd_script.specs.declared.session.Session.TheVariants.{Opened};
 
+use crate::answer::Answer;
 use crate::expect::{LastAnswer, expect_line, expects};
 use crate::fault::{LineStop, line_of_fault};
 use crate::importing::import_answer;
@@ -18,7 +19,7 @@ use crate::reply::{alone, counted_line, reply_line, start_error_line};
 use crate::script_options::Notation;
 use crate::script_state::ScriptState;
 use crate::session::Session;
-use crate::view::view_lines;
+use crate::view::view_answer;
 use sd_answer::OPENED;
 use sd_line::{Line, Style, Tag, push_printed};
 use sd_versions::{Desk, Request};
@@ -49,8 +50,8 @@ pub fn push_answer(
         return Ok(());
     }
     let answer = answered(alloc, &mut state.session, line)?;
-    push_printed(alloc, out, style, tag, &answer)?;
-    state.counts = state.counts.with(line, &answer);
+    answer.push_printed(alloc, style, tag, out)?;
+    state.counts = answer.counted(state.counts, line);
     if !is_silent(line) {
         state.last = LastAnswer::of(answer);
     }
@@ -58,31 +59,31 @@ pub fn push_answer(
 }
 
 /// What a line that expects no answer is answered by where this stands.
-fn answered(alloc: Global, session: &mut Session, line: &[u8]) -> Result<Vec<Line>, AllocError>
-    ensures answered { IfOk result (λ answer. IsAnswered session.old line.now answer.items session.new) }
+fn answered(alloc: Global, session: &mut Session, line: &[u8]) -> Result<Answer, AllocError>
+    ensures answered { IfOk result (λ answer. IsAnswered session.old line.now answer session.new) }
     ensures failed { OnErr result (IsUntold session.old line.now session.new) }
 {
     if is_silent(line) {
-        return Ok(Vec::new(alloc));
+        return Ok(Answer::of(alloc, Vec::new(alloc)));
     }
     let mut answer = told(alloc, session, line)?;
     if wants_lines(line) {
-        answer.push(Line::of("", Vec::new(alloc)))?;
+        answer.end(alloc)?;
     }
     Ok(answer)
 }
 
 /// What a line that isn't silent is answered by: what it asks for, or its fault.
-fn told(alloc: Global, session: &mut Session, line: &[u8]) -> Result<Vec<Line>, AllocError>
-    ensures told { IfOk result (λ answer. IsTold session.old line.now answer.items session.new) }
+fn told(alloc: Global, session: &mut Session, line: &[u8]) -> Result<Answer, AllocError>
+    ensures told { IfOk result (λ answer. IsTold session.old line.now answer session.new) }
     ensures failed { OnErr result (IsUntold session.old line.now session.new) }
 {
     match read_line(alloc, session.options().notation, session.is_open(), line) {
         Ok(asked) => match session {
-            Session::Closed(_) => open_store(alloc, session, asked),
+            Session::Closed(_) => Ok(Answer::of(alloc, open_store(alloc, session, asked)?)),
             Session::Opened(notation, desk) => done(alloc, *notation, desk, asked),
         },
-        Err(LineStop::Fault(fault)) => alone(alloc, line_of_fault(alloc, fault)?),
+        Err(LineStop::Fault(fault)) => Answer::alone(alloc, line_of_fault(alloc, fault)?),
         Err(LineStop::Memory) => Err(AllocError),
     }
 }
@@ -122,10 +123,10 @@ fn done(
     notation: Notation,
     desk: &mut Desk,
     asked: LineRequest,
-) -> Result<Vec<Line>, AllocError>
+) -> Result<Answer, AllocError>
     requires { opens asked ≡ false }
     ensures done { IfOk result
-        (λ answer. IsDone (Opened notation desk.old) asked answer.items (Opened notation desk.new)) }
+        (λ answer. IsDone (Opened notation desk.old) asked answer (Opened notation desk.new)) }
     ensures failed { OnErr result ((desk.new ≡ desk.old)
         ⊎ IsMade (Opened notation desk.old) asked (Opened notation desk.new)) }
 {
@@ -133,22 +134,23 @@ fn done(
         LineRequest::Opening { .. } => unreachable!(),
         LineRequest::Asking(request) => {
             let reply = desk.step(&request);
-            alone(alloc, reply_line(alloc, reply)?)
+            Answer::alone(alloc, reply_line(alloc, reply)?)
         }
         LineRequest::AskingNode {
             reader,
             path,
             question,
-        } => question.answer(alloc, notation, desk, reader, &path),
-        LineRequest::Viewing(view) => view_lines(alloc, notation, desk, &view),
+        } => question.answer(alloc, notation, desk, reader, path),
+        LineRequest::Viewing(view) => view_answer(alloc, notation, desk, view),
         LineRequest::Importing { edit, path, given } => {
             let reply = desk.step(&Request::Edit(edit));
-            import_answer(alloc, desk.draft(), &path, &given, reply)
+            let lines = import_answer(alloc, desk.draft(), &path, &given, reply)?;
+            Ok(Answer::of(alloc, lines))
         }
         LineRequest::Moving {
             edit,
             source,
             target,
-        } => moved(alloc, desk, edit, &source, &target),
+        } => Ok(Answer::of(alloc, moved(alloc, desk, edit, &source, &target)?)),
     }
 }

@@ -67,3 +67,13 @@ impl Notation {
         }
     }
 }
+
+/// How lines are printed as texts, with masks in this spelling.
+pub(crate) fn text_style(spelling: Spelling) -> Style
+    ensures { result ≡ record { spelling = spelling; is_json = false } }
+{
+    Style {
+        spelling,
+        is_json: false,
+    }
+}

@@ -2,14 +2,15 @@
 ghost use Rattle.std.specs.Prelude.{◌≡◌, IfOk};
 ghost use Rattle.sd_script.specs.View.{IsViewed};
 
-use crate::listing::{Lister, NodeFilter};
-use crate::reply::{alone, plain_line};
+use crate::answer::Answer;
+use crate::dump::dump_answer;
+use crate::listing::{NodeFilter, Nodes};
+use crate::reply::plain_line;
 use crate::review::review_lines;
 use crate::script_options::Notation;
 use crate::who::{node_who_lines, only_line};
 use sd_answer::NO_NODE;
 use sd_check::GroupState;
-use sd_line::Line;
 use sd_sid::{Mask, Sid};
 use sd_tree::Path;
 use sd_versions::Desk;
@@ -73,37 +74,45 @@ pub enum ViewRequest {
     },
 }
 
-/// The lines of a view. The only error is out of memory.
-pub(crate) fn view_lines(
+/// What a view is answered by. The only error is out of memory.
+pub(crate) fn view_answer(
     alloc: Global,
     notation: Notation,
     desk: &Desk,
-    view: &ViewRequest,
-) -> Result<Vec<Line>, AllocError>
-    ensures { IfOk result (λ lines. IsViewed notation desk.now view.now lines.items) }
+    view: ViewRequest,
+) -> Result<Answer, AllocError>
+    ensures { IfOk result (λ answer. IsViewed notation desk.now view answer) }
 {
-    let tree = desk.published();
-    let lister = Lister {
-        alloc,
-        notation,
-        tree,
-    };
     match view {
         ViewRequest::List { path } => {
-            let no_node = plain_line(alloc, NO_NODE)?;
-            lister.nodes_lines(path, &NodeFilter::All, no_node, Vec::new(alloc))
+            let nodes = Nodes {
+                tree: desk.snapshot()?,
+                paths: notation.paths,
+                top: path,
+                which: NodeFilter::All,
+            };
+            nodes.answer(alloc, plain_line(alloc, NO_NODE)?, Vec::new(alloc))
         }
-        ViewRequest::Dump => lister.dump(desk.readers()),
+        ViewRequest::Dump => dump_answer(alloc, notation, desk.readers(), desk.snapshot()?),
         ViewRequest::Who {
             path,
             groups,
             asked,
-        } => node_who_lines(alloc, tree, path, groups, *asked),
+        } => {
+            let lines = node_who_lines(alloc, desk.published(), &path, &groups, asked)?;
+            Ok(Answer::of(alloc, lines))
+        }
         ViewRequest::Only {
             path,
             groups,
             asked,
-        } => alone(alloc, only_line(alloc, tree, path, groups, *asked)?),
-        ViewRequest::Review { path } => review_lines(alloc, notation.paths, desk, path),
+        } => {
+            let line = only_line(alloc, desk.published(), &path, &groups, asked)?;
+            Answer::alone(alloc, line)
+        }
+        ViewRequest::Review { path } => {
+            let lines = review_lines(alloc, notation.paths, desk, &path)?;
+            Ok(Answer::of(alloc, lines))
+        }
     }
 }

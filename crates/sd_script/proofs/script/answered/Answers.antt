@@ -2,6 +2,6 @@
 use Rattle.sd_script.proofs.Untold.{on_err, told_untold}
 use Rattle.sd_script.proofs.script.answered.Goals as goal
 
-pub returns-in_err-push-clause-failed : goal.returns-in_err-push-clause-failed
-returns-in_err-push-clause-failed c =
-    on_err c.from_residual-in_err-push.result (told_untold _ _ c.args.line.now c.in_ok-answer.answer.items c.in_ok-answer.ensures.told)
+pub returns-in_err-end-clause-failed : goal.returns-in_err-end-clause-failed
+returns-in_err-end-clause-failed c =
+    on_err c.from_residual-in_err-end.result (told_untold _ _ c.args.line.now c.in_ok-answer.answer c.in_ok-answer.ensures.told)

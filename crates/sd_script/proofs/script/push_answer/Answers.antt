@@ -6,4 +6,4 @@ use Rattle.sd_script.proofs.script.push_answer.Goals as goal
 pub returns-in_err-push_printed-2-clause-failed : goal.returns-in_err-push_printed-2-clause-failed
 returns-in_err-push_printed-2-clause-failed c =
     on_err c.from_residual-in_err-push_printed-2.result
-    (refl, refl, answered_untold _ _ c.args.line.now c.in_ok-answer-2.answer.items c.in_ok-answer-2.ensures.answered)
+    (refl, refl, answered_untold _ _ c.args.line.now c.in_ok-answer-2.answer c.in_ok-answer-2.ensures.answered)

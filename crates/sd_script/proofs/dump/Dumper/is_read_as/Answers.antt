@@ -1,6 +1,6 @@
 use Rattle.sd_script.proofs.Cited.{LineFault, LineRequest, Notation, Ok, Result, false≢true, line_asks, subst, sym, ◌∙◌, ◌≡◌}
 use Rattle.sd_script.proofs.OneReading.{line-one}
-use Rattle.sd_script.proofs.listing.Lister.is_read_as.Goals as goal
+use Rattle.sd_script.proofs.dump.Dumper.is_read_as.Goals as goal
 
 abbrev read : LineRequest → Result LineRequest LineFault
 read asked = Ok asked

@@ -1,0 +1,89 @@
+-- Lines that are made of a tree aren't counted.
+use Rattle.sd_script.proofs.Cited.{All, Bool, LineOf, List, MappingValue, Names, None, NodeRow, Option, PlainTree, Some, [], ap, append_assoc, codes, entries, false, flat_map, line_with, refl, replay, sym, tallied, true, ℕ, ◌++◌, ◌∙◌, ◌∷◌, ◌≡◌}
+use Rattle.std.specs.Prelude.{map, if◌then◌else◌}
+use Rattle.std.proofs.lemmas.List.Elements.{All-append, All-cons, All-head, All-nil, All-tail}
+use Rattle.sd_acl.specs.Descriptor.{DescriptorValue}
+use Rattle.sd_edit.specs.Answers.{descriptor_at, reply_in}
+use Rattle.sd_inheritance.specs.declared.kind.NodeKind.{NodeKind}
+use Rattle.sd_inheritance.specs.declared.kind.NodeKind.TheVariants.{Container, Object}
+use Rattle.sd_path.specs.Names.{is_root, is_within}
+use Rattle.sd_line.specs.Line.{form, is_of, line_of}
+use Rattle.sd_answer.specs.declared.forms.TheConstants.{OPEN}
+use Rattle.sd_line.specs.declared.line.Value.{Value}
+use Rattle.sd_script.specs.Answer.{made_lines}
+use Rattle.sd_script.specs.Dump.{adding_form, making_line}
+use Rattle.sd_script.specs.Listing.{grants, lines_at, lines_below, node_lines}
+use Rattle.sd_script.specs.declared.answer.Made.{Made}
+use Rattle.sd_script.specs.declared.answer.Made.TheVariants as made
+use Rattle.sd_script.specs.declared.listing.NodeFilter.{NodeFilter}
+use Rattle.sd_script.specs.declared.listing.NodeFilter.TheVariants as filters
+use Rattle.sd_script.specs.declared.paths.PathSpelling.{PathSpelling}
+use Rattle.sd_script.specs.declared.script_counts.ScriptCounts.{ScriptCounts}
+
+-- of no kind that is counted
+abbrev pub Quiet : LineOf → Type 0
+Quiet l = (is_of (codes "fault") l ≡ false) × (is_of (codes "refused") l ≡ false) × (is_of (codes "ok") l ≡ false)
+
+quiet_first : (line : List ℕ) (ls : List LineOf) (t : ScriptCounts) → All Quiet ls → tallied line [] t ≡ tallied line ls t
+quiet_first line [] t all = refl
+quiet_first line (l ∷ ls) t all =
+    let quiet = All-head Quiet l ls all in rw (quiet.0, quiet.1, quiet.2) refl
+
+-- of an answer its first lines are counted, where those after them are quiet
+pub said_counts : (line : List ℕ) (said quiet : List LineOf) (t : ScriptCounts) → All Quiet quiet → tallied line said t ≡ tallied line (said ++ quiet) t
+said_counts line [] quiet t all = quiet_first line quiet t all
+said_counts line (l ∷ ls) quiet t all = refl
+
+-- ---- the lines of a tree
+
+one : (l : LineOf) → Quiet l → All Quiet (l ∷ [])
+one l quiet = All-cons Quiet l [] quiet (All-nil Quiet)
+
+node_quiet : (paths : PathSpelling) (kind : NodeKind) (path : Names) (d : Option DescriptorValue) → All Quiet (node_lines paths kind path d)
+node_quiet paths kind path None = All-nil Quiet
+node_quiet paths Container path (Some d) = one _ (refl, refl, refl)
+node_quiet paths Object path (Some d) = one _ (refl, refl, refl)
+
+where_quiet : (b : Bool) (ls : List LineOf) → All Quiet ls → All Quiet (if b then ls else [])
+where_quiet true ls all = all
+where_quiet false ls all = All-nil Quiet
+
+at_quiet : (paths : PathSpelling) (g : MappingValue) (t : PlainTree) (which : NodeFilter) (node : Names × NodeRow) → All Quiet (lines_at paths g t which node)
+at_quiet paths g t filters.All node = node_quiet paths node.1.kind node.0 (descriptor_at g t node.0)
+at_quiet paths g t (filters.Granting token asked) node = where_quiet (grants (reply_in g t node.0 token asked)) _ (one _ (refl, refl, refl))
+
+pieces_quiet : {A : Type 0} (f : A → List LineOf) → ((e : A) → All Quiet (f e)) → (es : List A) → All Quiet (flat_map f es)
+pieces_quiet f each [] = All-nil Quiet
+pieces_quiet f each (e ∷ es) = All-append Quiet (f e) (flat_map f es) (each e) (pieces_quiet f each es)
+
+making_quiet : (paths : PathSpelling) (readers : ℕ) (root : Bool) (kind : NodeKind) (opens adds : List Value)
+    → Quiet (if root then line_of (form OPEN) opens else line_of (adding_form kind) adds)
+making_quiet paths readers true kind opens adds = (refl, refl, refl)
+making_quiet paths readers false Container opens adds = (refl, refl, refl)
+making_quiet paths readers false Object opens adds = (refl, refl, refl)
+
+each_quiet : (paths : PathSpelling) (readers : ℕ) (es : List (Names × NodeRow)) → All Quiet (map (making_line paths readers) es)
+each_quiet paths readers [] = All-nil Quiet
+each_quiet paths readers (e ∷ es) =
+    All-cons Quiet (making_line paths readers e) (map (making_line paths readers) es) (making_quiet paths readers (is_root e.0) e.1.kind _ _) (each_quiet paths readers es)
+
+made_quiet : (m : Made) → All Quiet (made_lines m)
+made_quiet made.Nothing = All-nil Quiet
+made_quiet (made.Nodes n) =
+    let t = replay n.tree.opening n.tree.journal in
+    let g = n.tree.opening.mapping in
+    pieces_quiet (lines_below n.paths g t n.top n.which) (λ node. where_quiet (is_within n.top node.0) _ (at_quiet n.paths g t n.which node)) (entries t)
+made_quiet (made.Dump d) =
+    All-append Quiet _ _ (each_quiet d.notation.paths d.readers (entries (replay d.tree.opening d.tree.journal))) (one _ (refl, refl, refl))
+
+ends_quiet : (ends : List LineOf) → All (λ l. l ≡ line_with [] []) ends → All Quiet ends
+ends_quiet [] all = All-nil Quiet
+ends_quiet (l ∷ ls) all =
+    All-cons Quiet l ls (rw (All-head (λ l. l ≡ line_with [] []) l ls all) (refl, refl, refl)) (ends_quiet ls (All-tail (λ l. l ≡ line_with [] []) l ls all))
+
+-- none of the lines after an answer's first ones is counted
+pub answer_counts : (line : List ℕ) (lines ends : List LineOf) (m : Made) (t : ScriptCounts) → All (λ l. l ≡ line_with [] []) ends
+    → tallied line lines t ≡ tallied line (lines ++ made_lines m ++ ends) t
+answer_counts line lines ends m t all =
+    said_counts line lines (made_lines m ++ ends) t (All-append Quiet (made_lines m) ends (made_quiet m) (ends_quiet ends all))
+    ∙ ap (λ (ls : List LineOf). tallied line ls t) (sym (append_assoc lines (made_lines m) ends))

@@ -1,0 +1,14 @@
+-- The lines of an answer that are made of a tree as they are printed.
+use Rattle.std.specs.Prelude.{List, []}
+use Rattle.sd_edit.specs.Journal.{replay}
+use Rattle.sd_line.specs.Line.{LineOf}
+use Rattle.sd_script.specs.Dump.{dump_lines}
+use Rattle.sd_script.specs.Listing.{nodes_below}
+use Rattle.sd_script.specs.declared.answer.Made.{Made}
+use Rattle.sd_script.specs.declared.answer.Made.TheVariants.{Nothing, Nodes, Dump}
+
+-- those of the nodes at and below a path, or those that make the tree
+abbrev pub made_lines : Made → List LineOf
+made_lines Nothing = []
+made_lines (Nodes n) = nodes_below n.paths n.tree.opening n.tree.journal n.top n.which
+made_lines (Dump d) = dump_lines d.notation.paths d.readers (replay d.tree.opening d.tree.journal)
