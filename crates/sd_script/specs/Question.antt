@@ -1,4 +1,4 @@
--- What a reader asks about the node of a path, and what it is told: by the published tree, at one moment.
+-- What a reader asks about the node of a path, and the answer: by the published tree, at one moment.
 use Rattle.std.specs.Prelude.{◌≡◌, ℕ, nat_lt, List, [], ◌∷◌, length, if◌then◌else◌}
 use Rattle.sd_edit.specs.Answers.{answer, descriptor_at}
 use Rattle.sd_path.specs.Names.{Names}

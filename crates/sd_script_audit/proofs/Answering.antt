@@ -31,7 +31,7 @@ pub none_waits : (pending journal : List Edit) → length pending ≤ 0 → jour
 none_waits [] journal none = sym (append-nil journal)
 none_waits (edit ∷ edits) journal none = absurd (omega (arith, none))
 
--- and then the journal's length is told
+-- and then the journal's length follows
 pub told_after : (style : Style) (pending : List Edit) (n : ℕ) (out between grown : List ℕ) (line : LineOf) → between ≡ out ++ printed style None (last_publish pending n)
     → grown ≡ between ++ printed style None (line ∷ []) → line ≡ counted_line (form TOLD) n
     → grown ≡ out ++ printed style None (last_publish pending n ++ counted_line (form TOLD) n ∷ [])

@@ -1,7 +1,7 @@
 -- The answers to the lines of an audit.
 use Rattle.sd_script_audit.proofs.Cited.{AreAnswered, AreAnsweredInAudit, AsksInAudit, Audited, Err, IfErr, IfOk, IfSome, IsAnsweredInAudit, IsDoneOrTold, IsToldInAudit, LineOf, LineRequest, List, None, Ok, Option, PrintsNextInAudit, Progress, Result, ScriptCounts, Some, Style, Vec, ap, append_assoc, end_of, inl, inr, is_open, joined, printed, script_options_of, sym, ℕ, ◌++◌, ◌∙◌, ◌≡◌}
 
--- a line is answered as what it asks for is done, or by what it is told
+-- a line is answered as what it asks for is done, or without that
 pub answered : (workers : ℕ) (old new : Progress) (line : List ℕ) (answer : List LineOf) (found : Result LineRequest (Option (Vec LineOf)))
     → IfOk found (λ asked. AsksInAudit (script_options_of old.store).notation (is_open old.store) line asked)
     → IfErr found (λ told. IfSome told (λ lines. IsToldInAudit (script_options_of old.store).notation (is_open old.store) line lines.items))

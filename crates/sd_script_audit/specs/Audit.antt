@@ -69,7 +69,7 @@ IsDoneInAudit workers old (Moving edit source target) answer new =
     IsDoneAsInScript old (Moving edit source target) answer new
 IsDoneInAudit workers old asked answer new = IsForScripts old answer new
 
--- a line is told something and nothing is done: it is silent, or expects an answer, which scripts alone do, or has a
+-- a line has an answer and nothing is done: it is silent, or expects an answer, which scripts alone do, or has a
 -- fault
 abbrev pub IsToldInAudit : Notation → Bool → List ℕ → List LineOf → Type 0
 IsToldInAudit notation is_open line told =
@@ -81,7 +81,7 @@ abbrev pub AsksInAudit : Notation → Bool → List ℕ → LineRequest → Type
 AsksInAudit notation is_open line asked =
     (is_silent line ≡ false) × (expects line ≡ false) × line_asks notation is_open line (Ok asked)
 
--- a line is answered: it is told, or what it asks for is done
+-- a line is answered: nothing is done, or what it asks for is
 abbrev pub IsAnsweredInAudit : ℕ → Progress → List ℕ → List LineOf → Progress → Type 0
 IsAnsweredInAudit workers old line answer new =
     (IsToldInAudit (script_options_of old.store).notation (is_open old.store) line answer × (new ≡ old))
@@ -98,7 +98,7 @@ abbrev pub answer_line : Opening → List Edits → Query → LineOf
 answer_line opening journal query = seen_line (length journal) (check_line (reply_by opening journal query))
 
 -- the lines after the last line's answer: where a store is open, all that was accepted is published, its length is
--- told, and it answers each query
+-- known to readers, and each query is answered
 abbrev pub end_of : Session → List Query → List LineOf
 end_of (Closed options) queries = []
 end_of (Opened notation m) queries =

@@ -16,7 +16,7 @@ use Rattle.sd_script.specs.declared.session.Session.TheVariants.{Closed, Opened}
 use Rattle.sd_script.specs.declared.script_counts.ScriptCounts.{ScriptCounts}
 use Rattle.sd_script_audit.specs.Audit.{Audited, IsDoneInAudit, Progress}
 
--- what a line asks for is done, or what it is told is its answer; out of memory it is told nothing, and isn't answered
+-- what a line asks for is done, or it has an answer without that; out of memory it has none
 abbrev pub IsDoneOrTold : ℕ → Progress → Result LineRequest (Option (Vec LineOf)) → List LineOf → Progress → Type 0
 IsDoneOrTold workers old (Ok asked) answer new = IsDoneInAudit workers old asked answer new
 IsDoneOrTold workers old (Err (Some told)) answer new = (answer ≡ told.items) × (new ≡ old)

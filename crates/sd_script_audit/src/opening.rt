@@ -59,8 +59,8 @@ impl AnswersLines for Openings {
 }
 
 impl Openings {
-    /// What an opening is answered by; what a line is told is its answer. Whether the store is refused a store of one
-    /// thread says.
+    /// What an opening is answered by, or the answer that a line has without one. Whether the store is refused a store
+    /// of one thread says.
     fn open(
         &self,
         alloc: Global,

@@ -70,8 +70,8 @@ impl<J: StoreId, T: Wait> AnswersLines for Queries<'_, J, T> {
 }
 
 impl<J: StoreId, T: Wait> Queries<'_, J, T> {
-    /// What is asked is done, and answered by this; what a line is told is its answer. A check is kept, and what only a
-    /// script does is a fault. After an import or a move the node is compared in the tree of all accepted edits.
+    /// What is asked is done, and answered by this, or the line has an answer without that. A check is kept, and what
+    /// only a script does is a fault. After an import or a move the node is compared in the tree of all accepted edits.
     fn done(
         &self,
         alloc: Global,

@@ -1,4 +1,4 @@
--- The line is told, and its answer can't grow to its end.
+-- The line has an answer, which can't grow to its end.
 use Rattle.sd_script.proofs.Untold.{on_err, told_untold}
 use Rattle.sd_script.proofs.script.answered.Goals as goal
 
