@@ -173,7 +173,7 @@ class Connection(asyncio.BufferedProtocol):
         """Whether the client takes its answers, and has had no more than its turn."""
         if self._is_full or self._unsent or self._finishes:
             return False
-        if time.perf_counter() < self._turn.ends or not self._turn.is_over():
+        if not self._turn.is_over():
             return True
         self._turn.again(self)
         return False

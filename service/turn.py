@@ -4,7 +4,7 @@ import asyncio
 import time
 from typing import Protocol
 
-#: A client has so much of twice the time. Then others have the loop, for a round of it or for the rest of that time.
+#: A client has so much in a round of the loop, and the answer that it is in then.
 _SECONDS = 0.004
 
 
@@ -12,55 +12,63 @@ class Worker(Protocol):
     """A connection."""
 
     def proceed(self) -> None:
-        """Answers what can be answered."""
+        """Answers what can be answered, between `begin` and `end` of its client's turn."""
 
 
 class Turn:
-    """The turns of one client. Only the time counts in which its connections are at work."""
+    """The turns of one client. Only the time counts in which its connections are at work: what is left of a turn is
+    there for later rounds, and one that is used up is followed by the next one in another round."""
 
     def __init__(self) -> None:
         self._loop = asyncio.get_running_loop()
-        #: When it is over, if a connection is at work, or 0; when another one begins by itself; and what is left of it.
-        self.ends = self._next = self._left = 0.0
-        #: The connections that proceed in the next turn, in their order.
+        #: When it is over, if a connection is at work, or 0; and what is left of it while none is.
+        self._ends, self._left = 0.0, _SECONDS
+        #: The connections that proceed in the next turn, in their order, and whether it will begin by itself.
         self._later: dict[Worker, None] = {}
+        self._is_due = False
 
     def begin(self) -> None:
         """A connection is at work from here on, up to `end`."""
-        now = time.perf_counter()
-        if now >= self._next:
-            self._left, self._next = _SECONDS, now + 2 * _SECONDS
-        self.ends = now + self._left
+        self._ends = time.perf_counter() + self._left
 
     def end(self) -> None:
         """It waits for others."""
-        if self.ends:
-            self._left = self.ends - time.perf_counter()
-        self.ends = 0.0
+        self._left, self._ends = self._ends - time.perf_counter(), 0.0
+        if self._left <= 0:
+            self._have_next()
 
     def is_over(self) -> bool:
-        """Whether others have the loop now. If no connection is at work, the one that asks is from here on."""
-        if not self.ends or time.perf_counter() >= self._next:
-            self.begin()
-        return time.perf_counter() >= self.ends
+        """Whether others have the loop now; so it is too if no connection is at work."""
+        return time.perf_counter() >= self._ends
 
     def again(self, worker: Worker) -> None:
         """The connection proceeds in the next round of the loop, or later, after those that have asked for it."""
-        if not self._later:
-            self._loop.call_soon(self._go_on)
         self._later.setdefault(worker)
+        self._have_next()
 
-    def _go_on(self) -> None:
-        """A turn begins. Those that don't get to it are the first of the next one."""
-        self._next = 0.0
-        waiting, self._later = list(self._later), {}
-        at = 0
+    def _have_next(self) -> None:
+        """The next turn begins in another round of the loop."""
+        if not self._is_due:
+            self._is_due = True
+            self._loop.call_soon(self._let_others)
+
+    def _let_others(self) -> None:
+        """Those that ask in this round, which it reads after this call, come before connections that wait."""
+        if self._later:
+            self._loop.call_soon(self._next)
+        else:
+            self._next()
+
+    def _next(self) -> None:
+        """A turn begins. Those that don't get to it are the first of the one after it."""
+        self._is_due, self._left = False, _SECONDS
+        waiting, self._later = self._later, {}
         try:
-            while at < len(waiting) and not self.is_over():
-                at += 1
-                waiting[at - 1].proceed()
+            while waiting and self._left > 0:
+                worker = next(iter(waiting))
+                del waiting[worker]
+                worker.proceed()
         finally:
-            rest = dict.fromkeys(waiting[at:])
-            if rest and not self._later:
-                self._loop.call_soon(self._go_on)
-            self._later = rest | self._later
+            if waiting:
+                self._later = waiting | self._later
+                self._have_next()

@@ -2,7 +2,9 @@
 
 import asyncio
 import contextlib
+import itertools
 import os
+import socket
 import subprocess
 import sys
 import unittest
@@ -119,39 +121,75 @@ class HeldTests(unittest.TestCase):
         self.assertEqual(held.total, 20)
 
 
+class Asking:
+    """A connection whose client sends so many requests in a round of the loop, each of which takes so long by a clock
+    that nothing else moves."""
+
+    now = 0.0
+
+    def __init__(self, turn: Turn, seconds: float, most: int) -> None:
+        self.turn, self.seconds, self.most = turn, seconds, most
+        self.count = 0
+
+    def proceed(self) -> None:
+        self.turn.begin()
+        for _ in range(self.most):
+            if self.turn.is_over():
+                self.turn.again(self)
+                break
+            self.count += 1
+            Asking.now += self.seconds
+        self.turn.end()
+
+
+@mock.patch("time.perf_counter", lambda: Asking.now)
 class TurnTests(unittest.TestCase):
     def test_connections_share_a_turn(self) -> None:
-        """Of a client's connections with much to do each goes on, one after the other; another client isn't late."""
-
-        now = 0.0
-
-        class Worker:
-            def __init__(self, turn: Turn) -> None:
-                self.turn, self.count = turn, 0
-
-            def proceed(self) -> None:
-                nonlocal now
-                while not self.turn.is_over():
-                    self.count += 1
-                    now += 0.000_1
-                self.turn.again(self)
+        """Of a client's connections with much to do each goes on, one after the other. Who asks in the midst of a turn
+        is answered before the next one, as what a round of the loop reads comes after what it was asked to call."""
 
         async def work() -> tuple[list[int], list[float]]:
             turn = Turn()
-            many = [Worker(turn) for _ in range(100)]
+            many = [Asking(turn, 0.000_1, 1_000) for _ in range(100)]
             for each in many:
                 each.proceed()
             rounds = list[float]()
-            for _ in range(300):
-                began = now
+            for _ in range(600):
+                began = Asking.now
                 await asyncio.sleep(0)
-                rounds.append(now - began)
+                rounds.append(Asking.now - began)
             return [each.count for each in many], rounds
 
-        with mock.patch("time.perf_counter", lambda: now):
-            counts, rounds = asyncio.run(work())
+        counts, rounds = asyncio.run(work())
         self.assertGreater(min(counts), 0)
-        self.assertLess(max(rounds), 0.005)
+        self.assertLess(max(map(sum, itertools.pairwise(rounds))), 0.005)
+
+    def test_one_turn_in_a_round_of_the_loop(self) -> None:
+        """A client has no more, and the answer that it is in, over any number of connections, though a turn passes with
+        each answer of its own or of another client between two of them."""
+        for seconds, most, bound in ((0.020, 1_000, 0.024), (0.003, 1, 0.007)):
+            with self.subTest(seconds=seconds):
+                rounds, counts = asyncio.run(self.read_at_once(seconds, most))
+                self.assertLess(max(rounds), bound)
+                self.assertGreater(min(counts), 0)
+
+    async def read_at_once(self, seconds: float, most: int) -> tuple[list[float], list[int]]:
+        """How long a client was at work in each round, and how many answers each of its connections has. In each round
+        all of these are read, and between two of them one of another client, which asks what takes 20 ms."""
+        one, other = Turn(), Turn()
+        of_one = [Asking(one, seconds, most) for _ in range(50)]
+        reads = [read for each in of_one for read in (each, Asking(other, 0.020, 1))]
+        readable, writable = socket.socketpair()
+        with readable, writable:
+            writable.send(b"x")
+            asyncio.get_running_loop().add_reader(readable, lambda: [each.proceed() for each in reads])
+            rounds = list[float]()
+            for _ in range(200):
+                before = sum(each.count for each in of_one)
+                await asyncio.sleep(0)
+                rounds.append(seconds * (sum(each.count for each in of_one) - before))
+            asyncio.get_running_loop().remove_reader(readable)
+        return rounds, [each.count for each in of_one]
 
 
 class EditTests(unittest.TestCase):
