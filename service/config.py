@@ -28,7 +28,7 @@ class Limits:
     request_seconds: int = 10
     #: The seconds after which a client without a request is disconnected.
     idle_seconds: int = 600
-    #: Connections at once: in all, of which one of eight is for who may follow or edit; at each place to listen; and
+    #: Connections at once: in all and at each place to listen, of which one of eight is for who may follow or edit; and
     #: of each client.
     connections: int = 2_048
     connections_of_listener: int = 1_024

@@ -1,7 +1,7 @@
 """How many clients are connected: in all, at each place to listen, and of each client.
 
 Connections that ask nothing keep nobody out: a newcomer gets the slot of one of these, of the client that has most. The
-last slots are for who may follow or edit."""
+last slots, in all and at each place, are for who may follow or edit."""
 
 import sys
 from collections import Counter
@@ -12,7 +12,8 @@ from config import Limits
 #: Of so many slots one is for who may follow or edit.
 _RESERVE = 8
 _RESERVED_FOR = ("follow", "edit")
-_ALL, _UNRESERVED = "all", "without a reserve"
+#: What connections count for, the most of these, and why a newcomer beyond them has no slot.
+_Bound = tuple[str, int, str]
 
 
 class Slotted(Protocol):
@@ -43,7 +44,7 @@ class Slots:
 
     def __init__(self, limits: Limits) -> None:
         self._limits = limits
-        #: Each with what it counts for: its client, its listener, all, and those without a reserve.
+        #: Each with what it counts for.
         self._connections: dict[Slotted, tuple[str, ...]] = {}
         self._counts: Counter[str] = Counter()
 
@@ -52,14 +53,8 @@ class Slots:
 
     def take(self, newcomer: Slotted) -> str:
         """Gives the connection a slot, and returns an empty text; otherwise the reason why it has none."""
-        limits = self._limits
-        bounds = [
-            (sys.intern(f"client {newcomer.who}"), limits.connections_of_client, "too many of the client"),
-            (sys.intern(f"listener {newcomer.place}"), limits.connections_of_listener, "too many of the listener"),
-            (_ALL, limits.connections, "too many connections"),
-        ]
-        if newcomer.role not in _RESERVED_FOR:
-            bounds.append((_UNRESERVED, limits.connections - limits.connections // _RESERVE, "too many connections"))
+        # (to compare the names of groups, and to keep them, takes little where each is one text)
+        bounds = [(sys.intern(group), most, reason) for group, most, reason in self._bounds(newcomer)]
         for group, most, reason in bounds:
             if self._counts[group] >= most:
                 rivals = [one for one, groups in self._connections.items() if group in groups]
@@ -68,6 +63,18 @@ class Slots:
         self._connections[newcomer] = tuple(group for group, _, _ in bounds)
         self._counts.update(self._connections[newcomer])
         return ""
+
+    def _bounds(self, newcomer: Slotted) -> list[_Bound]:
+        """Those of its client, its listener and all. Those without a reserve come first: who has no reserve displaces
+        nobody for nothing who has one."""
+        limits = self._limits
+        shared = [
+            (f"listener {newcomer.place}", limits.connections_of_listener, "too many of the listener"),
+            ("all", limits.connections, "too many connections"),
+        ]
+        unreserved = [(f"{group} without a reserve", most - most // _RESERVE, reason) for group, most, reason in shared]
+        of_client = (f"client {newcomer.who}", limits.connections_of_client, "too many of the client")
+        return [of_client, *(() if newcomer.role in _RESERVED_FOR else unreserved), *shared]
 
     def give(self, connection: Slotted) -> None:
         """Its slot is free."""

@@ -67,7 +67,7 @@ class Fake:
 
 
 class SlotTests(unittest.TestCase):
-    """Of 16 slots two are for who may follow or edit; a listener has twelve, and a client eight."""
+    """Of 16 slots two are for who may follow or edit, and of a listener's twelve one; a client has eight."""
 
     def setUp(self) -> None:
         self.slots = Slots(Limits(connections=16, connections_of_listener=12, connections_of_client=8))
@@ -84,25 +84,38 @@ class SlotTests(unittest.TestCase):
         self.assertEqual((self.take("a", idle_since=None)[1], made[3].reasons), ([], ["displaced"]))
 
     def test_of_a_listener(self) -> None:
-        self.take(*"abcdefghijkl", idle_since=None)
+        self.take(*"abcdefghijk", idle_since=None)
         self.assertEqual(self.take("m")[1], ["too many of the listener"])
         self.assertEqual(self.take("m", place="http")[1], [])
 
     def test_a_reserve(self) -> None:
-        """Who may follow or edit has a slot where all others are taken."""
-        self.take(*"abcdefghijkl", idle_since=None)
-        self.assertEqual(self.take("m", "n", "o", place="http", idle_since=None)[1], ["too many connections"])
-        self.assertEqual(self.take("x", "y", role="edit", place="http", idle_since=None)[1], [])
+        """Who may follow or edit has a slot where all others are taken: in all, and at each listener."""
+        self.take(*"abcdefghijk", idle_since=None)
+        self.assertEqual(self.take("l", "m", "n", "o", place="http", idle_since=None)[1], ["too many connections"])
+        self.assertEqual(self.take("m")[1], ["too many of the listener"])
+        self.assertEqual(self.take("x", role="edit", idle_since=None)[1], [])
+        self.assertEqual(self.take("y", role="edit", idle_since=None)[1], ["too many of the listener"])
+        self.assertEqual(self.take("y", role="edit", place="http", idle_since=None)[1], [])
         self.assertEqual(self.take("z", role="follow", place="http")[1], ["too many connections"])
+
+    def test_who_has_no_reserve_takes_none(self) -> None:
+        """A client that finds all slots but these taken displaces nobody who has one of them."""
+        self.take(*"abcdefghijk", idle_since=None)
+        editors, reasons = self.take("x", role="edit")
+        self.assertEqual((self.take("m")[1], reasons), (["too many of the listener"], []))
+        self.take(*"lmn", place="http", idle_since=None)
+        editors += self.take("x", role="edit", place="http")[0]
+        self.assertEqual(self.take("o", place="http")[1], ["too many connections"])
+        self.assertEqual([each.reasons for each in editors], [[], []])
 
     def test_the_longest_idle_of_who_has_most(self) -> None:
         most, _ = self.take(*"aaaaaaaa", idle_since=5.0)
-        few, _ = self.take(*"bbbb", idle_since=1.0)
+        few, _ = self.take(*"bbb", idle_since=1.0)
         most[4].idle_since = 2.0
         self.assertEqual(self.take("c")[1], [])
         self.assertEqual([each.reasons for each in most if each.reasons], [["displaced"]])
         self.assertEqual(most[4].reasons, ["displaced"])
-        self.assertEqual([each.reasons for each in few], [[]] * 4)
+        self.assertEqual([each.reasons for each in few], [[]] * 3)
 
 
 class HeldTests(unittest.TestCase):
@@ -228,12 +241,14 @@ class Limited(rig.Case):
         """Neither idle connections nor half lines of one user take the slots of another one."""
         self.make()
         allow = f'{{"uid:{NOBODY}" = "check", "uid:0" = "edit"}}'
-        self.start("connections = 16\nrequest_seconds = 600", allow=allow)
-        for text in ("", "1 te"):
-            self.crowd(40, text)
-            for at in range(5):
-                self.assertEqual(self.said(f"addo /n{at} O:BAG:SYD:", f"remove /n{at}"), ["ok"] * 2)
-            self.assertEqual(self.get("/readyz")[0], 200)
+        for limit in ("connections", "connections_of_listener"):
+            self.start(f"{limit} = 16\nrequest_seconds = 600", allow=allow)
+            for text in ("", "1 te"):
+                self.crowd(40, text)
+                for at in range(5):
+                    self.assertEqual(self.said(f"addo /n{at} O:BAG:SYD:", f"remove /n{at}"), ["ok"] * 2)
+                self.assertEqual(self.get("/readyz")[0], 200)
+            self.kill()
 
     def test_answers_that_are_not_taken(self) -> None:
         """All together have one limit: the slowest end, and who takes its answers gets them."""
