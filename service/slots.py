@@ -85,15 +85,15 @@ class Slots:
 
 
 def _make_room(newcomer: Slotted, rivals: list[Slotted]) -> bool:
-    """Ends the rival that has asked nothing for longest, of a client that has most of them: of another one only if that
-    has more than the newcomer's will have. False: all of these are asking."""
-    counts = Counter(one.who for one in rivals)
-    most = max(counts.values())
-    clients = {who for who, count in counts.items() if count == most}
-    if counts[newcomer.who] + 1 >= most:
-        clients = {newcomer.who}
-    idle = [(one.idle_since, at) for at, one in enumerate(rivals) if one.who in clients and one.idle_since is not None]
+    """Ends a rival that asks nothing, of the newcomer's client or of one that has more than that will have: of the
+    client that has most, the one that has asked nothing for longest. False: all of these are asking."""
+    counts = Counter([newcomer.who, *(one.who for one in rivals)])
+    own = counts[newcomer.who]
+    idle = [
+        (-counts[one.who], since, at) for at, one in enumerate(rivals)
+        if (one.who == newcomer.who or counts[one.who] > own) and (since := one.idle_since) is not None
+    ]
     if not idle:
         return False
-    rivals[min(idle)[1]].reject("displaced")
+    rivals[min(idle)[-1]].reject("displaced")
     return True

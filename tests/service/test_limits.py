@@ -108,6 +108,16 @@ class SlotTests(unittest.TestCase):
         self.assertEqual(self.take("o", place="http")[1], ["too many connections"])
         self.assertEqual([each.reasons for each in editors], [[], []])
 
+    def test_an_idle_one_where_who_has_most_asks(self) -> None:
+        """It keeps nobody out either, whose client will have fewer."""
+        self.take(*"aaaaaaaabbb", idle_since=None)
+        self.take(*"ccc", place="http", idle_since=None)
+        [one], _ = self.take("x", role="edit", idle_since=2.0)
+        [other], _ = self.take("x", role="edit", place="http", idle_since=1.0)
+        self.assertEqual(self.take("y", role="edit", place="http")[1], [])
+        self.assertEqual((one.reasons, other.reasons), ([], ["displaced"]))
+        self.assertEqual(self.take("z", role="edit", place="http", idle_since=None)[1], ["too many connections"])
+
     def test_the_longest_idle_of_who_has_most(self) -> None:
         most, _ = self.take(*"aaaaaaaa", idle_since=5.0)
         few, _ = self.take(*"bbb", idle_since=1.0)
