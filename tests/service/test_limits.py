@@ -253,12 +253,18 @@ class Limited(rig.Case):
         allow = f'{{"uid:{NOBODY}" = "check", "uid:0" = "edit"}}'
         for limit in ("connections", "connections_of_listener"):
             self.start(f"{limit} = 16\nrequest_seconds = 600", allow=allow)
-            for text in ("", "1 te"):
+            for count, text in enumerate(("", "1 te"), 1):
                 self.crowd(40, text)
+                # (at most 16 of all have a slot)
+                self.wait_for(lambda: self.rejected() >= 40 * count - 16)
                 for at in range(5):
                     self.assertEqual(self.said(f"addo /n{at} O:BAG:SYD:", f"remove /n{at}"), ["ok"] * 2)
                 self.assertEqual(self.get("/readyz")[0], 200)
             self.kill()
+
+    def rejected(self) -> float:
+        """The connections that were closed or not admitted."""
+        return sum(value for name, value in self.metrics().items() if name.startswith("sdstored_rejected_total"))
 
     def test_answers_that_are_not_taken(self) -> None:
         """All together have one limit: the slowest end, and who takes its answers gets them."""
