@@ -3,8 +3,9 @@
 import asyncio
 import math
 import select
+import sys
 import time
-from collections.abc import Coroutine
+from collections.abc import Coroutine, Sequence
 from typing import Any, Protocol, cast
 
 from caller import Caller
@@ -41,6 +42,7 @@ class Connection(asyncio.BufferedProtocol):
         self.service = service
         self._place = place
         self.caller = Caller("", "watch")
+        #: What was received and isn't answered, as it came: apart it would take many times as much.
         self._buffer = bytearray()
         #: The requests in progress, edits or long answers.
         self.in_progress = 0
@@ -57,9 +59,9 @@ class Connection(asyncio.BufferedProtocol):
         self._asked_nothing_since = time.monotonic()
         self._loop = asyncio.get_running_loop()
         self._turn = service.turn_of("")
-        #: The answer that another thread makes, and the bytes that it has; and all that is held.
+        #: The answer that another thread makes, its bytes so far, and those of what was asked; and all that is held.
         self._long: asyncio.Task[None] | None = None
-        self._made = self._held = 0
+        self._made = self._asked = self._held = 0
 
     # Who it is
 
@@ -119,12 +121,8 @@ class Connection(asyncio.BufferedProtocol):
     def buffer_updated(self, nbytes: int) -> None:
         if not self.transport.is_closing():
             self._asked_nothing_since = time.monotonic()
-            self.take(bytes(_ROOM[:nbytes]))
+            self._buffer += _ROOM[:nbytes]
             self.proceed()
-
-    def take(self, data: bytes) -> None:
-        """Takes what was received."""
-        self._buffer += data
 
     def eof_received(self) -> bool:
         """What was asked is answered yet, but over TLS, which can't be half open; half a request isn't carried out."""
@@ -155,9 +153,9 @@ class Connection(asyncio.BufferedProtocol):
         """Reads on, if no request waits; ends, if that is all."""
         if not waits:
             self.transport.resume_reading()
-        elif self.received > _PIECE:
+        elif len(self._buffer) > _PIECE:
             self.transport.pause_reading()
-        owes = self.has_part and not waits
+        owes = bool(self._buffer) and not waits
         self._owes_since = (self._owes_since or time.monotonic()) if owes else None
         if self._is_ended and not waits and not self.in_progress and not self._unsent:
             self.transport.close()
@@ -185,15 +183,16 @@ class Connection(asyncio.BufferedProtocol):
         if self.has_waiting or self._is_ended:
             self._turn.again(self)
 
-    def start_long(self, work: Coroutine[Any, Any, None]) -> None:
-        """Has a task make an answer that takes long, until the client leaves."""
+    def start_long(self, work: Coroutine[Any, Any, None], words: Sequence[str] = ()) -> None:
+        """Has a task make an answer that takes long, to a question of these words, until the client leaves."""
+        self._asked = sum(map(sys.getsizeof, words))
         self._long = self._loop.create_task(work)
         self._long.add_done_callback(self._end_long)
 
     def _end_long(self, done: "asyncio.Task[None]") -> None:
         # (the next one may have begun)
         if self._long is done:
-            self._long, self._made = None, 0
+            self._long, self._made, self._asked = None, 0, 0
             self._count_held()
 
     def hold(self, count: int) -> None:
@@ -248,15 +247,10 @@ class Connection(asyncio.BufferedProtocol):
 
     # What limits it
 
-    @property
-    def received(self) -> int:
-        """The bytes of requests that aren't answered."""
-        return len(self._buffer)
-
     def _count_held(self) -> None:
         """Says how many bytes are held: with those of others these may be too many, and then this client is ended, or
         another one."""
-        count = self.received + self._unsent_bytes + self._made
+        count = len(self._buffer) + self._asked + self._made + self._unsent_bytes
         if self._is_full:
             count += self.transport.get_write_buffer_size()
         if count != self._held and not self.transport.is_closing():
@@ -269,19 +263,14 @@ class Connection(asyncio.BufferedProtocol):
         return min(since for since in (self._owes_since, self._full_since, math.inf) if since is not None)
 
     @property
-    def has_part(self) -> bool:
-        """Whether there is a part of a request."""
-        return bool(self._buffer)
-
-    @property
     def has_waiting(self) -> bool:
-        """Whether there is anything else to answer, or to read on."""
-        return self.received > 0 or not self.transport.is_reading()
+        """Whether there is anything to answer, or to read on."""
+        return bool(self._buffer) or not self.transport.is_reading()
 
     @property
     def idle_since(self) -> float | None:
         """Since when the client asks nothing; None while it does, or takes answers."""
-        is_busy = self.in_progress or self.has_part or self.has_waiting or self._unsent or self._is_full
+        is_busy = self.in_progress or self.has_waiting or self._unsent or self._is_full
         return None if is_busy else self._asked_nothing_since
 
     def reject(self, reason: str) -> None:

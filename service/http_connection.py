@@ -15,6 +15,8 @@ _END = b"\r\n\r\n"
 #: An answer of fewer bytes is sent together with its head.
 _SMALL = 1 << 15
 _CONTINUE = b"HTTP/1.1 100 Continue\r\n\r\n"
+#: The fields of a head that are used: the others aren't kept.
+_USED = frozenset({"connection", "content-length", "content-type", "expect"})
 _NAME = frozenset(b"!#$%&'*+-.^_`|~0123456789abcdefghijklmnopqrstuvwxyzABCDEFGHIJKLMNOPQRSTUVWXYZ")
 
 
@@ -50,7 +52,9 @@ class HttpConnection(Connection):
 
     def __init__(self, service: Service, place: Place) -> None:
         super().__init__(service, place)
+        #: That of the request that isn't all there, and where it ends.
         self._head: Head | None = None
+        self._head_end = 0
 
     def answer_waiting(self) -> bool:
         while not self.in_progress and not self.transport.is_closing() and self.may_answer:
@@ -65,10 +69,6 @@ class HttpConnection(Connection):
             self._ask(*request)
         return True
 
-    @property
-    def has_part(self) -> bool:
-        return bool(self._buffer) or self._head is not None
-
     def _next(self) -> tuple[Head, bytes] | None:
         """The next request; None if it isn't all there."""
         if self._head is None:
@@ -77,22 +77,22 @@ class HttpConnection(Connection):
                 if len(self._buffer) > _HEAD_BYTES:
                     raise BadRequest(HTTPStatus.REQUEST_HEADER_FIELDS_TOO_LARGE, "head")
                 return None
-            self._head = self._begun(end)
-        head = self._head
-        if len(self._buffer) < head.length:
+            self._head, self._head_end = self._begun(end), end + len(_END)
+        head, end = self._head, self._head_end + self._head.length
+        if len(self._buffer) < end:
             return None
+        body = bytes(self._buffer[self._head_end : end])
+        del self._buffer[:end]
         self._head, self._owes_since = None, None
-        body = bytes(self._buffer[: head.length])
-        del self._buffer[: head.length]
         return head, body
 
     def _begun(self, end: int) -> Head:
-        """The head that ends there, which is taken from the buffer."""
+        """The head that ends there."""
         head = head_of(bytes(self._buffer[:end]))
-        del self._buffer[: end + len(_END)]
         if head.length > self.service.limits.request_bytes:
             raise BadRequest(HTTPStatus.REQUEST_ENTITY_TOO_LARGE, "length")
-        if len(self._buffer) < head.length and "100-continue" in head.fields.get("expect", "").lower():
+        there = len(self._buffer) - end - len(_END)
+        if there < head.length and "100-continue" in head.fields.get("expect", "").lower():
             self.transport.write(_CONTINUE)
         return head
 
@@ -150,4 +150,4 @@ def head_of(text: bytes) -> Head:
         raise BadRequest(HTTPStatus.NOT_IMPLEMENTED, "transfer-encoding")
     if "host" not in fields:
         raise BadRequest(HTTPStatus.BAD_REQUEST, "host")
-    return Head(method, target, fields)
+    return Head(method, target, {name: value for name, value in fields.items() if name in _USED})

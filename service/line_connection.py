@@ -1,6 +1,5 @@
 """Lines with ids, as `sdstore --percent serve --ids` answers them (docs/SCRIPT.md), and the commands of `script`."""
 
-from collections import deque
 from collections.abc import Iterator, Sequence
 
 from answers import Answer
@@ -14,6 +13,8 @@ from task import Task
 _REPLACED = "\ufffd"
 #: The most bytes of an id, which each line of an answer has.
 _ID_BYTES = 100
+#: No line that is carried out has as many words. What comes after them is one more: to take it apart takes long.
+_MOST_WORDS = 1 << 12
 
 
 class LineConnection(Connection):
@@ -21,47 +22,31 @@ class LineConnection(Connection):
 
     def __init__(self, service: Service, place: Place) -> None:
         super().__init__(service, place)
-        self._lines: deque[bytes] = deque()
-        #: The bytes of what was received since there was no line left.
-        self._line_bytes = 0
+        #: Up to there what was received has no line feed.
+        self._searched = 0
         self._reader = Reader()
         #: Another thread makes an answer.
         self._is_long = False
 
-    def take(self, data: bytes) -> None:
-        *lines, rest = data.split(b"\n")
-        if lines:
-            if self._buffer:
-                lines[0] = bytes(self._buffer) + lines[0]
-                self._buffer.clear()
-            self._lines += lines
-            self._line_bytes += len(data)
-            self._owes_since = None
-        if rest:
-            self._buffer += rest
-            if len(self._buffer) > self.service.limits.request_bytes:
-                self.reject("line too long")
-
-    @property
-    def received(self) -> int:
-        return len(self._buffer) + self._line_bytes
-
     def answer_waiting(self) -> bool:
-        said: list[str] = []
-        while self._lines and not self._is_long and self.may_answer and self._answer(self._lines[0], said):
-            self._lines.popleft()
-        if not self._lines:
-            self._line_bytes = 0
+        buffer, most, said = self._buffer, self.service.limits.request_bytes, list[str]()
+        begin, end = 0, buffer.find(b"\n", self._searched)
+        while 0 <= end - begin <= most and not self._is_long and self.may_answer:
+            if not self._answer(buffer[begin:end], said):
+                break
+            self._owes_since = None
+            begin, end = end + 1, buffer.find(b"\n", end + 1)
+        del buffer[:begin]
+        self._searched = len(buffer) if end < 0 else end - begin
         if said:
             self.send("".join(said).encode())
-        return bool(self._lines) or self._is_long
-
-    def _answer(self, line: bytes, said: list[str]) -> bool:
-        """Answers a line, or has it answered later. False: it has to wait for edits before it."""
-        if len(line) > self.service.limits.request_bytes:
+        if self._searched > most:
             self.reject("line too long")
-            return False
-        text = line.removesuffix(b"\r").decode(errors="replace")
+        return self._is_long or end >= 0
+
+    def _answer(self, line: bytearray, said: list[str]) -> bool:
+        """Answers a line, or has it answered later. False: it has to wait for edits before it."""
+        text = line.decode(errors="replace").removesuffix("\r")
         tag, words = tagged(text)
         if not words:
             return True
@@ -71,7 +56,7 @@ class LineConnection(Connection):
                 raise Fault.of("id")
             if _REPLACED in text:
                 require_utf8(line)
-            if "" in words:
+            if "" in words or " " in words[-1] and "  " in f" {words[-1]} ":
                 raise Fault.of("words")
             if words[0] in CHANGES or words[0] == "once":
                 return self._submit(words, tag)
@@ -103,7 +88,7 @@ class LineConnection(Connection):
     def _start_long(self, words: list[str], tag: str) -> None:
         self._is_long = True
         self.in_progress += 1
-        self.start_long(self._answer_long(words, tag))
+        self.start_long(self._answer_long(words, tag), words)
 
     async def _answer_long(self, words: Sequence[str], tag: str) -> None:
         try:
@@ -141,13 +126,13 @@ def tagged(text: str) -> tuple[str, list[str]]:
     id has no tag."""
     first, _, asked = text.partition(" ")
     if not first or first[0] == "#" or not (first.isascii() and first.isprintable()):
-        return "", [] if text[:1] in ("", "#") else text.split(" ")
+        return "", [] if text[:1] in ("", "#") else text.split(" ", _MOST_WORDS)
     if not asked or asked[0] == "#":
         return "", []
-    return f"{first} ", asked.split(" ")
+    return f"{first} ", asked.split(" ", _MOST_WORDS)
 
 
-def require_utf8(line: bytes) -> None:
+def require_utf8(line: bytearray) -> None:
     """Fault: it isn't UTF-8."""
     try:
         line.decode()

@@ -7,6 +7,7 @@ import os
 import socket
 import subprocess
 import sys
+import tracemalloc
 import unittest
 from dataclasses import dataclass, field
 from types import SimpleNamespace
@@ -15,9 +16,13 @@ from unittest import mock
 
 import rig
 
+from caller import Caller
 from config import Limits
+from connection import Connection
 from errors import Fault
 from held import Held
+from http_connection import HttpConnection
+from line_connection import LineConnection
 from service import Service
 from slots import Slots
 from task import Task
@@ -215,6 +220,60 @@ class TurnTests(unittest.TestCase):
         return rounds, [each.count for each in of_one]
 
 
+def nothing(*_: object) -> None:
+    """What a stand-in does when it is called."""
+
+
+class MemoryTests(unittest.TestCase):
+    """What is counted of what connections hold is about the memory that it takes."""
+
+    def test_lines_that_wait(self) -> None:
+        """However short they are."""
+        self.assert_counted(LineConnection, b"ab\n" * 43_000, has_turn=False)
+
+    def test_a_request_whose_body_is_not_there(self) -> None:
+        """However many fields its head has."""
+        fields = "".join(f"{at:x}:\r\n" for at in range(2_300))
+        self.assert_counted(HttpConnection, f"POST / HTTP/1.1\r\nHost: x\r\nContent-Length: 9\r\n{fields}\r\n".encode())
+
+    def test_a_question_that_takes_long(self) -> None:
+        """However many words it has."""
+        self.assert_counted(LineConnection, b"x find 0 / %s FR%b\n" % (rig.USER.encode(), b" BU" * 300_000))
+
+    def assert_counted(self, kind: type[Connection], data: bytes, has_turn: bool = True) -> None:
+        """The memory that the data of some connections takes is less than twice what is held and some KiB for each, and
+        what is held less than twice that."""
+        tracemalloc.start()
+        self.addCleanup(tracemalloc.stop)
+        memory, held = asyncio.run(self.filled(kind, data, has_turn))
+        self.assertLess(memory, 10 * (20_000 + 2 * held))
+        self.assertLess(10 * held, 2 * memory)
+
+    async def filled(self, kind: type[Connection], data: bytes, has_turn: bool) -> tuple[int, float]:
+        """The memory that ten connections take more once they have received the data, and what is held of each."""
+        turn = SimpleNamespace(begin=nothing, end=nothing, again=nothing, is_over=lambda: not has_turn)
+        service: Any = SimpleNamespace(
+            turn_of=lambda who: turn, slots=Slots(Limits()), held=Held(1 << 30), limits=Limits(),
+            long_answer=lambda *_: asyncio.get_running_loop().create_future(),
+        )
+        transport: Any = SimpleNamespace(
+            is_closing=lambda: False, is_reading=lambda: True, get_write_buffer_size=lambda: 0,
+            **dict.fromkeys(("set_write_buffer_limits", "pause_reading", "resume_reading", "write"), nothing),
+        )
+        place: Any = SimpleNamespace(connections=set(), name="x", caller=lambda transport: Caller("a", "check"))
+        many = [kind(service, place) for _ in range(10)]
+        for each in many:
+            each.connection_made(transport)
+        before = tracemalloc.get_traced_memory()[0]
+        for at in range(0, len(data), 1 << 16):
+            piece = data[at : at + (1 << 16)]
+            for each in many:
+                each.get_buffer(-1)[: len(piece)] = piece
+                each.buffer_updated(len(piece))
+        await asyncio.sleep(0)
+        return tracemalloc.get_traced_memory()[0] - before, service.held.total / len(many)
+
+
 class EditTests(unittest.TestCase):
     def test_edits_in_progress(self) -> None:
         """Their number has a limit, and so have their characters."""
@@ -265,6 +324,14 @@ class Limited(rig.Case):
     def rejected(self) -> float:
         """The connections that were closed or not admitted."""
         return sum(value for name, value in self.metrics().items() if name.startswith("sdstored_rejected_total"))
+
+    def test_more_words_than_any_question_has(self) -> None:
+        """They have the fault that they have without what comes after them, and an empty word is one wherever it is."""
+        self.make()
+        self.start()
+        words = f"/ {rig.USER} FR{' BU' * 5_000}"
+        lines = (f"check 0 {words}", f"check 0 {words} ", f"check 0 {words}  BU", f"check 0 x{words}")
+        self.assertEqual(self.said(*lines), ["fault token", "fault words", "fault words", "fault path"])
 
     def test_answers_that_are_not_taken(self) -> None:
         """All together have one limit: the slowest end, and who takes its answers gets them."""
