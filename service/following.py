@@ -25,6 +25,8 @@ from writer import RETRY_SECONDS, Writer
 
 #: A replica that has all lines asks again after so many seconds, and one whose source doesn't answer.
 _PAUSE, _SILENT_PAUSE = 0.05, 0.5
+#: At a stop it has so many seconds to get its answer.
+_STOP_SECONDS = 1.0
 #: What a leader says of lines that aren't the replica's. Another refusal may be taken back, as that of a role.
 _OTHER_LINES = ("fault gone", "fault chain")
 
@@ -159,12 +161,13 @@ class Following:
         #: Since when it follows, and the last line that the source had.
         self._began, self._last = clock.now(), 0
         self._is_silent = False
-        self._thread = threading.Thread(target=self._run, name="follower")
+        self._thread = threading.Thread(target=self._run, name="follower", daemon=True)
         self._thread.start()
 
     def stop(self) -> None:
+        """Asks no more. A source that is silent isn't waited for: what it would answer isn't needed."""
         self._stop.set()
-        self._thread.join()
+        self._thread.join(_STOP_SECONDS)
 
     def age(self, fresh_until: float) -> float:
         """How long ago the replica had all lines of its source, where it answers until then."""

@@ -5,6 +5,7 @@ NAME:last, the place of its last line, NAME:lease, who leads, and NAME:snapshot.
 the line that it has as its last one: so there is one history, whatever a clock says."""
 
 import contextlib
+import threading
 from collections.abc import Sequence
 from itertools import islice
 
@@ -39,6 +40,8 @@ end
 local rows = redis.call('XRANGE', KEYS[1], '(' .. ARGV[3] .. '-0', '+', 'COUNT', ARGV[4])
 return {holder == ARGV[1] and 1 or 0, redis.call('GET', KEYS[2]), rows}
 """
+#: Whoever leads no more says so in so many seconds.
+_RESIGN_SECONDS = 1.0
 #: The bytes that a snapshot's head has at most.
 _HEAD_BYTES = 1_000
 #: Replaces the snapshot, and drops the lines before a number.
@@ -65,7 +68,12 @@ class Stream:
         self._redis.close()
 
     def resign(self) -> None:
-        """Leads no more, and ends the connection."""
+        """Leads no more, and ends the connection. Where Redis is silent the lease ends by itself."""
+        thread = threading.Thread(target=self._resign, name="resign", daemon=True)
+        thread.start()
+        thread.join(_RESIGN_SECONDS)
+
+    def _resign(self) -> None:
         with contextlib.suppress(OSError):
             self._poll(Place(0, b""), may_lead=False)
         self.close()

@@ -3,6 +3,7 @@
 import os
 import signal
 import socket
+import time
 import unittest
 from unittest import mock
 
@@ -104,6 +105,32 @@ class Operation(rig.Case):
         rig.run("run", self.config, status=3)
         self.config.write_text("folder = 7")
         self.assertIn("listen: a value of the type list", rig.run("run", self.config, status=2).stderr)
+
+    def test_a_stop_beside_a_source_that_does_not_answer(self) -> None:
+        """It ends a service soon, though its leader is gone, or is connected to and silent, or its Redis is."""
+        self.make()
+        where = self.room / "source"
+        for source, is_there in (("leader", False), ("leader", True), ("redis", True)):
+            with self.subTest(source=source, is_there=is_there), socket.socket(socket.AF_UNIX) as listening:
+                where.unlink(missing_ok=True)
+                if is_there:
+                    listening.bind(str(where))
+                    listening.listen()
+                self.start(more=f'[{source}]\nunix = "{where}"\nmax_age_seconds = 60')
+                asked = self.asked_over(listening) if is_there else None
+                began = time.monotonic()
+                self.stop()
+                self.assertLess(time.monotonic() - began, 30)
+                if asked is not None:
+                    asked.close()
+
+    def asked_over(self, listening: socket.socket) -> socket.socket:
+        """A connection over which something is asked."""
+        listening.settimeout(rig.PATIENCE)
+        asked, _ = listening.accept()
+        asked.settimeout(rig.PATIENCE)
+        self.assertNotEqual(asked.recv(1), b"")
+        return asked
 
     def test_interrupts(self) -> None:
         """SIGINT ends it as SIGTERM does."""
