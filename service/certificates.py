@@ -3,6 +3,7 @@
 import asyncio
 import re
 import ssl
+from asyncio import constants, sslproto
 from dataclasses import dataclass
 from pathlib import Path
 
@@ -10,6 +11,9 @@ from config import Listen
 from errors import Failed
 
 _BLOCK = re.compile(rb"-----BEGIN [^-]+-----.*?-----END [^-]+-----", re.DOTALL)
+#: The bytes of the buffer into which each connection receives, idle ones too, and of what it receives beyond what is
+#: read: as many as a record of TLS has. asyncio's are 256 KiB each.
+_BUFFER_BYTES = 1 << 14
 
 
 @dataclass(frozen=True)
@@ -24,6 +28,7 @@ class Certificates:
         """Failed: a certificate isn't readable."""
         try:
             given = Path(listen.clients).read_bytes()
+            _bound_buffers()
             context = _context(listen)
             if Path(listen.clients).read_bytes() != given:
                 raise Failed(f"{listen.name}: its certificates: {listen.clients} is being written")
@@ -35,6 +40,17 @@ class Certificates:
         """Whether all clients that showed their certificates to the other one may do so here: the authority still has
         each certificate that it had. Who is no longer signed for can't be found without another handshake."""
         return other is not None and other.authority <= self.authority
+
+
+def _bound_buffers() -> None:
+    """asyncio has no parameter for this. Failed: in this Python it has other names, and so buffers of any size."""
+    for where, name, size in (
+        (sslproto.SSLProtocol, "max_size", _BUFFER_BYTES),
+        (constants, "FLOW_CONTROL_HIGH_WATER_SSL_READ", _BUFFER_BYTES >> 10),
+    ):
+        if not isinstance(getattr(where, name, None), int):
+            raise Failed(f"certificates: asyncio has no {name} here, which bounds the memory of a connection")
+        setattr(where, name, size)
 
 
 def _context(listen: Listen) -> ssl.SSLContext:

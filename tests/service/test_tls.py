@@ -8,13 +8,25 @@ import signal
 import socket
 import ssl
 import subprocess
+import tempfile
 import time
+import tracemalloc
 import unittest
+from collections import Counter
+from collections.abc import Callable
 from pathlib import Path
+from unittest import mock
 
 import rig
 
 from client import AsyncClient, Client, Rejected, Unavailable
+from config import Limits, Listen
+from connection import Connection
+from errors import Failed
+from held import Held
+from listening import Listener
+from slots import Slots
+from turn import Turn
 
 
 #: A new key, without a password.
@@ -249,6 +261,71 @@ class Tls(rig.Case):
             with contextlib.suppress(ConnectionError):
                 self.assertEqual(brief.recv(100), b"")
         self.wait_for(lambda: "certificate ended" in self.reasons())
+
+
+class Memory(unittest.IsolatedAsyncioTestCase):
+    """What connections hold, at a place to listen of a service that answers nothing."""
+
+    async def asyncSetUp(self) -> None:
+        if shutil.which("openssl") is None:
+            self.skipTest("the command openssl is required")
+        room = Path(self.enterContext(tempfile.TemporaryDirectory(prefix="sdstored-", dir=rig.ROOMS)))
+        self.ours = Certificates(room, "authority")
+        for name in ("server", "web"):
+            self.ours.sign(name, f"/CN={name}")
+        self.listen = Listen("lines", tcp=("127.0.0.1", rig.free_port()), certificate=f"{room}/server.pem",
+                             key=f"{room}/server.key", clients=f"{room}/authority.pem", allow={"cn:web": "check"})
+        limits = Limits(handshake_seconds=rig.PATIENCE)
+        service = mock.Mock(limits=limits, slots=Slots(limits), held=Held(1 << 30), turn_of=lambda who: Turn())
+        service.metrics.rejected = Counter[str]()
+        self.listener = Listener(self.listen, service)
+        self.addAsyncCleanup(self.listener.close)
+
+    async def connect(self) -> tuple[Connection, ssl.SSLSocket]:
+        """A new connection, and its client."""
+        before = set(self.listener.connections)
+        client = await asyncio.get_running_loop().run_in_executor(None, self.connected)
+        self.addCleanup(client.close)
+        await self.until(lambda: self.listener.connections > before and not self.listener._handshakes)
+        return (self.listener.connections - before).pop(), client
+
+    def connected(self) -> ssl.SSLSocket:
+        plain = socket.create_connection(self.listen.tcp, rig.PATIENCE)
+        return self.ours.context("web").wrap_socket(plain, server_hostname="127.0.0.1")
+
+    async def until(self, is_so: Callable[[], bool]) -> None:
+        end = time.monotonic() + rig.PATIENCE
+        while not is_so():
+            self.assertLess(time.monotonic(), end)
+            await asyncio.sleep(0.001)
+
+    async def test_an_idle_connection(self) -> None:
+        """It takes far less of Python's memory than asyncio's own buffer, of 256 KiB."""
+        made = [await self.connect()]
+        tracemalloc.start()
+        self.addCleanup(tracemalloc.stop)
+        made += [await self.connect() for _ in range(20)]
+        self.assertLess(tracemalloc.get_traced_memory()[0] / 20, 1 << 16)
+
+    async def test_requests_that_are_not_read(self) -> None:
+        """They stay with the system, but for few."""
+        made, client = await self.connect()
+        made.transport.pause_reading()
+        client.settimeout(0)
+        with contextlib.suppress(ssl.SSLWantWriteError):
+            for _ in range(1_000):
+                client.send(bytes(1 << 14))
+        size, seen = made.transport.get_read_buffer_size, 0
+        await self.until(lambda: size() > 0)
+        while seen < size():
+            seen = size()
+            await asyncio.sleep(0.2)
+        self.assertLess(seen, 1 << 16)
+
+    async def test_another_python(self) -> None:
+        """Where asyncio has other names for these buffers nobody is admitted: they might be of any size."""
+        with mock.patch("asyncio.sslproto.SSLProtocol", object), self.assertRaises(Failed):
+            self.listener.configured(self.listen)
 
 
 if __name__ == "__main__":
