@@ -2,6 +2,7 @@
 
 import asyncio
 import contextlib
+import gc
 import random
 import shutil
 import signal
@@ -12,6 +13,7 @@ import tempfile
 import time
 import tracemalloc
 import unittest
+import weakref
 from collections import Counter
 from collections.abc import Callable
 from pathlib import Path
@@ -266,7 +268,7 @@ class Tls(rig.Case):
 class Memory(unittest.IsolatedAsyncioTestCase):
     """What connections hold, at a place to listen of a service that answers nothing."""
 
-    async def asyncSetUp(self) -> None:
+    def setUp(self) -> None:
         if shutil.which("openssl") is None:
             self.skipTest("the command openssl is required")
         room = Path(self.enterContext(tempfile.TemporaryDirectory(prefix="sdstored-", dir=rig.ROOMS)))
@@ -275,6 +277,8 @@ class Memory(unittest.IsolatedAsyncioTestCase):
             self.ours.sign(name, f"/CN={name}")
         self.listen = Listen("lines", tcp=("127.0.0.1", rig.free_port()), certificate=f"{room}/server.pem",
                              key=f"{room}/server.key", clients=f"{room}/authority.pem", allow={"cn:web": "check"})
+
+    async def asyncSetUp(self) -> None:
         limits = Limits(handshake_seconds=rig.PATIENCE)
         service = mock.Mock(limits=limits, slots=Slots(limits), held=Held(1 << 30), turn_of=lambda who: Turn())
         service.metrics.rejected = Counter[str]()
@@ -321,6 +325,23 @@ class Memory(unittest.IsolatedAsyncioTestCase):
             seen = size()
             await asyncio.sleep(0.2)
         self.assertLess(seen, 1 << 16)
+
+    async def test_an_end(self) -> None:
+        """Nothing of a connection waits for a garbage collection, whoever ends it."""
+        gc.disable()
+        self.addCleanup(gc.enable)
+        for number, (ours, closes) in enumerate(((0, True), (1, True), (2, True), (0, False))):
+            with self.subTest(number):
+                made, client = await self.connect()
+                left = weakref.ref(made)
+                for _ in range(ours):
+                    made.transport.close()
+                if closes:
+                    client.close()
+                else:
+                    made.transport.abort()
+                del made
+                await self.until(lambda: left() is None)
 
     async def test_another_python(self) -> None:
         """Where asyncio has other names for these buffers nobody is admitted: they might be of any size."""
