@@ -1,13 +1,15 @@
 """Answers that take long, each made by a thread of its own beside the loop.
 
 There are three kinds, so many of each at a time: what checkers ask, what administrators ask, and what replicas ask of
-the journal; so none of these waits for another one. Within a kind clients take turns; a client has one at a time."""
+the journal; so none of these waits for another one. But all threads share the processors, and Python's lock: while
+there are answers of the other two kinds those of checkers take a part of the time. Within a kind clients take turns; a
+client has one at a time."""
 
 import asyncio
 import contextlib
 import threading
 from collections import Counter, deque
-from collections.abc import Awaitable, Callable
+from collections.abc import Awaitable, Callable, Iterator
 from typing import Any
 
 from answers import Result
@@ -16,6 +18,8 @@ from errors import Fault
 
 BUSY, STOPPING = Result("unavailable", "busy"), Result("unavailable", "stopping")
 KINDS = ("check", "edit", "follow")
+#: The others go first.
+_LAST = "check"
 #: The questions of one client that wait or are answered, of each kind.
 OF_CLIENT = 4
 #: Threads that are at work have so many seconds to notice that the service stops.
@@ -96,6 +100,9 @@ class LongAnswers:
         self._stopped: asyncio.Future[None] = self._loop.create_future()
         self._deadlines: set[Deadline] = set()
         self._threads = 0
+        #: The questions that go before those of checkers, and whether there are none.
+        self._first, self._none_first = 0, threading.Event()
+        self._none_first.set()
 
     async def made(
         self, kind: str, who: str, prepare: Callable[[Deadline], Awaitable[Work]], hold: Callable[[int], None]
@@ -104,14 +111,16 @@ class LongAnswers:
         thread; `hold` is called with the bytes of the answer so far. Fault: there is none, or not in time."""
         if self._stopped.done():
             raise Fault(STOPPING)
-        deadline = Deadline(self._seconds, lambda count: self._later(hold, count))
+        others = self._none_first if kind == _LAST else None
+        deadline = Deadline(self._seconds, lambda count: self._later(hold, count), others)
         self._deadlines.add(deadline)
         task = self._loop.create_task(self._in_turn(self._turns[kind], who, prepare, deadline))
         # (if nobody waits for it any more nobody hears how it ends)
         task.add_done_callback(lambda done: done.cancelled() or done.exception())
         ends: set[asyncio.Future[Any]] = {task, self._stopped}
         try:
-            await asyncio.wait(ends, timeout=self._seconds, return_when=asyncio.FIRST_COMPLETED)
+            with self._going_first(kind):
+                await asyncio.wait(ends, timeout=self._seconds, return_when=asyncio.FIRST_COMPLETED)
             if task.done():
                 return task.result()
             raise Fault(STOPPING if self._stopped.done() else LATE)
@@ -119,6 +128,21 @@ class LongAnswers:
             task.cancel()
             deadline.end(LATE)
             self._deadlines.discard(deadline)
+
+    @contextlib.contextmanager
+    def _going_first(self, kind: str) -> Iterator[None]:
+        """Meanwhile a question of this kind goes before those of checkers, unless it is one of them."""
+        if kind == _LAST:
+            yield
+            return
+        self._first += 1
+        self._none_first.clear()
+        try:
+            yield
+        finally:
+            self._first -= 1
+            if not self._first:
+                self._none_first.set()
 
     async def _in_turn(
         self, turns: Turns, who: str, prepare: Callable[[Deadline], Awaitable[Work]], deadline: Deadline
@@ -164,6 +188,7 @@ class LongAnswers:
         self._stopped.set_result(None)
         for deadline in self._deadlines:
             deadline.end(STOPPING)
+        self._none_first.set()
         end = self._loop.time() + _STOP_SECONDS
         while self._threads and self._loop.time() < end:
             await asyncio.sleep(0.01)

@@ -6,6 +6,7 @@ import threading
 import time
 import unittest
 from collections.abc import Callable
+from unittest import mock
 
 import rig
 
@@ -18,6 +19,43 @@ from long_answers import BUSY, OF_CLIENT, STOPPING, LongAnswers, Work
 
 #: The nodes of a tree, each with a list of its own of so many entries: if all change a review takes some seconds.
 NODES, ENTRIES = 100, 1_750
+
+
+class Others:
+    """What goes first, by a clock that a test sets."""
+
+    def __init__(self) -> None:
+        self.now, self.waits, self.are_done = 0.0, list[float](), False
+
+    def is_set(self) -> bool:
+        return self.are_done
+
+    def wait(self, seconds: float) -> None:
+        self.waits.append(seconds)
+        self.now += seconds
+
+
+class GivingWay(unittest.TestCase):
+    def waits(self, step: float, count: int, are_done: bool = False) -> list[float]:
+        """How long an answer of so many steps waits for others."""
+        others = Others()
+        others.are_done = are_done
+        with mock.patch("time.monotonic", lambda: others.now):
+            deadline = Deadline(1e9, print, others)
+            for _ in range(count):
+                others.now += step
+                deadline.require()
+        return others.waits
+
+    def test_a_part_of_the_time(self) -> None:
+        self.assertEqual(self.waits(0.001, 1_000, are_done=True), [])
+        for step, count in ((0.000_01, 100_000), (0.001, 1_000), (0.05, 20)):
+            with self.subTest(step):
+                self.assertAlmostEqual(sum(self.waits(step, count)), 15, delta=2)
+
+    def test_after_a_long_step(self) -> None:
+        """It learns soon that nobody waits for the answer any more."""
+        self.assertEqual(self.waits(30, 2), [1, 1])
 
 
 class Making(unittest.IsolatedAsyncioTestCase):
@@ -94,6 +132,39 @@ class Making(unittest.IsolatedAsyncioTestCase):
         self.assertEqual(set(self.began), {"a", "x", "y"})
         self.go_on.set()
         await asyncio.gather(*asked, *others)
+
+    async def test_checkers_give_way(self) -> None:
+        """While an answer is made for an administrator or a replica, those of checkers take a small part of the time:
+        they don't stop, and go on by themselves after it."""
+        answers, times = LongAnswers(2, 2 * rig.PATIENCE), list[tuple[float, float]]()
+
+        def work(deadline: Deadline) -> bytes:
+            while not self.go_on.is_set():
+                began = time.monotonic()
+                time.sleep(0.001)
+                worked = time.monotonic()
+                deadline.require()
+                times.append((worked - began, time.monotonic() - worked))
+            return b""
+
+        async def prepare(deadline: Deadline) -> Work:
+            return lambda: work(deadline)
+
+        checkers = [asyncio.create_task(answers.made("check", who, prepare, lambda count: None)) for who in "ab"]
+        for kind in ("edit", "follow"):
+            with self.subTest(kind):
+                await self.until(lambda: len(times) > 20)
+                other = self.ask(answers, "x", kind, ends=False)
+                await self.until(lambda: "x" in self.began)
+                self.began.clear()
+                times.clear()
+                await self.until(lambda: len(times) > 20)
+                worked, waited = map(sum, zip(*times))
+                other.cancel()
+                self.assertGreater(waited, 3 * worked)
+                times.clear()
+        self.go_on.set()
+        await asyncio.gather(*checkers)
 
     async def test_late(self) -> None:
         """An answer that takes longer than it may, or waits for longer, is named; the next one has its turn."""
