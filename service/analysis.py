@@ -3,7 +3,8 @@ deadline.
 
 The lines are those of a script (docs/SCRIPT.md) and of `sdstore compare` (docs/ANALYSIS.md)."""
 
-from collections.abc import Iterable, Iterator, Sequence
+import functools
+from collections.abc import Callable, Iterable, Iterator, Sequence
 from dataclasses import dataclass, field
 from typing import NamedTuple
 
@@ -18,6 +19,8 @@ from tree import Mapping, dumped
 
 #: The most bytes of one answer, and how many more are counted at once.
 ANSWER_BYTES, _STEP = 1 << 28, 1 << 20
+#: The comparisons that a review keeps: nodes beside one another mostly have the same descriptors.
+_KEPT = 64
 #: The words of tokens that are looked at, one by one for each node, between two looks at the deadline.
 _WORDS_AT_ONCE = 4_096
 
@@ -134,7 +137,7 @@ def compared(view: View, path: str, new: Descriptor, base: Sequence[Group], mapp
     """What such tokens gain and lose if the descriptor takes the place of the node's. Fault: there is no node."""
     with view:
         descriptor = _required(view, path)
-    yield from _texts(_changes_of(descriptor.compare(new, base, mapping), has_below=True), "same")
+    yield from _texts(_changes_of(descriptor.compare(new, base, mapping)).of_container, "same")
 
 
 def _texts(lines: Sequence[str], nothing: str) -> Iterator[Answer]:
@@ -144,10 +147,17 @@ def _texts(lines: Sequence[str], nothing: str) -> Iterator[Answer]:
         yield Result(nothing)
 
 
-def _changes_of(comparison: Comparison, has_below: bool) -> list[str]:
-    """A line for each change; `has_below` says whether also of what is made in the node."""
-    below = comparison.below if has_below else ()
-    return list(filter(None, [*map(str, comparison.gained + comparison.lost + below), comparison.inheritance]))
+class _Changes(NamedTuple):
+    """A line for each change: of an object, and of a container, where those of what is made in it are among them."""
+
+    of_object: list[str]
+    of_container: list[str]
+
+
+def _changes_of(comparison: Comparison) -> _Changes:
+    own = comparison.gained + comparison.lost
+    return _Changes(*(list(filter(None, [*map(str, changes), comparison.inheritance]))
+                      for changes in (own, own + comparison.below)))
 
 
 # What a publish would change
@@ -168,6 +178,11 @@ def reviewed(
 ) -> Iterator[Answer]:
     """What the pending edits, of these lines, change at and below the path. Fault: no node is there, and none was."""
     old, new = pending.old, pending.new
+
+    @functools.lru_cache(_KEPT)
+    def compared(was: Descriptor, now: Descriptor) -> _Changes:
+        return _changes_of(was.compare(now, (), mapping))
+
     with old, new:
         was, now = list(deadline.paced(old.paths())), list(deadline.paced(new.paths()))
         stood, stands = frozenset(was), frozenset(now)
@@ -177,12 +192,14 @@ def reviewed(
         for path in deadline.paced(now):
             if _is_within(top, path):
                 before = path if path in stood else origins.of(path)
-                yield from map(Text, _changes(old, new, before, path, mapping))
+                yield from map(Text, _changes(old, new, before, path, compared))
         yield from (Text(f"gone {spelled(path)}") for path in was if path not in stands and _is_within(top, path))
     yield Reviewed(pending.old_length, pending.new_length)
 
 
-def _changes(old: View, new: View, before: str | None, path: str, mapping: Mapping) -> Iterator[str]:
+def _changes(
+    old: View, new: View, before: str | None, path: str, compared: Callable[[Descriptor, Descriptor], _Changes]
+) -> Iterator[str]:
     """The lines of a node that is there now, and was at the path `before`, or nowhere."""
     name = spelled(path)
     if before is None:
@@ -192,7 +209,9 @@ def _changes(old: View, new: View, before: str | None, path: str, mapping: Mappi
         yield f"moved {spelled(before)} {name}"
     was, now = old.descriptor(before), new.descriptor(path)
     if was != now:
-        changes = _changes_of(was.compare(now, (), mapping), new.own(path).is_container)
+        of_object, of_container = compared(was, now)
+        is_container = of_container != of_object and new.own(path).is_container
+        changes = of_container if is_container else of_object
         yield from (f"{name} {change}" for change in changes)
 
 

@@ -4,10 +4,14 @@ import asyncio
 import re
 import unittest
 from collections.abc import Iterator
+from unittest import mock
 
 import rig
 
+from analysis import Pending, reviewed
 from client import AsyncClient, Client, Rejected
+from deadline import Deadline
+from hudarin import FILES, Descriptor, Store
 
 PAGES = rig.TOP / "docs"
 
@@ -110,6 +114,29 @@ class Analysis(rig.Case):
                                  [f"{each}lost 0x120089 by S-1-5-32-545" for each in whose])
 
         asyncio.run(asked())
+
+    def test_nodes_with_the_same_descriptors(self) -> None:
+        """A review compares these once, and says of each node the same as where it compares each."""
+        with Store(Descriptor.from_sddl("O:BAG:SYD:(A;OICI;FR;;;BU)")) as store:
+            for number in range(50):
+                add = store.add_object if number % 2 else store.add_container
+                add(f"/{number:02}", Descriptor.from_sddl("O:BAG:SYD:"))
+            old = store.publish()
+            store.set_dacl("/", Descriptor.from_sddl("D:(A;OICI;FA;;;BU)"))
+            new = store.publish()
+
+        def lines() -> list[str]:
+            pending = Pending(old.share(), new.share(), 50, 51)
+            return [each.line() for each in reviewed(pending, [], "/", FILES, Deadline(rig.PATIENCE, print))]
+
+        with old, new, mock.patch.object(Descriptor, "compare", autospec=True, side_effect=Descriptor.compare) as made:
+            kept, count = lines(), made.call_count
+            self.assertLessEqual(count, 3)
+            with mock.patch("analysis._KEPT", 0):
+                self.assertEqual(lines(), kept)
+            self.assertGreaterEqual(made.call_count, count + 51)
+        self.assertEqual([sum(line.startswith(f"/{name} new objects: ") for line in kept) for name in ("48", "49")],
+                         [1, 0])
 
 
 if __name__ == "__main__":
