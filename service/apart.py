@@ -23,6 +23,8 @@ _BYTES = 16_384
 _LOOK_SECONDS = 0.1
 #: The status of a process that is out of memory.
 _NO_MEMORY = 3
+#: The niceness of one whose answer gives way to others: it has what these leave of the processors.
+_NICENESS = 19
 
 
 def granted(
@@ -33,7 +35,8 @@ def granted(
     if sum(len(bytes(each)) for each in (descriptor, *sids)) <= _BYTES:
         return _lines(descriptor, asked, base, mapping)
     seconds = max(1, math.ceil(deadline.seconds))
-    given: bytes | None = pickle.dumps((seconds, (descriptor, asked, base, mapping)))
+    niceness = _NICENESS if deadline.gives_way else 0
+    given: bytes | None = pickle.dumps((niceness, seconds, (descriptor, asked, base, mapping)))
     modules = os.pathsep.join(each for each in sys.path if each)
     with subprocess.Popen(
         [sys.executable, __file__], stdin=subprocess.PIPE, stdout=subprocess.PIPE, stderr=subprocess.DEVNULL,
@@ -61,7 +64,8 @@ def _lines(descriptor: Descriptor, asked: int, base: Sequence[Group], mapping: M
 
 def _main() -> None:
     """Of the process: prints the lines. If nobody is left who would end it, it ends in that time too."""
-    seconds, arguments = pickle.load(sys.stdin.buffer)
+    niceness, seconds, arguments = pickle.load(sys.stdin.buffer)
+    os.nice(niceness)
     resource.setrlimit(resource.RLIMIT_CPU, (seconds, seconds))
     try:
         sys.stdout.write("\n".join(_lines(*arguments)))

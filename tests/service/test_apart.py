@@ -1,7 +1,11 @@
 """`who` of a node with a long list: answered as of a short one, and ended with its time."""
 
+import contextlib
+import os
+import threading
 import time
 import unittest
+from pathlib import Path
 from unittest import mock
 
 import rig
@@ -40,6 +44,32 @@ class Apart(unittest.TestCase):
             apart.granted(long, 0x1F01FF, (), FILES, Deadline(1, print))
         self.assertEqual(late.exception.answer, LATE)
         self.assertLess(time.monotonic() - began, SECONDS)
+
+    def test_checkers_give_way(self) -> None:
+        """A process for a checker has what others leave of the processors."""
+        others = threading.Event()
+        others.set()
+        for first, niceness in ((None, os.nice(0)), (others, 19)):
+            with self.subTest(niceness):
+                deadline = Deadline(rig.PATIENCE, print, first)
+                asking = threading.Thread(target=self.ask, args=(deadline,))
+                asking.start()
+                found, end = set[int](), time.monotonic() + rig.PATIENCE
+                while niceness not in found and time.monotonic() < end:
+                    found |= {os.getpriority(os.PRIO_PROCESS, child) for child in children()}
+                deadline.end(LATE)
+                asking.join()
+                self.assertLessEqual(found, {os.nice(0), niceness})
+                self.assertIn(niceness, found)
+
+    def ask(self, deadline: Deadline) -> None:
+        with contextlib.suppress(Fault):
+            apart.granted(Descriptor.from_sddl(LONG), 0x1F01FF, (), FILES, deadline)
+
+
+def children() -> list[int]:
+    """The processes that this one has started, by their ids."""
+    return [int(child) for file in Path("/proc/self/task").glob("*/children") for child in file.read_text().split()]
 
 
 class Services(rig.Case):
