@@ -3,13 +3,16 @@
 
     costs.py [FOLDER]
 
-makes its stores in FOLDER, on the disk to measure, and measures how often that flushes a page. It takes a minute, on a
-machine that does nothing else."""
+makes its stores in FOLDER, on the disk to measure, and measures how often that flushes a page. It takes some minutes,
+on a machine that does nothing else, and requires openssl."""
 
+import contextlib
 import itertools
 import os
 import resource
 import selectors
+import socket
+import ssl
 import statistics
 import sys
 import tempfile
@@ -19,10 +22,13 @@ from collections.abc import Callable
 from pathlib import Path
 
 import rig
+from test_tls import Certificates
 
 #: A full tree, with its root.
 NODES = 65_536
 FOLDERS = 256
+#: Those that a review is about, each with a descriptor of its own, and the clients that ask for one beside it.
+CHANGED, CHECKERS = 20_000, "abcd"
 SECONDS = 5.0
 
 
@@ -91,10 +97,27 @@ class Costs(rig.Case):
         print(f"{os.cpu_count()} processors, load {os.getloadavg()[0]:.1f}\n")
         print("| What | Measured | Processor |\n|---|---:|---:|")
         self.make()
+        self.certify()
         self.idle()
         self.edits()
         self.make(full_dump())
         self.full()
+        self.reviews()
+
+    def certify(self) -> None:
+        """A place to listen over TLS, for clients that may check."""
+        ours, self.port = Certificates(self.room, "authority"), rig.free_port()
+        for name in ("server", *CHECKERS):
+            ours.sign(name, f"/CN={name}")
+        files = "".join(f'{name} = "{self.room}/{file}"\n' for name, file in
+                        (("certificate", "server.pem"), ("key", "server.key"), ("clients", "authority.pem")))
+        allow = ", ".join(f'"cn:{name}" = "check"' for name in CHECKERS)
+        self.tls = f'[[listen]]\ntcp = "127.0.0.1:{self.port}"\nprotocol = "lines"\n{files}allow = {{ {allow} }}'
+        self.contexts = {name: ours.context(name) for name in CHECKERS}
+
+    def over_tls(self, name: str = CHECKERS[0]) -> ssl.SSLSocket:
+        plain = socket.create_connection(("127.0.0.1", self.port), rig.PATIENCE)
+        return self.contexts[name].wrap_socket(plain, server_hostname="127.0.0.1")
 
     def flushes(self) -> float:
         """A second: writes of a page, each with its flush, of which a commit needs one."""
@@ -162,18 +185,18 @@ class Costs(rig.Case):
 
             self.say_rate("the same in batches of 100", hundred)
             for line in (f"find 0 / {rig.USER} FR BU", "list", "review"):
-                self.whole(asked, line)
+                self.whole(asked, line, "of a full tree")
             self.beside_edits(single)
         self.stop()
 
-    def whole(self, asked: rig.Lines, line: str) -> None:
+    def whole(self, asked: rig.Lines, line: str, what: str) -> None:
         """A question that looks at each node."""
         before, began, count = self.processor(), time.perf_counter(), 0
         asked.send(f"x {line}\n".encode())
         while asked.read() != b"x \n":
             count += 1
         took, used = time.perf_counter() - began, self.processor() - before
-        say(f"`{line.partition(' ')[0]}` of a full tree, {count:,} lines", f"{took:.1f} s", f"{used:.1f} s")
+        say(f"`{line.partition(' ')[0]}` {what}, {count:,} lines", f"{took:.1f} s", f"{used:.1f} s")
 
     def beside_edits(self, single: Callable[[], int]) -> None:
         stop, made = threading.Event(), [0]
@@ -202,14 +225,45 @@ class Costs(rig.Case):
 
     def idle(self) -> None:
         resource.setrlimit(resource.RLIMIT_NOFILE, (4096, resource.getrlimit(resource.RLIMIT_NOFILE)[1]))
-        self.start("connections_of_client = 1_000")
-        before = self.memory()
-        many = [self.connect() for _ in range(1000)]
-        assert all(each.ask("tell").startswith("told ") for each in many)
-        say("memory of 1,000 idle connections", f"{(self.memory() - before) / 1024:.1f} MiB")
-        for each in many:
-            each.close()
+        for where, connect in (("", lambda: rig.connected(self.lines)), (" over TLS", self.over_tls)):
+            self.start("connections_of_client = 1_000", more=self.tls)
+            before = self.memory()
+            with contextlib.ExitStack() as stack:
+                for _ in range(1000):
+                    client = stack.enter_context(connect())
+                    client.sendall(b"x tell\n")
+                    assert client.recv(100).startswith(b"x told ")
+                say(f"memory of 1,000 idle connections{where}", f"{(self.memory() - before) / 1024:.1f} MiB")
+            self.stop()
+
+    def reviews(self) -> None:
+        """An administrator's review beside those of checkers, which are asked for over and over."""
+        os.rename(self.store, self.room / "full")
+        own = "(A;;FR;;;S-1-5-21-1-2-3-%d)"
+        lines = "".join(f"addo /{node} O:BAG:SYD:{own % node}\n" for node in range(CHANGED))
+        self.make(f"open 1 O:BAG:SYD:(A;OICI;FR;;;BU)\n{lines}publish\n")
+        self.start(more=self.tls)
+        with self.connect() as asked:
+            assert asked.ask("dacl / D:(A;OICI;FA;;;BU)") == "ok"
+            self.whole(asked, "review", f"that changes {CHANGED:,} nodes")
+            stop = threading.Event()
+            others = [threading.Thread(target=self.review_until, args=(stop, name)) for name in CHECKERS]
+            for each in others:
+                each.start()
+            self.whole(asked, "review", f"beside those of {len(CHECKERS)} check clients")
+            stop.set()
+            for each in others:
+                each.join()
         self.stop()
+
+    def review_until(self, stop: threading.Event, name: str) -> None:
+        """Asks for reviews, whether they are late or not."""
+        with self.over_tls(name) as client:
+            while not stop.is_set():
+                client.sendall(b"x review\n")
+                said = b""
+                while not said.endswith(b"\nx \n"):
+                    said = said[-4:] + client.recv(1 << 16)
 
     def memory(self) -> int:
         assert self.process is not None
