@@ -941,6 +941,7 @@ def _access(lines: _Lines, index: int) -> Access:
 def _change(lines: _Lines, index: int, everyone: Callable[[], Sid], base: Tuple[Group, ...]) -> Change:
     """A change; ``everyone`` finds a user whom neither descriptor names."""
     user, others = lines.value(index, b"by"), lines.sids(index, b"with")
+    # (of what is made in a container the kind is "gained below", or "lost below")
     return Change(
         lines.value(index, b"answer").partition(" ")[0],
         lines.value(index, b"mask"),
