@@ -39,7 +39,7 @@ status_text n =
     else if n == 15 then codes "the tree refuses the edit"
     else if n == 16 then codes "there is no node at the path"
     else if n == 17 then codes "the SID is no domain's"
-    else if n == 18 then codes "the descriptor has no such part"
+    else if n == 18 then codes "there is no such part"
     else if n == 19 then codes "a limit of the store is out of range"
     else []
 

@@ -57,7 +57,7 @@ fn status_text(status: u32) -> &'static str
         REFUSED => "the tree refuses the edit",
         NO_NODE => "there is no node at the path",
         DOMAIN => "the SID is no domain's",
-        NO_PART => "the descriptor has no such part",
+        NO_PART => "there is no such part",
         LIMITS => "a limit of the store is out of range",
         _ => "",
     }
