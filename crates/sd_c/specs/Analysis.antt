@@ -120,7 +120,8 @@ bits_of changes = mask_of (is_reported changes) 32
 -- object itself, none where both are the same to a check, and of what is made in it, if it is a container; and whether
 -- its list is protected from inheritance where it was not. The bits that some token gains of the object itself, and
 -- those that some token loses
-abbrev pub AreCompareLines : DescriptorValue × DescriptorValue → BaseValue → (gained_bits lost_bits : ℕ) → List LineOf → Type 0
+abbrev pub AreCompareLines :
+    DescriptorValue × DescriptorValue → BaseValue → (gained_bits lost_bits : ℕ) → List LineOf → Type 0
 AreCompareLines ds base gained_bits lost_bits ls =
     (gained lost : List Change) × (below : List DescendantChange)
     × AreGains base.mapping base.groups (parts_in ds.0) (parts_in ds.1) gained
@@ -140,7 +141,8 @@ abbrev pub AnswersCompare :
     → Type 0
 AnswersCompare kept groups states mapping old new answer =
     ((ls : List LineOf)
-    × AreLinesOf (λ ds base lines. AreCompareLines ds base answer.gained answer.lost lines) kept groups states mapping ls
+    × AreLinesOf (λ ds base lines. AreCompareLines ds base answer.gained answer.lost lines)
+    kept groups states mapping ls
     × KeepsLines ls old new × (answer.answer ≡ unread 0 0 0 0))
     ⊎ ((stop : Stop) × (old.is_there ≡ 0) × Stops kept groups states mapping stop × (new ≡ old)
     × (answer ≡ no_comparison (why_not stop)))

@@ -106,9 +106,9 @@ pub extern "C" fn hudarin_lint(
 }
 
 /// Keeps the lines of what tokens that have the groups gain and lose where the new descriptor takes the place of the
-/// old one ([MS-DTYP] 2.5.3.2), also of what is made in it if it is a container (2.5.3.4): one for each token that shows
-/// it, as `gained 0x2 by S-1-5-32-545` and `new objects: lost 0x1 by everyone`; none where nothing changes. Refused as
-/// `hudarin_who` is.
+/// old one ([MS-DTYP] 2.5.3.2), also of what is made in it if it is a container (2.5.3.4): one for each token that
+/// shows it, as `gained 0x2 by S-1-5-32-545` and `new objects: lost 0x1 by everyone`; none where nothing changes.
+/// Refused as `hudarin_who` is.
 #[unsafe(no_mangle)]
 #[tactic(auto, unfolding(crate::specs::Analysis::both_kept))]
 pub extern "C" fn hudarin_compare(
@@ -252,7 +252,8 @@ fn compare_of(
     states: &[u32],
     mapping: Mapping,
 ) -> Result<Compared, Stop>
-    ensures ok { IfOk result (λ made. AreKept (AreLinesOf (λ ds base ls. AreCompareLines ds base made.gained made.lost ls)
+    ensures ok { IfOk result (λ made. AreKept (AreLinesOf
+        (λ ds base ls. AreCompareLines ds base made.gained made.lost ls)
         (descriptors_in first.now second.now) groups.now states.now mapping) made.lines.value) }
     ensures err { IfErr result
         (λ stop. Stops (descriptors_in first.now second.now) groups.now states.now mapping stop) }

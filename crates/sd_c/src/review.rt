@@ -69,11 +69,11 @@ pub(crate) struct Changes {
     lost: Mask,
 }
 
-/// What a publish would change, for all tokens ([MS-DTYP] 2.5.3.2), at the node of a place: writes its path, and the path
-/// from which a moved one was moved, into the buffer, and keeps the lines of `hudarin_compare`. The places are first those
-/// of the store's tree in path order, then those of the tree as it was last published. Refused if `lines` is in use, if
-/// the other handle keeps no store, after the last place, or out of memory; then, and if the buffer is too small, nothing
-/// is written or kept.
+/// What a publish would change, for all tokens ([MS-DTYP] 2.5.3.2), at the node of a place: writes its path, and the
+/// path from which a moved one was moved, into the buffer, and keeps the lines of `hudarin_compare`. The places are
+/// first those of the store's tree in path order, then those of the tree as it was last published. Refused if `lines`
+/// is in use, if the other handle keeps no store, after the last place, or out of memory; then, and if the buffer is
+/// too small, nothing is written or kept.
 #[unsafe(no_mangle)]
 pub extern "C" fn hudarin_store_review(
     alloc: Global,

@@ -126,8 +126,8 @@ fn descriptor_name(question: DescriptorCommand) -> &'static str
     }
 }
 
-/// The answer to an argument that is invalid: what it should have been, and what standard error says of it. The only error is out
-/// of memory.
+/// The answer to an argument that is invalid: what it should have been, and what standard error says of it. The only
+/// error is out of memory.
 pub fn fault(alloc: Global, what: &str, told: String) -> Result<Answer, AllocError>
     ensures { IfOk result (λ answer. IsFault (fault_line what.now) (string_bytes told) (answer_of answer)) }
 {

@@ -7,7 +7,7 @@ use Rattle.sd_script.specs.Listing.{nodes_below}
 use Rattle.sd_script.specs.declared.answer.Made.{Made}
 use Rattle.sd_script.specs.declared.answer.Made.TheVariants.{Nothing, Nodes, Dump}
 
--- those of the nodes at and below a path, or those that make the tree
+-- lines of the nodes at and below a path, or lines that make the tree
 abbrev pub made_lines : Made → List LineOf
 made_lines Nothing = []
 made_lines (Nodes n) = nodes_below n.paths n.tree.opening n.tree.journal n.top n.which

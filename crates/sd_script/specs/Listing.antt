@@ -66,7 +66,7 @@ abbrev pub nodes_below : PathSpelling → Opening → List Edit → Names → No
 nodes_below paths opening journal top which =
     let t = replay opening journal in flat_map (lines_below paths opening.mapping t top which) (entries t)
 
--- the same after a title; or one line where no node is at the path, or where a path can't be printed
+-- lines of nodes after a title; or one line where no node is at the path, or where a path can't be printed
 abbrev pub nodes_lines : PathSpelling → Opening → List Edit → Names → NodeFilter → LineOf → List LineOf → List LineOf
 nodes_lines paths opening journal top which no_node title =
     let t = replay opening journal in
