@@ -1,6 +1,7 @@
 """What all connections share: the limits of time and size, and answers that a client doesn't take."""
 
 import asyncio
+import contextlib
 import math
 import select
 import sys
@@ -102,6 +103,10 @@ class Connection(asyncio.BufferedProtocol):
 
     def connection_lost(self, error: Exception | None) -> None:
         self._leave()
+        # asyncio's transport of TLS keeps the methods of its protocol, and so kept this, which keeps the transport:
+        # both with their buffers would wait for a collection of all garbage. (One that was closed twice keeps nothing.)
+        with contextlib.suppress(AttributeError):
+            self.transport.set_protocol(asyncio.BufferedProtocol())
 
     def _leave(self) -> None:
         """It has no slot and holds nothing any more, and nobody makes answers for it."""

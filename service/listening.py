@@ -24,6 +24,7 @@ from http_connection import HttpConnection
 from line_connection import LineConnection
 from service import Service
 
+_KINDS: dict[str, type[Connection]] = {"lines": LineConnection, "http": HttpConnection}
 _SO_PEERGROUPS = 59
 #: Python asks for no more bytes. Of a process in more groups than these the primary one alone counts.
 _GROUPS_BYTES = 1024
@@ -31,28 +32,6 @@ _BACKLOG = 1024
 #: A handshake has so many seconds, though others wait for its place.
 _LEAST_SECONDS = 0.25
 _TOO_SLOW = "handshake too slow"
-
-
-class _Ending(Connection):
-    """A connection of which nothing is left at its end."""
-
-    def connection_lost(self, error: Exception | None) -> None:
-        super().connection_lost(error)
-        # asyncio's transport of TLS keeps the methods of its protocol, and so kept this, which keeps the transport:
-        # both with their buffers would wait for a collection of all garbage. (One that was closed twice keeps nothing.)
-        with contextlib.suppress(AttributeError):
-            self.transport.set_protocol(asyncio.BufferedProtocol())
-
-
-class _Lines(_Ending, LineConnection):
-    pass
-
-
-class _Http(_Ending, HttpConnection):
-    pass
-
-
-_KINDS: dict[str, type[Connection]] = {"lines": _Lines, "http": _Http}
 
 
 @dataclass(eq=False)
