@@ -67,6 +67,12 @@ def _each_object(words: list[str], texts: Iterable[str]) -> dict[str, list[dict[
     return {text: list(map(json.loads, lines)) for text, lines in answers.items()}
 
 
+def _require(command: str, line: dict[str, Any], kinds: tuple[str, ...]) -> None:
+    """Invalid: the line is of none of these kinds, but says which fault the command found."""
+    if line.get("answer") not in kinds:
+        raise Invalid(f"sdstore {command}: {' '.join(map(str, line.values()))}")
+
+
 def lint(script: Script, table: Table) -> int:
     """A row for each finding of `sdstore --risks lint` about a node, as the tree is after the changes of the script,
     and how many there are."""
@@ -143,8 +149,7 @@ def grants_of(texts: Iterable[str], rights: int) -> dict[str, list[Grant]]:
 
 
 def _grant(line: dict[str, Any]) -> Grant:
-    if line.get("answer") != "who":
-        raise Invalid(f"sdstore who: {line}")
+    _require("who", line, ("who",))
     return Grant(int(line["mask"], 16), line["to"], "as" in line, tuple(line.get("unless", ())))
 
 
@@ -187,8 +192,7 @@ def reviewed(script: Script, words: list[str]) -> Iterator[tuple[Path, list[Diff
 
 
 def _difference(line: dict[str, Any]) -> Difference:
-    if line.get("answer") not in ("gained", "lost"):
-        raise Invalid(f"sdstore compare: {line}")
+    _require("compare", line, ("gained", "lost"))
     return Difference(line["answer"] == "gained", int(line["mask"], 16), " ".join([line["by"], *line.get("with", ())]))
 
 
