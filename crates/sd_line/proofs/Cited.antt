@@ -1,6 +1,4 @@
 -- What these proofs cite of other modules, passed on from one place.
-pub use Rattle.sd_line.specs.Json.{escaped, hex_digit}
-unfoldable pub use Rattle.sd_line.specs.Json.{json_string}
 pub use Rattle.sd_line.specs.Mask.{AreJoined, IsErrorFrom, IsMaskIn, IsWordErrorAt, IsWordMask, between_pluses, rights_word}
 pub use Rattle.sd_line.specs.Names.{NamedBits, is_of, mask_named, named_bits, names_of}
 pub use Rattle.sd_line.specs.Spelling.{mask_digits, spelled}
@@ -8,52 +6,36 @@ pub use Rattle.sd_line.specs.declared.names.ObjectKind.{ObjectKind}
 pub use Rattle.sd_line.specs.declared.names.ObjectKind.TheVariants.{File, Key, Process, Service}
 pub use Rattle.sd_line.specs.declared.spelling.Spelling.{Spelling}
 pub use Rattle.sd_line.specs.declared.spelling.Spelling.TheVariants.{Names, Number}
-pub use Rattle.sd_sid.proofs.Masks.{flag_test, holds-and, holds-or, holds_place, mask_of-lt, same_masks}
+pub use Rattle.sd_sid.proofs.Masks.{holds-and, holds-or, holds_place, mask_of-lt, same_masks}
 pub use Rattle.sd_sid.specs.Mask.{holds, mask_of}
-pub use Rattle.sd_sid.specs.Sid.{SidValue}
 pub use Rattle.sd_text.proofs.CanonSids.{number_read}
 pub use Rattle.sd_text.proofs.Engine.{no_fault, one_value, whole_value}
 pub use Rattle.sd_text.proofs.Parts.{went}
 pub use Rattle.sd_text.specs.Canon.{hex}
-pub use Rattle.sd_text.specs.Fault.{StandsIn}
 pub use Rattle.sd_text.specs.Finding.{find}
-pub use Rattle.sd_text.specs.Grammar.{Grammar, Name, Spells, SpellsOne}
+pub use Rattle.sd_text.specs.Grammar.{Name, Spells}
 pub use Rattle.sd_text.specs.MaskNames.{is_due, named_from, with_rest, with_word}
 pub use Rattle.sd_text.specs.Rights.{mask_text}
-pub use Rattle.sd_text.specs.Sacl.{sddl_without_sacl}
-pub use Rattle.sd_text.specs.Sddl.{has_entry}
-pub use Rattle.sd_text.specs.Sid.{sid_text_in}
-pub use Rattle.sd_text.specs.declared.alias.Aliases.{Aliases}
 pub use Rattle.sd_text.specs.declared.fault.TextError.{TextError}
 pub use Rattle.sd_text.specs.declared.fault.TextError.TheVariants.{Fault, Memory}
-pub use Rattle.std.proofs.Common.{Bool, Err, List, None, Ok, Option, Result, Some, [], add-one, ap, append-nil, append_assoc, arith, cond, drop, false, fold, get_or, inl, inr, length, map, not, refl, rules, set, slice_get, string_bytes, subst, suc, sym, take, true, zero, ℕ, ◌%◌, ◌&&◌, ◌*◌, ◌++◌, ◌+◌, ◌-◌, ◌/◌, ◌<◌, ◌==◌, ◌^◌, ◌||◌, ◌∙◌, ◌∷◌, ◌≡◌, ◌≢◌, ◌≤◌}
+pub use Rattle.std.proofs.Common.{Bool, Err, List, None, Ok, Option, Result, Some, [], add-one, ap, append-nil, append_assoc, arith, cond, drop, false, get_or, inl, inr, length, map, not, refl, rules, string_bytes, subst, suc, sym, true, ℕ, ◌&&◌, ◌++◌, ◌+◌, ◌<◌, ◌==◌, ◌^◌, ◌||◌, ◌∙◌, ◌∷◌, ◌≡◌}
 pub use Rattle.std.proofs.Math.Seq.{drop-cons}
-pub use Rattle.std.proofs.lemmas.Bool.{and_parts, cases_order, eq-eqb, eqb-true, false≢true, le-ltb, lt-ltb, ltb-false, ltb-true, ne_eqb}
-pub use Rattle.std.proofs.lemmas.Fmt.{decimal_injective, decimal_is_IsNumeral, digits_is_IsNumeral}
-pub use Rattle.std.proofs.lemmas.List.{append_cancel_left, append_cancel_right, get_or-map, length-map, map-append, map-set, take_more}
-pub use Rattle.std.proofs.lemmas.List.Concat.{flat_map-append}
-pub use Rattle.std.proofs.lemmas.List.Elements.{All-append, All-cons, All-head, All-nil, All-tail}
-pub use Rattle.std.proofs.lemmas.List.Quantifiers.{position-Some}
+pub use Rattle.std.proofs.lemmas.Bool.{and_parts, eqb-true, ltb-true, ne_eqb}
+pub use Rattle.std.proofs.lemmas.Fmt.{digits_is_IsNumeral}
 pub use Rattle.std.proofs.lemmas.List.Splits.{join_with_byte-slice_split, length-slice_split, slice_split_first, slice_split_none}
-pub use Rattle.std.proofs.lemmas.List.Sums.{fails_before_first, fold_push}
+pub use Rattle.std.proofs.lemmas.List.Sums.{fails_before_first}
 pub use Rattle.std.proofs.lemmas.Nat.{and_le_l, or_lt}
-pub use Rattle.std.proofs.lemmas.Nat.Bits.{bit_at-suc, bit_at_and, bit_at_lowest, bit_at_or, same_from_bits}
-pub use Rattle.std.proofs.lemmas.Option.{slice_get_read}
+pub use Rattle.std.proofs.lemmas.Nat.Bits.{bit_at_and, bit_at_or, same_from_bits}
 pub use Rattle.std.proofs.lemmas.Result.{err_from_is_err_and}
 pub use Rattle.std.proofs.lemmas.Str.Pattern.{split_once_first}
 pub use Rattle.std.specs.Borrow.{Bor}
 pub use Rattle.std.specs.Char.{digit_value}
-pub use Rattle.std.specs.Fmt.{decimal}
-pub use Rattle.std.specs.Int.{bit_at, trailing_zeros}
+pub use Rattle.std.specs.Int.{bit_at}
 pub use Rattle.std.specs.Int.Bits.{and_zero_r, or_zero_r}
-pub use Rattle.std.specs.Int.Width.{w32}
-pub use Rattle.std.specs.List.{All, after_first, before_first, flat_map, join_with_byte, list_all, list_any, onto_first, position, position_or_len, slice_split}
+pub use Rattle.std.specs.List.{after_first, before_first, join_with_byte, list_all, onto_first, position_or_len, slice_split}
 pub use Rattle.std.specs.Option.{MatchOption}
-pub use Rattle.std.specs.Prelude.{IfErr, IfNone, IfOk, IfSome, IsErrOf, bit_and, bit_or, codes, if◌then◌else◌, nat_le, nat_lt, ⊤}
+pub use Rattle.std.specs.Prelude.{IfErr, IfNone, IfOk, IfSome, IsErrOf, bit_and, bit_or, codes, nat_lt}
 pub use Rattle.std.specs.Result.{MatchResult}
-pub use Rattle.std.specs.Str.{bytes_eq, is_utf8}
 pub use Rattle.std.specs.Str.Parse.{AllDigits}
 pub use denote.Shadow.{shadow}
 pub use denote.Text.{Utf8}
-pub use lib.Count.{under}
-pub use lib.Pointwise.{bytes_decides}

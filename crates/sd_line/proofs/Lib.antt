@@ -3,6 +3,3 @@ mod RightNames
 pub mod Cuts
 pub mod WordsLeft
 mod ComeBack
-mod Strings
-mod Members
-mod Objects

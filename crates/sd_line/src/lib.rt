@@ -25,7 +25,7 @@ mod rights;
 mod spelling;
 mod string;
 
-pub use laws::{masks_come_back, names_are_distinct, objects_are_distinct};
+pub use laws::{masks_come_back, names_are_distinct};
 pub use line::{Line, LineForm, Part, SidMark, Sids, Text, Value};
 pub use mask::read_mask_in;
 pub use names::ObjectKind;

@@ -1,11 +1,11 @@
 -- Members of an object are parsed from the left: a name up to a quote, a number up to a byte that is no digit, a string
 -- and an array up to what closes them. So different members have different texts.
-use Rattle.sd_line.proofs.Cited.{All, AllDigits, All-head, All-tail, List, [], ap, append_assoc, arith, codes, decimal, decimal_injective, decimal_is_IsNumeral, digit_value, flat_map, length, refl, sym, ℕ, ◌++◌, ◌<◌, ◌^◌, ◌∙◌, ◌∷◌, ◌≡◌, ◌≢◌, ◌≤◌, ⊤}
-use Rattle.sd_line.proofs.Strings.{one_string, quoted}
+use Rattle.sd_line_laws.proofs.Cited.{All, AllDigits, All-head, All-tail, List, [], ap, append_assoc, arith, codes, decimal, decimal_injective, decimal_is_IsNumeral, digit_value, flat_map, length, refl, sym, ℕ, ◌++◌, ◌<◌, ◌^◌, ◌∙◌, ◌∷◌, ◌≡◌, ◌≢◌, ◌≤◌, ⊤}
+use Rattle.sd_line_laws.proofs.Strings.{one_string, quoted}
 use Rattle.sd_line.specs.Json.{json_string, named}
 use Rattle.sd_line.specs.Json.{strings as array}
-use Rattle.sd_line.specs.Laws.{IsPlain, Said}
-use Rattle.sd_line.specs.Laws.Said.{Number, String, Strings}
+use Rattle.sd_line_laws.specs.Laws.{IsPlain, Said}
+use Rattle.sd_line_laws.specs.Laws.Said.{Number, String, Strings}
 
 -- ---- names and numbers
 

@@ -1,5 +1,5 @@
-use Rattle.sd_line.proofs.Objects.{same_texts, same_values, with_and_without_a_kind}
-use Rattle.sd_line.proofs.laws.objects_are_distinct.Goals as goal
+use Rattle.sd_line_laws.proofs.Objects.{same_texts, same_values, with_and_without_a_kind}
+use Rattle.sd_line_laws.proofs.laws.objects_are_distinct.Goals as goal
 
 pub returns-clause-values : goal.returns-clause-values
 returns-clause-values c = same_values

@@ -1,6 +1,6 @@
 -- A string of JSON is parsed byte by byte up to the quote that closes it, and gives its text: so different texts have
 -- different strings.
-use Rattle.sd_line.proofs.Cited.{Bool, List, None, Option, Some, [], ap, append_assoc, arith, cond, drop, eqb-true, escaped, flat_map, get_or, hex_digit, inl, inr, is_utf8, json_string, le-ltb, lt-ltb, ltb-false, ltb-true, nat_le, nat_lt, not, refl, sym, went, ℕ, ◌%◌, ◌&&◌, ◌*◌, ◌++◌, ◌+◌, ◌-◌, ◌/◌, ◌==◌, ◌∙◌, ◌∷◌, ◌≡◌}
+use Rattle.sd_line_laws.proofs.Cited.{Bool, List, None, Option, Some, [], ap, append_assoc, arith, cond, drop, eqb-true, escaped, flat_map, get_or, hex_digit, inl, inr, is_utf8, json_string, le-ltb, lt-ltb, ltb-false, ltb-true, nat_le, nat_lt, not, refl, sym, went, ℕ, ◌%◌, ◌&&◌, ◌*◌, ◌++◌, ◌+◌, ◌-◌, ◌/◌, ◌==◌, ◌∙◌, ◌∷◌, ◌≡◌}
 
 -- ---- one byte of a string
 

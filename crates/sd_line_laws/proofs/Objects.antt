@@ -1,9 +1,9 @@
 -- The object of a line determines its kind and its values.
-use Rattle.sd_line.proofs.Cited.{All, All-append, All-cons, All-head, All-nil, All-tail, List, [], ap, append-nil, append_assoc, append_cancel_left, arith, codes, drop, false, flat_map, flat_map-append, get_or, length, map, ne_eqb, refl, sym, ℕ, ◌++◌, ◌<◌, ◌==◌, ◌∙◌, ◌∷◌, ◌≡◌}
-use Rattle.sd_line.proofs.Members.{IsFit, joined, member_text, members, one_end, one_name}
-use Rattle.sd_line.proofs.Strings.{one_string}
+use Rattle.sd_line_laws.proofs.Cited.{All, All-append, All-cons, All-head, All-nil, All-tail, List, [], ap, append-nil, append_assoc, append_cancel_left, arith, codes, drop, false, flat_map, flat_map-append, get_or, length, map, ne_eqb, refl, sym, ℕ, ◌++◌, ◌<◌, ◌==◌, ◌∙◌, ◌∷◌, ◌≡◌}
+use Rattle.sd_line_laws.proofs.Members.{IsFit, joined, member_text, members, one_end, one_name}
+use Rattle.sd_line_laws.proofs.Strings.{one_string}
 use Rattle.sd_line.specs.Json.{json_string}
-use Rattle.sd_line.specs.Laws.{Has64Bits, IsPlain, ObjectsDetermineTexts, ObjectsDetermineValues, ObjectsDetermineWhetherOfAKind, line_fields, said, said_field, said_strings, said_value}
+use Rattle.sd_line_laws.specs.Laws.{Has64Bits, IsPlain, ObjectsDetermineTexts, ObjectsDetermineValues, ObjectsDetermineWhetherOfAKind, line_fields, said, said_field, said_strings, said_value}
 use Rattle.sd_line.specs.Line.{FieldOf, LineOf, PartOf, fields_of}
 use Rattle.sd_line.specs.Printed.{TagOf, field_member, line_members, line_text, list_member, marked_text, member, object, part_members, tag_members}
 use Rattle.sd_line.specs.declared.line.Value.{Value}

@@ -1,0 +1,4 @@
+pub mod Cited
+mod Strings
+mod Members
+mod Objects
