@@ -7,7 +7,7 @@
 //! ```text
 //! let token = read_token(alloc, aliases, user, &["BU", "S-1-5-21-1-2-3-512=deny", "+take"])?;
 //! let lines = why_lines(alloc, mapping, descriptor, &token, Mask(0x3))?;
-//! lines_text(alloc, Spelling::Number, &lines)?; // denied 0x2, and why
+//! push_printed(alloc, &mut out, style, Tag::None, &lines)?; // denied 0x2, and why
 //! ```
 #![tactic(auto)]
 

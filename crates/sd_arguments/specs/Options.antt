@@ -14,13 +14,15 @@ use Rattle.sd_edit.specs.Limits.{IsLimits, LimitsValue, standard_limits}
 use Rattle.sd_script.specs.Argument.{IsNumber}
 use Rattle.sd_script.specs.declared.script_options.ScriptOptions.{ScriptOptions}
 use Rattle.sd_script.specs.declared.paths.PathSpelling.TheVariants as paths
+use Rattle.sd_line.specs.declared.print.Output.{Output}
+use Rattle.sd_line.specs.declared.print.Output.TheVariants as outputs
 use Rattle.sd_line.specs.declared.print.Style.{Style}
 use Rattle.sd_line.specs.declared.spelling.Spelling.{Spelling}
 use Rattle.sd_line.specs.declared.spelling.Spelling.TheVariants.{Number, Names as ByNames}
 use Rattle.sd_usage.specs.Table.{option_named, place, takes_option}
 use Rattle.sd_usage.specs.declared.row.OptionName.{OptionName}
-use Rattle.sd_usage.specs.declared.row.OptionName.TheVariants.{Aliases, Base64, Below, Caret, Concern, Domain, Edits}
-use Rattle.sd_usage.specs.declared.row.OptionName.TheVariants.{Json, Logon, Loose, Mapping, Names, Nodes, Object}
+use Rattle.sd_usage.specs.declared.row.OptionName.TheVariants.{Aliases, Base64, Below, Caret, Color, Concern, Domain}
+use Rattle.sd_usage.specs.declared.row.OptionName.TheVariants.{Edits, Json, Logon, Loose, Mapping, Names, Nodes, Object}
 use Rattle.sd_usage.specs.declared.row.OptionName.TheVariants.{Percent, RequireDacl, Risks, WithoutSacl}
 use Rattle.sd_usage.specs.declared.row.ProgramOption.{ProgramOption}
 use Rattle.sd_usage.specs.declared.row.TheConstants.{OPTION_COUNT}
@@ -104,9 +106,14 @@ go_before = go_before_from false
 abbrev pub spelling_of : OptionsValue → Spelling
 spelling_of options = if has options Names then ByNames (kind_given (given options Mapping)) else Number
 
+-- what lines are printed as: an object of JSON has no colour
+abbrev pub output_of : OptionsValue → Output
+output_of options =
+    if has options Json then outputs.Json else (if has options Color then outputs.Coloured else outputs.Text)
+
 -- how answers are printed
 abbrev pub style_of : OptionsValue → Style
-style_of options = record { spelling = spelling_of options; is_json = has options Json }
+style_of options = record { spelling = spelling_of options; output = output_of options }
 
 -- how bytes are spelled
 abbrev pub byte_form : OptionsValue → ByteForm
@@ -199,7 +206,7 @@ pub record AreScriptOptions (options : OptionsValue) (script_options : ScriptOpt
   pub domain : GivesDomain (given options Domain) script_options.notation.aliases.domain
   pub later : script_options.notation.aliases.later ≡ has options Aliases
   pub without_sacl : script_options.notation.without_sacl ≡ has options WithoutSacl
-  pub is_json : script_options.notation.is_json ≡ has options Json
+  pub output : script_options.notation.output ≡ output_of options
 
 -- in this manner, or this value that isn't read: a limit's only where the others' are
 abbrev pub GivesScriptOptions : OptionsValue → Result ScriptOptions BadValue → Type 0

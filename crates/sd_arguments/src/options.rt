@@ -5,12 +5,13 @@ ghost use Rattle.sd_text.specs.Grammar.{Spells};
 ghost use Rattle.sd_text.specs.Sid.{sid_text};
 ghost use Rattle.sd_arguments.specs.Options.{GivesDomain, GivesLimits, GivesScriptOptions, GivesNumber, GivesSettings};
 ghost use Rattle.sd_arguments.specs.Options.{HasBadValue, IsNoDomain, byte_form, given, go_before, goes_before, has};
-ghost use Rattle.sd_arguments.specs.Options.{no_options, options_in, options_of, spelling_of, style_of, with_option};
+ghost use Rattle.sd_arguments.specs.Options.{no_options, options_in, options_of, output_of, spelling_of, style_of};
+ghost use Rattle.sd_arguments.specs.Options.{with_option};
 ghost use Rattle.sd_arguments.specs.UsageError.{accepted};
 
 use crate::usage_error::{UsageError, UsageErrorKind};
 use sd_commands::{ByteForm, Settings, concern_given, kind_given, logon_given, mapping_given};
-use sd_line::{Spelling, Style};
+use sd_line::{Output, Spelling, Style};
 use sd_script::{Notation, PathSpelling, ScriptOptions, number_in};
 use sd_text::{Aliases, Domain, read_sid_text};
 use sd_tree::{Limits, LimitsError};
@@ -150,7 +151,20 @@ impl<'a> Options<'a> {
     {
         Style {
             spelling: self.spelling(),
-            is_json: self.has(OptionName::Json),
+            output: self.output(),
+        }
+    }
+
+    /// What lines are printed as: `--json` has no colours.
+    fn output(self) -> Output
+        ensures { result ≡ output_of (options_of self.entry) }
+    {
+        if self.has(OptionName::Json) {
+            Output::Json
+        } else if self.has(OptionName::Color) {
+            Output::Coloured
+        } else {
+            Output::Text
         }
     }
 
@@ -181,7 +195,7 @@ impl<'a> Options<'a> {
                 spelling: settings.spelling,
                 aliases: settings.aliases,
                 without_sacl: settings.without_sacl,
-                is_json: self.has(OptionName::Json),
+                output: self.output(),
                 paths: if self.has(OptionName::Percent) {
                     PathSpelling::Percent
                 } else {

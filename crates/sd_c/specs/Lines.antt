@@ -1,5 +1,5 @@
 -- What the calls over the lines of an answer return: how many there are, one as it is printed, and its values.
-use Rattle.std.specs.Prelude.{◌≡◌, ◌⊎◌, ℕ, ◌==◌, not, List, [], length, codes, bytes_eq, slice_get}
+use Rattle.std.specs.Prelude.{◌≡◌, ◌⊎◌, ℕ, ◌==◌, List, [], length, codes, bytes_eq, slice_get}
 use Rattle.std.specs.Prelude.{Option, None, Some, IsSome, option_and_then, option_map, if◌then◌else◌}
 use Rattle.sd_sid.specs.Sid.{SidValue}
 use Rattle.sd_sid.specs.SidBytes.{bytes_of_sid}
@@ -9,6 +9,7 @@ use Rattle.sd_line.specs.declared.line.SidMark.{SidMark}
 use Rattle.sd_line.specs.declared.line.SidMark.TheVariants.{Plain, Deny, Restrict}
 use Rattle.sd_line.specs.declared.line.Value.{Value}
 use Rattle.sd_line.specs.declared.line.Value.TheVariants as values
+use Rattle.sd_line.specs.declared.print.Output.TheVariants as outputs
 use Rattle.sd_line.specs.declared.spelling.Spelling.TheVariants.{Number}
 use Rattle.sd_c.specs.declared.call_answer.Written.{Written}
 use Rattle.sd_c.specs.declared.entries.NoPart.{NoPart}
@@ -100,7 +101,8 @@ TellsCount handle told =
 
 -- the line as it is printed, with its end: as a text, or as an object of JSON
 abbrev pub line_printed : ℕ → LineOf → List ℕ
-line_printed is_json l = printed_line (record { spelling = Number; is_json = not (is_json == 0) }) None l
+line_printed is_json l =
+    printed_line (record { spelling = Number; output = if is_json == 0 then outputs.Text else outputs.Json }) None l
 
 abbrev pub printed_in : ℕ → ℕ → List LineOf → Option (List ℕ)
 printed_in index is_json ls = option_map (line_printed is_json) (slice_get ls index)

@@ -9,7 +9,7 @@ ghost use Rattle.sd_c.specs.Lines.{parts, printed_in, value_at, value_in, word_p
 use crate::call_answer::{Written, length_told, write};
 use crate::entries::{NoPart, no_part};
 use crate::handle::{Handle, Kept};
-use sd_line::{Line, SidMark, Spelling, Style, Tag, Value, push_printed_line, value_text};
+use sd_line::{Line, Output, SidMark, Spelling, Style, Tag, Value, push_printed_line, value_text};
 use sd_sid::{Sid, sid_bytes};
 use std::alloc::{AllocError, Global};
 use std::marker::Model;
@@ -123,7 +123,11 @@ fn line_printed(alloc: Global, line: &Line, is_json: u32) -> Result<Vec<u8>, All
 {
     let style = Style {
         spelling: Spelling::Number,
-        is_json: is_json != 0,
+        output: if is_json == 0 {
+            Output::Text
+        } else {
+            Output::Json
+        },
     };
     let mut bytes = Vec::new(alloc);
     push_printed_line(alloc, &mut bytes, style, Tag::None, line)?;

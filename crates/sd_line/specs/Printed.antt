@@ -1,7 +1,8 @@
 -- What is printed of a line: its text, and its object of JSON.
-use Rattle.std.specs.Prelude.{ℕ, Option, Some, None, ◌==◌, if◌then◌else◌, List, [], ◌∷◌, ◌++◌, codes, length, map}
+use Rattle.std.specs.Prelude.{ℕ, nat_eq, Option, Some, None, ◌==◌, if◌then◌else◌}
+use Rattle.std.specs.Prelude.{List, [], ◌∷◌, ◌++◌, bytes_eq, codes, drop, length, map}
 use Rattle.std.specs.Fmt.{decimal}
-use Rattle.std.specs.List.{flat_map}
+use Rattle.std.specs.List.{flat_map, starts_with}
 use Rattle.sd_sid.specs.Sid.{SidValue}
 use Rattle.sd_text.specs.Canon.{canon_in, entry_canon_in, full_canon}
 use Rattle.sd_line.specs.Form.{pieces_of}
@@ -12,6 +13,8 @@ use Rattle.sd_line.specs.declared.line.SidMark.{SidMark}
 use Rattle.sd_line.specs.declared.line.SidMark.TheVariants.{Plain, Deny, Restrict}
 use Rattle.sd_line.specs.declared.line.Value.{Value}
 use Rattle.sd_line.specs.declared.line.Value.TheVariants.{Mask, Number, Sid, Entry, Descriptor, Text, Sids, Words}
+use Rattle.sd_line.specs.declared.print.Output.{Output}
+use Rattle.sd_line.specs.declared.print.Output.TheVariants as outputs
 use Rattle.sd_line.specs.declared.print.Style.{Style}
 use Rattle.sd_line.specs.declared.print.Tag.{Tag}
 use Rattle.sd_line.specs.declared.print.Tag.TheVariants as tags
@@ -79,10 +82,36 @@ part_text spelling p = first_words (pieces_of p.form) ++ flat_map (field_text sp
 abbrev pub part_members : Spelling → PartOf → List ℕ
 part_members spelling p = flat_map (field_member spelling) (fields_of p)
 
+-- ---- verdicts in colour
+
+-- what a terminal writes in this colour from here on (ECMA-48, 8.3.117): green what is granted, red what is denied
+abbrev pub colour_of : List ℕ → Option (List ℕ)
+colour_of kind =
+    if bytes_eq kind (codes "granted") then Some (27 ∷ codes "[32m")
+    else if bytes_eq kind (codes "denied") then Some (27 ∷ codes "[31m")
+    else None
+
+-- words, where they begin with the kind of a line that has a colour: in it, and what follows as before
+abbrev pub coloured_words : List ℕ → List ℕ → List ℕ
+coloured_words kind words =
+    elim (colour_of kind) [
+      | None ↦ words
+      | Some colour ↦ if starts_with nat_eq words kind
+          then colour ++ kind ++ (27 ∷ codes "[0m") ++ drop (length kind) words
+          else words
+    ]
+
+abbrev pub coloured_part : Spelling → List ℕ → PartOf → List ℕ
+coloured_part spelling kind p =
+    coloured_words kind (first_words (pieces_of p.form)) ++ flat_map (field_text spelling) (fields_of p)
+
 -- ---- lines
 
 abbrev pub line_text : Spelling → LineOf → List ℕ
 line_text spelling l = flat_map (part_text spelling) l.parts
+
+abbrev pub coloured_text : Spelling → LineOf → List ℕ
+coloured_text spelling l = flat_map (coloured_part spelling l.kind) l.parts
 
 -- the members of an object: the kind, and the values by their names; or of no kind the text alone
 abbrev pub line_members : Spelling → LineOf → List ℕ
@@ -122,9 +151,14 @@ tag_members (Some tag) = named tag.0 (json_string tag.2) ++ codes ","
 abbrev pub object : Spelling → TagOf → LineOf → List ℕ
 object spelling tag l = codes "{" ++ tag_members tag ++ line_members spelling l ++ codes "}"
 
+-- a line in an output, without its end
+abbrev pub shown : Output → Spelling → TagOf → LineOf → List ℕ
+shown outputs.Text spelling tag l = head_text tag ++ line_text spelling l
+shown outputs.Coloured spelling tag l = head_text tag ++ coloured_text spelling l
+shown outputs.Json spelling tag l = object spelling tag l
+
 abbrev pub printed_line : Style → TagOf → LineOf → List ℕ
-printed_line style tag l =
-    line (if style.is_json then object style.spelling tag l else head_text tag ++ line_text style.spelling l)
+printed_line style tag l = line (shown style.output style.spelling tag l)
 
 -- an answer as it is printed
 abbrev pub printed : Style → TagOf → List LineOf → List ℕ

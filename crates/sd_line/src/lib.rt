@@ -5,10 +5,11 @@
 //!
 //! ```text
 //! let line = Line::new(alloc, ("granted", "granted {mask}"), vec![in alloc; Value::Mask(Mask(0x160089))]?)?;
-//! let names = Spelling::Names(Some(ObjectKind::File));
-//! lines_text(alloc, names, &[line])?; // granted FR+WD, and a line feed
-//! // and by `push_printed`, with `is_json`: {"answer":"granted","mask":"FR+WD"}
-//! read_mask_in(names, "Full control"); // Mask(0x1F01FF)
+//! let spelling = Spelling::Names(Some(ObjectKind::File));
+//! let style = Style { spelling, output: Output::Text };
+//! push_printed_line(alloc, &mut out, style, Tag::None, &line)?; // granted FR+WD, and a line feed
+//! // and by `Output::Json`: {"answer":"granted","mask":"FR+WD"}
+//! read_mask_in(spelling, "Full control"); // Mask(0x1F01FF)
 //! ```
 #![tactic(auto)]
 
@@ -29,6 +30,6 @@ pub use laws::{masks_come_back, names_are_distinct};
 pub use line::{Line, LineForm, Part, SidMark, Sids, Text, Value};
 pub use mask::read_mask_in;
 pub use names::ObjectKind;
-pub use print::{Style, Tag, lines_text, push_printed, push_printed_line, value_text};
+pub use print::{Output, Style, Tag, push_printed, push_printed_line, value_text};
 pub use rights::rights_line;
 pub use spelling::{Spelling, spell};

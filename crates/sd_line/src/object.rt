@@ -31,10 +31,10 @@ impl Printer {
         ensures { OnOk result (out.new.items ≡ out.old.items
             ++ named (codes "text") (json_string (line_text self.now.spelling line.now))) }
     {
-        let mut text = String::new(self.alloc);
+        let mut text = Vec::new(self.alloc);
         self.push_text(&mut text, line)?;
         out.extend_from_slice(b"\"text\":")?;
-        push_string(out, text.as_bytes())
+        push_string(out, &text)
     }
 
     fn push_parts_members(&self, out: &mut Vec<u8>, parts: &[Part]) -> Result<(), AllocError>

@@ -2,8 +2,7 @@
 
 ghost use Rattle.std.specs.Prelude.{◌≡◌, ◌++◌, IfOk, OnOk, codes, string_bytes};
 ghost use Rattle.sd_line.specs.Json.{json_string};
-ghost use Rattle.sd_line.specs.Printed.{head_text, lines_text, object, printed, printed_line, tag_members, tag_of};
-ghost use Rattle.sd_line.specs.Printed.{value_text};
+ghost use Rattle.sd_line.specs.Printed.{head_text, object, printed, printed_line, tag_members, tag_of, value_text};
 
 use crate::line::{Line, Value};
 use crate::printer::Printer;
@@ -22,29 +21,24 @@ pub enum Tag<'a> {
     Id(&'a [u8]),
 }
 
+/// What each line of an answer is printed as.
+#[derive(Clone, Copy, Debug, PartialEq, Eq)]
+pub enum Output {
+    /// A text.
+    Text,
+    /// A text in which a verdict's word has a colour on a terminal: `granted` is green, and `denied` red.
+    Coloured,
+    /// An object of JSON.
+    Json,
+}
+
 /// How an answer is printed.
 #[derive(Clone, Copy, Debug, PartialEq, Eq)]
 pub struct Style {
     /// How masks are spelled.
     pub spelling: Spelling,
-    /// Whether each line is an object of JSON.
-    pub is_json: bool,
-}
-
-/// Most lines have fewer bytes: their text is one allocation.
-const COMMON_LEN: usize = 128;
-
-/// The texts of lines, each with its end. The only error is out of memory.
-pub fn lines_text(alloc: Global, spelling: Spelling, lines: &[Line]) -> Result<String, AllocError>
-    ensures { IfOk result (λ text. string_bytes text ≡ lines_text spelling lines.now) }
-{
-    let printer = Printer { alloc, spelling };
-    let mut text = String::new(alloc);
-    for line in lines {
-        printer.push_text(&mut text, line)?;
-        text.push_str("\n")?;
-    }
-    Ok(text)
+    /// What each line is printed as.
+    pub output: Output,
 }
 
 /// The text of a value alone. The only error is out of memory.
@@ -85,13 +79,16 @@ pub fn push_printed_line(
         alloc,
         spelling: style.spelling,
     };
-    if style.is_json {
-        printer.push_object(out, tag, line)?;
-    } else {
-        push_head(out, tag)?;
-        let mut text = String::with_capacity(alloc, COMMON_LEN)?;
-        printer.push_text(&mut text, line)?;
-        out.extend_from_slice(text.as_bytes())?;
+    match style.output {
+        Output::Text => {
+            push_head(out, tag)?;
+            printer.push_text(out, line)?;
+        }
+        Output::Coloured => {
+            push_head(out, tag)?;
+            printer.push_coloured(out, line)?;
+        }
+        Output::Json => printer.push_object(out, tag, line)?,
     }
     out.push(b'\n')?;
     Ok(())

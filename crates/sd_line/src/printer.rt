@@ -1,8 +1,9 @@
 //! A line as a text.
 
-ghost use Rattle.std.specs.Prelude.{◌≡◌, ◌++◌, IfOk, OnOk, flat_map, map, string_bytes};
+ghost use Rattle.std.specs.Prelude.{◌≡◌, ◌++◌, IfOk, OnOk, flat_map, map, option_map, string_bytes};
 ghost use Rattle.sd_line.specs.Fields.{fields_in};
-ghost use Rattle.sd_line.specs.Printed.{field_text, line_text, mark_text, marked_text, part_text, spaced, value_text};
+ghost use Rattle.sd_line.specs.Printed.{coloured_part, coloured_text, coloured_words, colour_of, field_text, line_text};
+ghost use Rattle.sd_line.specs.Printed.{mark_text, marked_text, part_text, spaced, value_text};
 
 use crate::fields::Fields;
 use crate::line::{Line, Part, SidMark, Text, Value};
@@ -18,10 +19,13 @@ pub(crate) struct Printer {
     pub(crate) spelling: Spelling,
 }
 
+/// Ends a colour on a terminal.
+const PLAIN: &[u8] = b"\x1b[0m";
+
 impl Printer {
     /// Adds the text of a line, without its end. The only error is out of memory.
-    pub(crate) fn push_text(&self, out: &mut String, line: &Line) -> Result<(), AllocError>
-        ensures { OnOk result (string_bytes out.new ≡ string_bytes out.old ++ line_text self.now.spelling line.now) }
+    pub(crate) fn push_text(&self, out: &mut Vec<u8>, line: &Line) -> Result<(), AllocError>
+        ensures { OnOk result (out.new.items ≡ out.old.items ++ line_text self.now.spelling line.now) }
     {
         for part in line.parts() {
             self.push_part(out, part)?;
@@ -29,35 +33,59 @@ impl Printer {
         Ok(())
     }
 
-    fn push_part(&self, out: &mut String, part: &Part) -> Result<(), AllocError>
-        ensures { OnOk result (string_bytes out.new ≡ string_bytes out.old ++ part_text self.now.spelling part.now) }
+    fn push_part(&self, out: &mut Vec<u8>, part: &Part) -> Result<(), AllocError>
+        ensures { OnOk result (out.new.items ≡ out.old.items ++ part_text self.now.spelling part.now) }
     {
         let (words, fields) = Fields::of(part);
-        out.push_str(words)?;
+        out.extend_from_slice(words.as_bytes())?;
+        self.push_fields(out, fields)
+    }
+
+    /// Adds the text of a line, without its end, in which a verdict's word has its colour. The only error is out of
+    /// memory.
+    pub(crate) fn push_coloured(&self, out: &mut Vec<u8>, line: &Line) -> Result<(), AllocError>
+        ensures { OnOk result (out.new.items ≡ out.old.items ++ coloured_text self.now.spelling line.now) }
+    {
+        for part in line.parts() {
+            self.push_coloured_part(out, line.kind(), part)?;
+        }
+        Ok(())
+    }
+
+    fn push_coloured_part(
+        &self,
+        out: &mut Vec<u8>,
+        kind: &str,
+        part: &Part,
+    ) -> Result<(), AllocError>
+        ensures { OnOk result (out.new.items ≡ out.old.items ++ coloured_part self.now.spelling kind.now part.now) }
+    {
+        let (words, fields) = Fields::of(part);
+        push_coloured_words(out, kind.as_bytes(), words.as_bytes())?;
         self.push_fields(out, fields)
     }
 
     /// Adds the values in turn, each with the words after its name.
-    fn push_fields(&self, out: &mut String, fields: Fields<'_>) -> Result<(), AllocError>
-        ensures { OnOk result (string_bytes out.new ≡ string_bytes out.old
+    fn push_fields(&self, out: &mut Vec<u8>, fields: Fields<'_>) -> Result<(), AllocError>
+        ensures { OnOk result (out.new.items ≡ out.old.items
             ++ flat_map (field_text self.now.spelling) (fields_in fields.entry)) }
     {
         let Some((field, fields)) = fields.first() else {
             return Ok(());
         };
         self.push_value(out, field.value)?;
-        out.push_str(field.words)?;
+        out.extend_from_slice(field.words.as_bytes())?;
         self.push_fields(out, fields)
     }
 
-    fn push_value(&self, out: &mut String, value: &Value) -> Result<(), AllocError>
-        ensures { OnOk result (string_bytes out.new ≡ string_bytes out.old ++ value_text self.now.spelling value.now) }
+    fn push_value(&self, out: &mut Vec<u8>, value: &Value) -> Result<(), AllocError>
+        ensures { OnOk result (out.new.items ≡ out.old.items ++ value_text self.now.spelling value.now) }
     {
         if let Value::Text(text) = value {
-            return out.push_str(text.as_str());
+            return out.extend_from_slice(text.as_str().as_bytes());
         }
         let text = self.value_text(value)?;
-        out.push_str(text.as_str())
+        out.extend_from_slice(text.as_bytes())
     }
 
     pub(crate) fn value_text(&self, value: &Value) -> Result<String, AllocError>
@@ -117,6 +145,34 @@ impl Printer {
         let mut text = print_full_sid(self.alloc, &one.0)?;
         text.push_str(mark_text(one.1))?;
         Ok(text)
+    }
+}
+
+/// Adds words in which the kind of a verdict's line, where they begin with it, has its colour.
+fn push_coloured_words(out: &mut Vec<u8>, kind: &[u8], words: &[u8]) -> Result<(), AllocError>
+    ensures { OnOk result (out.new.items ≡ out.old.items ++ coloured_words kind.now words.now) }
+{
+    match colour_of(kind) {
+        Some(colour) if words.starts_with(kind) => {
+            out.extend_from_slice(colour)?;
+            out.extend_from_slice(kind)?;
+            out.extend_from_slice(PLAIN)?;
+            out.extend_from_slice(&words[kind.len()..])
+        }
+        _ => out.extend_from_slice(words),
+    }
+}
+
+/// What begins the colour of a verdict's word on a terminal: green for `granted`, red for `denied`.
+fn colour_of(kind: &[u8]) -> Option<&'static [u8]>
+    ensures { option_map (λ colour. colour.now) result ≡ colour_of kind.now }
+{
+    if kind == b"granted".as_slice() {
+        Some(b"\x1b[32m")
+    } else if kind == b"denied".as_slice() {
+        Some(b"\x1b[31m")
+    } else {
+        None
     }
 }
 

@@ -6,7 +6,7 @@ use sd_answer::{read_sddl_argument, read_token, verdict_line};
 use sd_arguments::TextRequest;
 use sd_check::{Verdict, check};
 use sd_commands::{Settings, told_line};
-use sd_line::{lines_text, read_mask_in};
+use sd_line::{Output, Style, Tag, push_printed_line, read_mask_in};
 use sd_sid::Sid;
 use sd_text::{Aliases, read_sid_text_in};
 use sd_usage::{DescriptorCommand, TextCommand};
@@ -189,8 +189,15 @@ fn verdict_text(
     settings: &Settings,
     verdict: Verdict,
 ) -> Result<String, AllocError> {
-    let lines = vec![in alloc; verdict_line(alloc, verdict)?]?;
-    lines_text(alloc, settings.spelling, &lines)
+    let style = Style {
+        spelling: settings.spelling,
+        output: Output::Text,
+    };
+    let line = verdict_line(alloc, verdict)?;
+    let mut printed = Vec::new(alloc);
+    push_printed_line(alloc, &mut printed, style, Tag::None, &line)?;
+    // It is ASCII: words of ours and a mask.
+    Ok(String::from_utf8(printed).unwrap_or(String::new(alloc)))
 }
 
 /// The words, and Everyone and Authenticated Users where none of them names these.

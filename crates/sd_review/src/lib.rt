@@ -15,7 +15,7 @@
 //! if let Some(compared) = &last {
 //!     // compared.comparison has the rights that some token gains, and those that some token loses
 //!     let lines = with_path(alloc, "/a", compared.lines(alloc)?)?;
-//!     print(lines_text(alloc, Spelling::Number, &lines)?); // /a gained 0x2 by S-1-5-32-545
+//!     push_printed(alloc, &mut out, style, Tag::None, &lines)?; // /a gained 0x2 by S-1-5-32-545
 //! }
 //! ```
 #![tactic(auto)]

@@ -14,7 +14,7 @@ use Rattle.sd_script.specs.declared.script_options.ScriptOptions.{ScriptOptions}
 use Rattle.sd_script.specs.declared.script_counts.ScriptCounts.{ScriptCounts}
 
 abbrev pub style_in : Notation → Style
-style_in notation = record { spelling = notation.spelling; is_json = notation.is_json }
+style_in notation = record { spelling = notation.spelling; output = notation.output }
 
 -- with ids, what each line of the answer to a line begins with
 abbrev pub tag_in : (has_ids : Bool) → List ℕ → TagOf

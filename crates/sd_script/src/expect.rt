@@ -7,7 +7,7 @@ use crate::answer::Answer;
 use crate::lines::{head_len, word_len};
 use crate::reply::ok_line;
 use sd_answer::fault_line;
-use sd_line::{Line, Spelling, Style, Tag};
+use sd_line::{Line, Output, Spelling, Style, Tag};
 use std::alloc::{AllocError, Global};
 use std::marker::Model;
 
@@ -57,7 +57,7 @@ impl LastAnswer {
             Some(answer) => {
                 let style = Style {
                     spelling,
-                    is_json: false,
+                    output: Output::Text,
                 };
                 let mut text = Vec::new(alloc);
                 answer.push_printed(alloc, style, Tag::None, &mut text)?;

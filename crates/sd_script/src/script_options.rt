@@ -2,10 +2,11 @@
 ghost use Rattle.std.specs.Prelude.{◌≡◌, None, false};
 ghost use Rattle.sd_text.specs.Alias.{in_domain};
 ghost use Rattle.sd_script.specs.Printed.{style_in};
+ghost use Rattle.sd_line.specs.declared.print.Output.TheVariants.{Text};
 ghost use Rattle.sd_line.specs.declared.spelling.Spelling.TheVariants.{Number};
 
 use crate::paths::PathSpelling;
-use sd_line::{Spelling, Style};
+use sd_line::{Output, Spelling, Style};
 use sd_sid::GenericMapping;
 use sd_text::Aliases;
 use sd_tree::Limits;
@@ -32,8 +33,8 @@ pub struct Notation {
     pub aliases: Aliases,
     /// Whether the section of a SACL is left out of an SDDL ([MS-DTYP] 2.5.1.1, sacl).
     pub without_sacl: bool,
-    /// Whether each line of an answer is printed as an object of JSON.
-    pub is_json: bool,
+    /// What each line of an answer is printed as.
+    pub output: Output,
 }
 
 impl Notation {
@@ -45,7 +46,7 @@ impl Notation {
           spelling = Number;
           aliases = in_domain None;
           without_sacl = false;
-          is_json = false;
+          output = Text;
         } }
     {
         Notation {
@@ -53,7 +54,7 @@ impl Notation {
             spelling: Spelling::Number,
             aliases: Aliases::in_domain(None),
             without_sacl: false,
-            is_json: false,
+            output: Output::Text,
         }
     }
 
@@ -63,17 +64,17 @@ impl Notation {
     {
         Style {
             spelling: self.spelling,
-            is_json: self.is_json,
+            output: self.output,
         }
     }
 }
 
 /// How lines are printed as texts, with masks in this spelling.
 pub(crate) fn text_style(spelling: Spelling) -> Style
-    ensures { result ≡ record { spelling = spelling; is_json = false } }
+    ensures { result ≡ record { spelling = spelling; output = Text } }
 {
     Style {
         spelling,
-        is_json: false,
+        output: Output::Text,
     }
 }

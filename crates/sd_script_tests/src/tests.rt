@@ -10,7 +10,7 @@ mod serving;
 mod streams;
 mod trees;
 
-use sd_line::{Spelling, Style, Tag};
+use sd_line::{Output, Spelling, Style, Tag};
 use sd_script::{Notation, PathSpelling, ScriptOptions, ScriptState, push_answer};
 use sd_sid::GenericMapping;
 use sd_tree::Limits;
@@ -30,7 +30,7 @@ fn printed(rt: &(impl Abort + AllocGlobal), state: &mut ScriptState, line: &str)
     let alloc = rt.alloc();
     let style = Style {
         spelling: Spelling::Number,
-        is_json: false,
+        output: Output::Text,
     };
     let mut out = Vec::new(alloc);
     push_answer(alloc, state, style, Tag::None, line.as_bytes(), &mut out).expect(rt, "memory");

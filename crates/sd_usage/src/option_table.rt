@@ -206,6 +206,17 @@ prints each line of the answer as an object of JSON in a line, with what kind of
 words by their names",
     ),
     (
+        "--color",
+        ProgramOption {
+            name: OptionName::Color,
+            value: None,
+            excludes: None,
+        },
+        "\
+the word of each verdict is green or red, as it is in any case where standard output is a terminal
+and NO_COLOR isn't set; objects of JSON have no colour",
+    ),
+    (
         "--caret",
         ProgramOption {
             name: OptionName::Caret,

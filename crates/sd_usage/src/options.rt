@@ -10,6 +10,7 @@ pub(crate) const TEXT_OPTIONS: &[OptionName] = &[
     OptionName::Domain,
     OptionName::Aliases,
     OptionName::Json,
+    OptionName::Color,
     OptionName::Caret,
     OptionName::StrictStatus,
 ];
@@ -24,6 +25,7 @@ pub(crate) const NAMED_TEXT_OPTIONS: &[OptionName] = &[
     OptionName::Aliases,
     OptionName::Mapping,
     OptionName::Json,
+    OptionName::Color,
     OptionName::Caret,
     OptionName::StrictStatus,
 ];
@@ -39,6 +41,7 @@ pub(crate) const VERDICT_OPTIONS: &[OptionName] = &[
     OptionName::Mapping,
     OptionName::Logon,
     OptionName::Json,
+    OptionName::Color,
     OptionName::Caret,
     OptionName::StrictStatus,
 ];
@@ -53,6 +56,7 @@ pub(crate) const WHO_OPTIONS: &[OptionName] = &[
     OptionName::Aliases,
     OptionName::Mapping,
     OptionName::Json,
+    OptionName::Color,
     OptionName::Caret,
     OptionName::StrictStatus,
 ];
@@ -67,6 +71,7 @@ pub(crate) const COMPARE_OPTIONS: &[OptionName] = &[
     OptionName::Aliases,
     OptionName::Mapping,
     OptionName::Json,
+    OptionName::Color,
     OptionName::Caret,
     OptionName::StrictStatus,
 ];
@@ -83,6 +88,7 @@ pub(crate) const LINT_OPTIONS: &[OptionName] = &[
     OptionName::Aliases,
     OptionName::Mapping,
     OptionName::Json,
+    OptionName::Color,
     OptionName::Caret,
     OptionName::StrictStatus,
 ];
@@ -96,6 +102,7 @@ pub(crate) const BYTES_OPTIONS: &[OptionName] = &[
     OptionName::Loose,
     OptionName::Mapping,
     OptionName::Json,
+    OptionName::Color,
     OptionName::Caret,
     OptionName::StrictStatus,
 ];
@@ -111,6 +118,7 @@ pub(crate) const SCRIPT_OPTIONS: &[OptionName] = &[
     OptionName::Aliases,
     OptionName::Mapping,
     OptionName::Json,
+    OptionName::Color,
     OptionName::StrictStatus,
 ];
 
@@ -118,6 +126,7 @@ pub(crate) const RIGHTS_OPTIONS: &[OptionName] = &[
     OptionName::Names,
     OptionName::Mapping,
     OptionName::Json,
+    OptionName::Color,
     OptionName::Caret,
     OptionName::StrictStatus,
 ];
@@ -126,6 +135,7 @@ pub(crate) const SID_OPTIONS: &[OptionName] = &[
     OptionName::Domain,
     OptionName::Aliases,
     OptionName::Json,
+    OptionName::Color,
     OptionName::Caret,
     OptionName::StrictStatus,
 ];

@@ -109,6 +109,8 @@ pub enum OptionName {
     Mapping,
     /// `--json`.
     Json,
+    /// `--color`.
+    Color,
     /// `--caret`.
     Caret,
     /// `--strict-status`.
@@ -118,7 +120,7 @@ pub enum OptionName {
 }
 
 /// How many options there are.
-pub const OPTION_COUNT: usize = 21;
+pub const OPTION_COUNT: usize = 22;
 
 /// A command, and what follows it.
 #[derive(Clone, Copy)]

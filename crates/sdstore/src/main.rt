@@ -10,7 +10,7 @@ use std::process::ExitCode;
 use std::sync::Wait;
 use std::thread::Threads;
 use std::{env, io};
-use terminal::{Coloured, shows_colours, with_caret};
+use terminal::{shows_colours, with_option};
 
 fn main(rt: HostRuntime) -> ExitCode {
     match run(&rt, rt.stdin(), rt.stdout(), &mut rt.stderr()) {
@@ -39,19 +39,21 @@ where
     let texts: Vec<String> = env::args(rt)?.collect(alloc)?;
     let mut words: Vec<&str> = texts.iter().map(|text| text.as_str()).collect(alloc)?;
     if errors.is_terminal() {
-        words = with_caret(alloc, words);
+        words = with_option(alloc, words, "--caret");
+    }
+    if shows_colours(rt, &output) {
+        words = with_option(alloc, words, "--color");
     }
     if input.is_terminal() && reads_input(words.as_slice()) {
         // Where nobody can be told, nobody is.
         let _ = errors.write_all(b"sdstore: reads the standard input, up to its end\n");
     }
-    let shows = shows_colours(rt, &output);
     Ok(drive(
         rt,
         alloc,
         words.as_slice(),
         &mut Watched::new(input),
-        &mut Watched::new(Coloured::new(output, shows)),
+        &mut Watched::new(output),
         &mut Watched::new(errors),
     ))
 }

@@ -1,10 +1,10 @@
 -- What is left of the line has its text after what was written.
-use Rattle.std.proofs.Common.{◌≡◌, ◌++◌, drop, string_bytes}
+use Rattle.std.proofs.Common.{◌≡◌, ◌++◌, drop}
 use Rattle.std.specs.List.{flat_map}
 use Rattle.sd_line.specs.Printed.{part_text}
 use Rattle.sd_line.proofs.printer.Printer.push_text.Given as goal
 
 abbrev pub invariant-loop-part : goal.invariant-loop-part
 invariant-loop-part l =
-    string_bytes l.out ++ flat_map (part_text l.self.spelling) (drop l.part-index l.part-items)
-    ≡ string_bytes l.initial.out ++ flat_map (part_text l.self.spelling) l.part-items
+    l.out.items ++ flat_map (part_text l.self.spelling) (drop l.part-index l.part-items)
+    ≡ l.initial.out.items ++ flat_map (part_text l.self.spelling) l.part-items
