@@ -155,6 +155,9 @@ pub(crate) fn found_in_concern(known: Aliases, text: &str) -> Option<RemedyRow> 
 
 /// What was found in place of a SID.
 fn found_in_sid(known: Aliases, text: &str) -> Option<RemedyRow> {
+    if text.is_empty() {
+        return Some(NOTHING);
+    }
     let bytes = text.as_bytes();
     match read_sid_text_in(known, text) {
         Err(

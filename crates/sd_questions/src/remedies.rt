@@ -132,6 +132,12 @@ pub(crate) const OTHER_USER: RemedyRow = (
     "write AN as USER after --logon anonymous",
 );
 
+pub(crate) const NOTHING: RemedyRow = (
+    "an empty text",
+    "another",
+    "a variable may have no value: in a shell script 'set -u' ends at one that isn't set",
+);
+
 pub(crate) const NAME: RemedyRow = (
     "a name",
     "a SID",
