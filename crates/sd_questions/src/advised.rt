@@ -6,7 +6,7 @@ ghost use Rattle.sd_arguments.specs.CommandLine.{request_of};
 
 use crate::found::{found_in_descriptor, found_in_mask, found_in_user, found_in_word};
 use crate::notes::notes_on;
-use crate::remedies::{EACH, HEX, LABELS, OTHER_USER, RemedyRow, row_line};
+use crate::remedies::{EACH, HEX, LABELS, NO_CHILDREN, OTHER_USER, RemedyRow, row_line};
 use crate::spoken::answer_text;
 use sd_answer::{TokenError, read_base, read_sddl_argument, read_token};
 use sd_arguments::{Options, TextRequest};
@@ -72,6 +72,10 @@ pub(crate) fn advice_on_each(
     let mut advice = misplaced_line(alloc, request)?;
     if options.has(OptionName::WithoutSacl) && is_verdict(request.question) {
         let note = told_line(alloc, "SDDL", LABELS)?;
+        advice.push_str(note.as_str())?;
+    }
+    if options.has(OptionName::Object) {
+        let note = told_line(alloc, "--object", NO_CHILDREN)?;
         advice.push_str(note.as_str())?;
     }
     Ok(advice)

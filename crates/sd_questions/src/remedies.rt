@@ -202,6 +202,10 @@ pub(crate) const EACH: RemedyRow = (
 pub(crate) const LABELS: &str =
     "a line's mandatory label is ignored, by which Windows may deny what is granted here";
 
+/// What `--object` leaves out, where lines are answered.
+pub(crate) const NO_CHILDREN: &str =
+    "what a line's entries pass on to what is made in a container is left out";
+
 pub(crate) const CHILDREN: &str =
     "what is made in a container isn't looked at: entries with OI or CI may count there (--below looks at it)";
 
