@@ -1,0 +1,43 @@
+//! Little-endian numbers at an offset.
+
+ghost use Rattle.std.specs.Prelude.{◌≡◌, ◌+◌, ◌≤◌, length};
+ghost use Rattle.sd_sid.specs.SidBytes.{u32_at};
+ghost use Rattle.sd_condition.specs.Reading.{i64_at, u16_at};
+
+/// The number in two bytes.
+pub(crate) fn read_u16(bytes: &[u8], place: usize) -> u16
+    requires { place + 2 ≤ length bytes.now }
+    ensures { result ≡ u16_at bytes.now place }
+{
+    u16::from_le_bytes([bytes[place], bytes[place + 1]])
+}
+
+/// The number in four bytes.
+pub(crate) fn read_u32(bytes: &[u8], place: usize) -> u32
+    requires { place + 4 ≤ length bytes.now }
+    ensures { result ≡ u32_at bytes.now place }
+{
+    u32::from_le_bytes([
+        bytes[place],
+        bytes[place + 1],
+        bytes[place + 2],
+        bytes[place + 3],
+    ])
+}
+
+/// The signed number in eight bytes.
+pub(crate) fn read_i64(bytes: &[u8], place: usize) -> i64
+    requires { place + 8 ≤ length bytes.now }
+    ensures { result ≡ i64_at bytes.now place }
+{
+    i64::from_le_bytes([
+        bytes[place],
+        bytes[place + 1],
+        bytes[place + 2],
+        bytes[place + 3],
+        bytes[place + 4],
+        bytes[place + 5],
+        bytes[place + 6],
+        bytes[place + 7],
+    ])
+}
