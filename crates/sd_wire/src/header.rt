@@ -12,34 +12,34 @@ use sd_acl::{Dacl, Descriptor};
 use sd_sid::SID_HEADER_BYTES;
 
 /// The length of a header ([MS-DTYP] 2.4.6), into which no offset may point.
-pub(crate) const HEADER_BYTES: usize = 20;
+pub const HEADER_BYTES: usize = 20;
 
 /// The length of the shortest part: a SID's header, which is as long as a list's.
 const MIN_PART_BYTES: usize = SID_HEADER_BYTES;
 
 /// The only revision of a descriptor ([MS-DTYP] 2.4.6, Revision).
-const REVISION: u8 = 1;
+pub const REVISION: u8 = 1;
 
 /// The offset of the control bits in the header ([MS-DTYP] 2.4.6, Control).
-const CONTROL_PLACE: usize = 2;
+pub const CONTROL_PLACE: usize = 2;
 
 /// The offset of OffsetOwner in the header.
-pub(crate) const OWNER_PLACE: usize = 4;
+pub const OWNER_PLACE: usize = 4;
 
 /// The offset of OffsetGroup in the header.
-pub(crate) const GROUP_PLACE: usize = 8;
+pub const GROUP_PLACE: usize = 8;
 
 /// The offset of OffsetSacl in the header.
-const SACL_PLACE: usize = 12;
+pub const SACL_PLACE: usize = 12;
 
 /// The offset of OffsetDacl in the header.
-pub(crate) const DACL_PLACE: usize = 16;
+pub const DACL_PLACE: usize = 16;
 
 /// Control bit DP: there is a DACL ([MS-DTYP] 2.4.6, Control, as the bits below).
-pub(crate) const DACL_PRESENT: u16 = 0x0004;
+pub const DACL_PRESENT: u16 = 0x0004;
 
 /// Control bit SP: there is a SACL. It is never written.
-const SACL_PRESENT: u16 = 0x0010;
+pub const SACL_PRESENT: u16 = 0x0010;
 
 /// Control bit DC.
 pub(crate) const DACL_AUTO_INHERIT_REQUIRED: u16 = 0x0100;
@@ -51,13 +51,13 @@ pub(crate) const DACL_AUTO_INHERITED: u16 = 0x0400;
 pub(crate) const DACL_PROTECTED: u16 = 0x1000;
 
 /// Control bit SR.
-const SELF_RELATIVE: u16 = 0x8000;
+pub const SELF_RELATIVE: u16 = 0x8000;
 
 /// OffsetSacl of what is written.
 const NO_SACL: u32 = 0;
 
 /// Whether any of these bits is set.
-pub(crate) fn has_bits(control: u16, bits: u16) -> bool
+pub fn has_bits(control: u16, bits: u16) -> bool
     ensures { result ≡ is_set bits control }
 {
     control & bits != 0
@@ -86,7 +86,7 @@ pub(crate) fn read_control(bytes: &[u8]) -> Result<u16, WireFault>
 }
 
 /// Whether an offset points into the header, or to fewer than 8 bytes. It is below 2^32, so the sum doesn't wrap.
-pub(crate) fn leads_outside(bytes: &[u8], offset: usize) -> bool
+pub fn leads_outside(bytes: &[u8], offset: usize) -> bool
     requires { offset < 2 ^ 32 }
     ensures { result ≡ is_outside bytes.now offset }
 {
@@ -105,7 +105,7 @@ fn control_bits(descriptor: &Descriptor) -> u16
 }
 
 /// The bits if the test holds, else none.
-fn bits_when(test: bool, bits: u16) -> u16
+pub fn bits_when(test: bool, bits: u16) -> u16
     ensures { result ≡ cond test bits 0 }
 {
     if test { bits } else { 0 }
@@ -119,7 +119,7 @@ fn has_list(dacl: &Dacl) -> bool
 }
 
 /// The offset of a part, 0 if there is none.
-fn part_offset(is_there: bool, place: usize) -> u32
+pub fn part_offset(is_there: bool, place: usize) -> u32
     requires { place < 2 ^ 32 }
     ensures { result ≡ offset_of is_there place }
 {

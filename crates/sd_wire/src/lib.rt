@@ -28,9 +28,15 @@ pub use check::check_bytes;
 pub use descriptor::{read_descriptor, wire_len, write_descriptor};
 pub use entry::read_entry;
 pub use fault::{WireError, WireFault};
+pub use header::{
+    CONTROL_PLACE, DACL_PLACE, DACL_PRESENT, GROUP_PLACE, HEADER_BYTES, OWNER_PLACE, REVISION,
+    SACL_PLACE, SACL_PRESENT, SELF_RELATIVE, bits_when, has_bits, leads_outside, part_offset,
+};
 pub use laws::{
     descriptors_come_back, none_is_held_beside_a_fault, one_is_held, readings_are_held,
     what_is_held_is_read,
 };
+pub use number::{read_u16, read_u32};
 pub use odd::odd_entry;
 pub use parts::{DaclPlace, EntryPlaces, Parts, read_parts};
+pub use trustee::{push_trustee, read_trustee, trustee_len};

@@ -24,7 +24,7 @@ pub(crate) fn read_sid_at(bytes: &[u8], place: usize, end: usize) -> Result<SidR
 
 /// The owner or the group at its offset, none if that is 0.
 #[tactic(auto, unfolding(crate::specs::Reading::trustee_read))]
-pub(crate) fn read_trustee(bytes: &[u8], offset: usize) -> Result<Option<SidRef<'_>>, WireFault>
+pub fn read_trustee(bytes: &[u8], offset: usize) -> Result<Option<SidRef<'_>>, WireFault>
     requires { offset < 2 ^ 32 }
     ensures { result ≡ trustee_read bytes.now offset }
 {
@@ -40,7 +40,7 @@ pub(crate) fn read_trustee(bytes: &[u8], offset: usize) -> Result<Option<SidRef<
 
 /// The length of the owner or the group.
 #[tactic(auto, using(crate::proofs::Lengths::length_of_trustee))]
-pub(crate) fn trustee_len(trustee: &Option<Sid>) -> usize
+pub fn trustee_len(trustee: &Option<Sid>) -> usize
     ensures exact { result ≡ length (trustee_part trustee.now) }
     ensures most { result ≤ 68 }
 {
@@ -52,7 +52,7 @@ pub(crate) fn trustee_len(trustee: &Option<Sid>) -> usize
 
 /// Appends the owner or the group, if there is one. The capacity must suffice.
 #[tactic(auto, using(crate::proofs::Lengths::length_of_trustee))]
-pub(crate) fn push_trustee(bytes: &mut Vec<u8>, trustee: &Option<Sid>)
+pub fn push_trustee(bytes: &mut Vec<u8>, trustee: &Option<Sid>)
     requires { vec_len bytes.old + length (trustee_part trustee.now) ≤ vec_capacity bytes.old }
     ensures items { bytes.new.items ≡ bytes.old.items ++ trustee_part trustee.now }
     ensures capacity { vec_capacity bytes.old ≤ vec_capacity bytes.new }

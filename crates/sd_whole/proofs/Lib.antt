@@ -1,0 +1,11 @@
+pub mod Cited
+pub mod KindNumbers
+pub mod Lengths
+pub mod Steps
+pub mod EntryStands
+pub mod Loop
+pub mod ListStands
+pub mod EntryAgain
+pub mod DescriptorAgain
+pub mod ReadIsWhole
+pub mod PlainIsWhole

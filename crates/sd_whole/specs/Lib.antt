@@ -1,0 +1,10 @@
+pub mod Kind
+pub mod Entry
+pub mod Layout
+pub mod Values
+pub mod Reading
+pub mod Writing
+pub mod Whole
+pub mod Laws
+pub mod Memory
+pub mod Plain
