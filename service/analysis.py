@@ -21,6 +21,8 @@ from tree import Mapping, dumped
 ANSWER_BYTES, _STEP = 1 << 28, 1 << 20
 #: The comparisons that a review keeps: nodes beside one another mostly have the same descriptors.
 _KEPT = 64
+#: The paths, and the lines of edits, between two looks at the deadline: each takes microseconds.
+_AT_ONCE = 64
 #: The words of tokens that are looked at, one by one for each node, between two looks at the deadline.
 _WORDS_AT_ONCE = 4_096
 
@@ -109,7 +111,7 @@ def found(
     with view, token:
         _required(view, top, seen)
         yield Result("found", seen=seen)
-        paths = [path for path in deadline.paced(view.paths()) if _is_within(top, path)]
+        paths = [path for path in deadline.paced(view.paths(), _AT_ONCE) if _is_within(top, path)]
         verdicts = checked(view, paths, token, words, asked, deadline)
         yield from (Found(path) for path, verdict in zip(paths, verdicts) if verdict)
 
@@ -184,11 +186,11 @@ def reviewed(
         return _changes_of(was.compare(now, (), mapping))
 
     with old, new:
-        was, now = list(deadline.paced(old.paths())), list(deadline.paced(new.paths()))
+        was, now = (list(deadline.paced(view.paths(), _AT_ONCE)) for view in (old, new))
         stood, stands = frozenset(was), frozenset(now)
         if descriptor_in(new, top) is None and top not in stood:
             raise Fault(Result("nonode"))
-        origins = _Origins(deadline.paced(was), deadline.paced(lines))
+        origins = _Origins(deadline.paced(was, _AT_ONCE), deadline.paced(lines, _AT_ONCE))
         for path in deadline.paced(now):
             if _is_within(top, path):
                 before = path if path in stood else origins.of(path)

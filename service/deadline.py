@@ -5,7 +5,7 @@ import time
 from collections.abc import Callable, Iterable, Iterator
 from typing import Protocol, TypeVar
 
-from answers import UNANSWERED, Result
+from answers import Result
 from errors import Fault
 
 #: The answer to a question that has taken all of its time.
@@ -33,7 +33,7 @@ class Deadline:
         """`hold` is called with the bytes that the answer has so far. `others` go first."""
         self._since = time.monotonic()
         self._end, self.hold = self._since + seconds, hold
-        self._why = UNANSWERED
+        self._why: Result | None = None
         self._others = others
 
     @property
@@ -55,7 +55,7 @@ class Deadline:
         now = time.monotonic()
         if self._others is not None:
             now = self._let(self._others, now)
-        if self._why:
+        if self._why is not None:
             raise Fault(self._why)
         if now > self._end:
             raise Fault(LATE)
@@ -69,8 +69,12 @@ class Deadline:
             self._since = now = time.monotonic()
         return now
 
-    def paced(self, items: Iterable[_T]) -> Iterator[_T]:
-        """The items, one by one, until the end. Fault: it has ended before."""
+    def paced(self, items: Iterable[_T], at_once: int = 1) -> Iterator[_T]:
+        """The items, one by one, until the end, which is asked for once before so many. Fault: it has ended."""
+        left = 0
         for item in items:
-            self.require()
+            if not left:
+                self.require()
+                left = at_once
+            left -= 1
             yield item

@@ -1,5 +1,6 @@
 """Lines with ids, as `sdstore --percent serve --ids` answers them (docs/SCRIPT.md), and the commands of `script`."""
 
+import itertools
 from collections.abc import Iterator, Sequence
 
 from answers import Answer
@@ -15,6 +16,8 @@ _REPLACED = "\ufffd"
 _ID_BYTES = 100
 #: No line that is carried out has as many words. What comes after them is one more: to take it apart takes long.
 _MOST_WORDS = 1 << 12
+#: The lines of a long answer that are put together at once.
+_LINES_IN_PIECE = 16
 
 
 class LineConnection(Connection):
@@ -29,7 +32,8 @@ class LineConnection(Connection):
         self._is_long = False
 
     def answer_waiting(self) -> bool:
-        buffer, most, said = self._buffer, self.service.limits.request_bytes, list[str]()
+        said: list[str] = []
+        buffer, most = self._buffer, self.service.limits.request_bytes
         begin, end = 0, buffer.find(b"\n", self._searched)
         while 0 <= end - begin <= most and not self._is_long and self.may_answer:
             if not self._answer(buffer[begin:end], said):
@@ -109,7 +113,8 @@ class LineConnection(Connection):
 
 def _pieces(tag: str, lines: Iterator[Answer]) -> Iterator[bytes]:
     """The lines of an answer of lines, each with the tag, and an empty one."""
-    yield from (f"{tag}{line.line()}\n".encode() for line in lines)
+    while some := list(itertools.islice(lines, _LINES_IN_PIECE)):
+        yield "".join([f"{tag}{line.line()}\n" for line in some]).encode()
     yield f"{tag}\n".encode()
 
 

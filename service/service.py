@@ -45,8 +45,8 @@ Form = Callable[[Shown, Iterator[Answer]], Iterable[bytes]]
 Hold = Callable[[int], None]
 #: Of an edit of a client that may not edit the log has so many characters.
 _REFUSED_LENGTH = 1_000
-#: A check that is answered so is logged where denials are.
-_DENIALS = ("denied", "reserved")
+#: The answers to checks. One that is answered so is logged where denials are.
+_CHECKS, _DENIALS = (Checked, CheckedAll), ("denied", "reserved")
 #: The most characters of all edits in progress.
 _EDIT_LENGTH = 1 << 26
 #: A warning is in the log after so many seconds, or isn't waited for.
@@ -128,7 +128,7 @@ class Service:
 
     def _is_counted(self, words: Sequence[str], said: Answer, caller: Caller, began: float) -> bool:
         """Counts an answer, if it is that of a check. False: it has to be in the log, which doesn't take it."""
-        if isinstance(said, (Checked, CheckedAll)):
+        if isinstance(said, _CHECKS):
             self.metrics.count_checks(said, time.perf_counter() - began)
             if self._logs_denials and any(kind_of(verdict) in _DENIALS for verdict in said.verdicts):
                 return self.log.event("denial", who=caller.who, asked=" ".join(words), answer=said.line())
@@ -218,7 +218,9 @@ class Service:
 
     def require_fresh(self) -> None:
         """Fault: a replica, which doesn't know enough of its leader."""
-        if clock.now() > self.shown.fresh_until:
+        until = self._questions.shown.fresh_until
+        # (to ask the clock takes longer than to see that a leader never is)
+        if until != math.inf and clock.now() > until:
             raise Fault(Result("unavailable", "behind"))
 
     def submit(

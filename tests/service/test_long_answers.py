@@ -57,6 +57,19 @@ class GivingWay(unittest.TestCase):
         """It learns soon that nobody waits for the answer any more."""
         self.assertEqual(self.waits(30, 2), [1, 1])
 
+    def test_items(self) -> None:
+        """Whether the answer has ended is asked before the first of so many, and so before each as many more."""
+        deadline = Deadline(rig.PATIENCE, print)
+        for at_once, looks in ((1, 10), (4, 3), (64, 1)):
+            with self.subTest(at_once), mock.patch.object(Deadline, "require") as require:
+                self.assertEqual(list(deadline.paced(range(10), at_once)), list(range(10)))
+                self.assertEqual(require.call_count, looks)
+        items = deadline.paced(range(10), 4)
+        self.assertEqual(next(items), 0)
+        deadline.end(LATE)
+        self.assertEqual([next(items) for _ in range(3)], [1, 2, 3])
+        self.assertRaises(Fault, next, items)
+
 
 class Making(unittest.IsolatedAsyncioTestCase):
     """Answers of works that a test ends."""
