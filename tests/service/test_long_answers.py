@@ -16,6 +16,9 @@ from deadline import LATE, Deadline
 from errors import Fault
 from journal import DATABASE, Journal
 from long_answers import BUSY, OF_CLIENT, STOPPING, LongAnswers, Work
+from questions import Questions
+from script import takes_long
+from tree import MAPPINGS
 
 #: The nodes of a tree, each with a list of its own of so many entries: if all change a review takes some seconds.
 NODES, ENTRIES = 100, 1_750
@@ -69,6 +72,25 @@ class GivingWay(unittest.TestCase):
         deadline.end(LATE)
         self.assertEqual([next(items) for _ in range(3)], [1, 2, 3])
         self.assertRaises(Fault, next, items)
+
+
+class Words(unittest.TestCase):
+    def test_lines_of_many_words(self) -> None:
+        """Lines of more than 256 words take long, not counting the paths of `checks`; not so a `check` by a token that
+        was parsed before, whoever asked then."""
+        questions = Questions(mock.Mock(), "", MAPPINGS["file"])
+
+        def takes(*front: str) -> list[bool]:
+            """Of lines of 256 words, and of 257."""
+            least = len(front) - 1_000 * (front[0] == "checks")
+            return [takes_long([*front, *["BU"] * (most - least)], questions) for most in (256, 257)]
+
+        check, checks = ("check", "0", "/", rig.USER, "FR"), ("checks", "0", "1000", *["/"] * 1_000, rig.USER, "FR")
+        why = ("why", *check[1:])
+        self.assertEqual([takes(*front) for front in (check, why, checks)], [[False, True]] * 3)
+        questions.tokens.parsed("FR", (rig.USER, *["BU"] * 252))
+        self.assertEqual([takes(*front) for front in (check, why, checks)],
+                         [[False, False], [False, True], [False, True]])
 
 
 class Making(unittest.IsolatedAsyncioTestCase):
