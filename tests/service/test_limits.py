@@ -4,6 +4,7 @@ import asyncio
 import contextlib
 import itertools
 import os
+import re
 import socket
 import subprocess
 import sys
@@ -272,6 +273,18 @@ class MemoryTests(unittest.TestCase):
                 each.buffer_updated(len(piece))
         await asyncio.sleep(0)
         return tracemalloc.get_traced_memory()[0] - before, service.held.total / len(many)
+
+
+class UnitTests(unittest.TestCase):
+    def test_memory(self) -> None:
+        """What all connections may hold, and take beside that, leaves most of the unit's memory to the tree."""
+        [gib] = re.findall(r"^MemoryMax=(\d+)G$", (rig.SERVICE / "sdstored.service").read_text(), re.MULTILINE)
+        page, limits = (rig.TOP / "docs/SERVICE.md").read_text(), Limits()
+        [said] = re.findall(r"over TLS 50 KiB, or (\d+) KiB[^.]*`connections` up to (\d+) MiB", page)
+        of_each, of_all = map(int, said)
+        self.assertEqual(limits.connections * of_each, of_all << 10)
+        self.assertLess(limits.held_bytes + (of_all << 20), int(gib) << 28)
+        self.assertIn(f"a `MemoryMax` of {gib} GiB", page)
 
 
 class EditTests(unittest.TestCase):
