@@ -157,9 +157,10 @@ class _Changes(NamedTuple):
 
 
 def _changes_of(comparison: Comparison) -> _Changes:
-    own = comparison.gained + comparison.lost
-    return _Changes(*(list(filter(None, [*map(str, changes), comparison.inheritance]))
-                      for changes in (own, own + comparison.below)))
+    own = [str(change) for change in comparison.gained + comparison.lost]
+    below = [str(change) for change in comparison.below]
+    end = [comparison.inheritance] if comparison.inheritance else []
+    return _Changes(own + end, own + below + end)
 
 
 # What a publish would change
