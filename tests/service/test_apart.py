@@ -69,7 +69,12 @@ class Apart(unittest.TestCase):
 
 def children() -> list[int]:
     """The processes that this one has started, by their ids."""
-    return [int(child) for file in Path("/proc/self/task").glob("*/children") for child in file.read_text().split()]
+    found = list[int]()
+    for file in Path("/proc/self/task").glob("*/children"):
+        # (a thread may end meanwhile)
+        with contextlib.suppress(OSError):
+            found += map(int, file.read_text().split())
+    return found
 
 
 class Services(rig.Case):
