@@ -70,11 +70,11 @@ each_quiet paths readers (e ∷ es) =
 made_quiet : (m : Made) → All Quiet (made_lines m)
 made_quiet made.Nothing = All-nil Quiet
 made_quiet (made.Nodes n) =
-    let t = replay n.tree.opening n.tree.journal in
-    let g = n.tree.opening.mapping in
-    pieces_quiet (lines_below n.paths g t n.top n.which) (λ node. where_quiet (is_within n.top node.0) _ (at_quiet n.paths g t n.which node)) (entries t)
+    let t = replay n.value.tree.opening n.value.tree.journal in
+    let g = n.value.tree.opening.mapping in
+    pieces_quiet (lines_below n.value.paths g t n.value.top n.value.which) (λ node. where_quiet (is_within n.value.top node.0) _ (at_quiet n.value.paths g t n.value.which node)) (entries t)
 made_quiet (made.Dump d) =
-    All-append Quiet _ _ (each_quiet d.notation.paths d.readers (entries (replay d.tree.opening d.tree.journal))) (one _ (refl, refl, refl))
+    All-append Quiet _ _ (each_quiet d.value.notation.paths d.value.readers (entries (replay d.value.tree.opening d.value.tree.journal))) (one _ (refl, refl, refl))
 
 ends_quiet : (ends : List LineOf) → All (λ l. l ≡ line_with [] []) ends → All Quiet ends
 ends_quiet [] all = All-nil Quiet

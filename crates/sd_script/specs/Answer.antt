@@ -10,5 +10,7 @@ use Rattle.sd_script.specs.declared.answer.Made.TheVariants.{Nothing, Nodes, Dum
 -- lines of the nodes at and below a path, or lines that make the tree
 abbrev pub made_lines : Made → List LineOf
 made_lines Nothing = []
-made_lines (Nodes n) = nodes_below n.paths n.tree.opening n.tree.journal n.top n.which
-made_lines (Dump d) = dump_lines d.notation.paths d.readers (replay d.tree.opening d.tree.journal)
+made_lines (Nodes n) =
+    nodes_below n.value.paths n.value.tree.opening n.value.tree.journal n.value.top n.value.which
+made_lines (Dump d) =
+    dump_lines d.value.notation.paths d.value.readers (replay d.value.tree.opening d.value.tree.journal)

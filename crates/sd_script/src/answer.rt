@@ -13,14 +13,15 @@ use sd_line::{Line, Style, Tag, push_printed};
 use std::alloc::{AllocError, Global};
 use std::marker::Model;
 
-/// Lines that are made of a tree as they are printed. A shared tree never changes, and neither do they.
+/// Lines that are made of a tree as they are printed. A shared tree never changes, and neither do they. What they are
+/// made of is in a box: most answers have none, and each is moved several times.
 #[derive(Drop)]
 pub(crate) enum Made {
     Nothing,
     /// The lines of nodes.
-    Nodes(Nodes),
+    Nodes(Box<Nodes>),
     /// The lines that make the tree.
-    Dump(Dump),
+    Dump(Box<Dump>),
 }
 
 impl Made {

@@ -84,6 +84,7 @@ pub(crate) fn dump_answer(
             readers,
             text,
         };
+        let dump = Box::new(alloc, dump)?;
         Ok(Answer::made(alloc, Vec::new(alloc), Made::Dump(dump)))
     } else {
         Answer::alone(alloc, fault_line(alloc, "name")?)

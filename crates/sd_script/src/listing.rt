@@ -53,7 +53,8 @@ impl Nodes {
         if lacks_words(alloc, self.paths, self.tree.get(), &self.top)? {
             return Answer::alone(alloc, fault_line(alloc, "name")?);
         }
-        Ok(Answer::made(alloc, title, Made::Nodes(self)))
+        let nodes = Box::new(alloc, self)?;
+        Ok(Answer::made(alloc, title, Made::Nodes(nodes)))
     }
 
     /// Adds the lines as they are printed, each after a tag. The only error is out of memory.
