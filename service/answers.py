@@ -2,7 +2,7 @@
 
 import functools
 from collections.abc import Sequence
-from dataclasses import dataclass
+from dataclasses import dataclass, field
 from typing import Any, NamedTuple, Protocol
 
 from hudarin import Part, Verdict
@@ -77,15 +77,22 @@ def _members(verdict: Verdict | None) -> dict[str, Any]:
     return {"verdict": kind} if verdict is None or kind == "empty" else {"verdict": kind, "mask": f"{verdict.mask:#x}"}
 
 
-class Checked(NamedTuple):
+@dataclass(frozen=True, slots=True)
+class Checked:
     """The verdict at a path, None without a node, and the length of what is published."""
 
     seen: int
     verdict: Verdict | None
+    #: The kind of the verdict, and the line: they are made once, as these answers are kept.
+    kind: str = field(init=False)
+    text: str = field(init=False)
 
-    @functools.lru_cache(4096)
+    def __post_init__(self) -> None:
+        object.__setattr__(self, "kind", kind_of(self.verdict))
+        object.__setattr__(self, "text", f"seen {self.seen} {_text(self.verdict)}")
+
     def line(self) -> str:
-        return f"seen {self.seen} {_text(self.verdict)}"
+        return self.text
 
     def json(self) -> dict[str, Any]:
         return _members(self.verdict)

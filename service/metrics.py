@@ -69,8 +69,7 @@ class Metrics:
     def count_checks(self, answer: Checked | CheckedAll, seconds: float) -> None:
         """Checks that are answered; where several were asked at once each kind of verdict has a count, 0 too."""
         if isinstance(answer, Checked):
-            # (to call `kind_of` takes longer)
-            self.checks["nonode" if answer.verdict is None else answer.verdict.kind] += 1
+            self.checks[answer.kind] += 1
         else:
             self.checks.update(dict.fromkeys(VERDICTS, 0))
             for verdict, count in Counter(answer.verdicts).items():
