@@ -127,7 +127,7 @@ class Connection(asyncio.BufferedProtocol):
         if not self.transport.is_closing():
             self._asked_nothing_since = time.monotonic()
             self._buffer += _ROOM[:nbytes]
-            self.proceed()
+            self._proceed()
 
     def eof_received(self) -> bool:
         """What was asked is answered yet, but over TLS, which can't be half open; half a request isn't carried out."""
@@ -141,8 +141,10 @@ class Connection(asyncio.BufferedProtocol):
 
     def proceed(self) -> None:
         """Answers what can be answered now, and reads on if all is."""
-        if self.transport.is_closing():
-            return
+        if not self.transport.is_closing():
+            self._proceed()
+
+    def _proceed(self) -> None:
         self._turn.begin()
         if self._unsent:
             self._give()

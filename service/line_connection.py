@@ -6,7 +6,7 @@ from collections.abc import Iterator, Sequence
 from answers import Answer
 from connection import Connection, Place
 from errors import Fault
-from script import CHANGES, FEW_WORDS, LONG, OF_LINES, Reader
+from script import FEW_WORDS, LONG, OF_LINES, OF_WRITER, Reader
 from service import Service
 from task import Task
 
@@ -60,9 +60,10 @@ class LineConnection(Connection):
                 raise Fault.of("id")
             if _REPLACED in text:
                 require_utf8(line)
-            if "" in words or " " in words[-1] and "  " in f" {words[-1]} ":
+            # (a word is empty)
+            if "  " in f" {text} ":
                 raise Fault.of("words")
-            if words[0] in CHANGES or words[0] == "once":
+            if words[0] in OF_WRITER:
                 return self._submit(words, tag)
             if self.in_progress:
                 return False

@@ -38,14 +38,23 @@ class Tokens:
         #: The words of all that are kept.
         self._count = 0
 
-    def parsed(self, mask: str, words: tuple[str, ...]) -> tuple[Token, int]:
-        """The token of a user and words, and the mask. Fault: the first that is none, from the user over the mask to
-        the other words."""
+    def kept(self, mask: str, words: tuple[str, ...]) -> tuple[Token, int] | None:
+        """The token of a user and words, and the mask, if both are kept."""
         token, bits = self._kept.get(words), self._masks.get(mask)
         if token is None or bits is None:
-            user, bits = sid_of(words[0]), self._mask(mask)
-            if token is None:
-                token = self._keep(words, _token(user, words[1:]))
+            return None
+        self._kept.move_to_end(words)
+        return token, bits
+
+    def parsed(self, mask: str, words: tuple[str, ...]) -> tuple[Token, int]:
+        """The same, kept or not. Fault: the first that is none, from the user over the mask to the other words."""
+        kept = self.kept(mask, words)
+        if kept is not None:
+            return kept
+        user, bits = sid_of(words[0]), self._mask(mask)
+        token = self._kept.get(words)
+        if token is None:
+            token = self._keep(words, _token(user, words[1:]))
         self._kept.move_to_end(words)
         return token, bits
 
@@ -135,7 +144,7 @@ class Questions:
         return Questions(shown, self.store, self.mapping, deadline)
 
     def _token(self, mask: str, words: tuple[str, ...], paths: Sequence[str]) -> tuple[Token, int]:
-        """The token of the words, a user first, and the mask. The paths come before them."""
+        """The token of the words, a user first, and the mask, that aren't kept. The paths come before them."""
         try:
             return self.tokens.parsed(mask, words)
         except Fault:
@@ -145,7 +154,7 @@ class Questions:
     def check(self, mask: str, words: tuple[str, ...], path: str) -> Checked:
         """Whether the token of the words is granted the mask at the path."""
         shown = self.shown
-        token, bits = self._token(mask, words, [path])
+        token, bits = self.tokens.kept(mask, words) or self._token(mask, words, [path])
         try:
             return _checked(shown.length, shown.view.check(path, token, bits))
         except Refused as refused:

@@ -18,6 +18,8 @@ from spelling import descriptor_of, number_of, path_of
 
 #: Commands that change the store: the writer answers them.
 CHANGES = NAMES | {PUBLISH}
+#: The first words of the lines that the writer answers.
+OF_WRITER = CHANGES | {"once"}
 #: What a replica asks of its leader's journal.
 OF_JOURNAL = frozenset({"snapshot", "lines"})
 #: What the writer's tree is asked: what a publish would change.
@@ -96,8 +98,9 @@ def _by_reader(number: int, said: _A, questions: Questions, reader: Reader) -> _
     """What the reader of this number is answered: it has then seen what is published. Fault: there is none."""
     if number != 0:
         raise Fault(NO_READER)
-    if reader.floor < questions.shown.length:
-        reader.floor = questions.shown.length
+    length = questions.shown.length
+    if reader.floor < length:
+        reader.floor = length
     return said
 
 
@@ -128,7 +131,8 @@ def _checks(words: Sequence[str], questions: Questions, reader: Reader) -> Answe
         raise Fault.of("paths")
     if len(words) < count + 5:
         raise Fault.of("words")
-    paths = [path_of(word) for word in words[3 : 3 + count]]
+    # (to call `path_of` takes longer than to see that a word is the path that it spells)
+    paths = [path_of(word) if "%" in word else word for word in words[3 : 3 + count]]
     user, mask, *groups = words[3 + count :]
     return _by_reader(number, questions.checks(mask, (user, *groups), paths), questions, reader)
 

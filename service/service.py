@@ -117,7 +117,9 @@ class Service:
         """The answer to a question that doesn't take long. Fault: there is none."""
         began = time.perf_counter()
         caller.require("check")
-        self.require_fresh()
+        # (to ask whether a replica is late takes longer than to see that a leader never is)
+        if self._questions.shown.fresh_until != math.inf:
+            self.require_fresh()
         try:
             said = script.answer(words, self._questions, reader)
         except MemoryError:
@@ -218,9 +220,7 @@ class Service:
 
     def require_fresh(self) -> None:
         """Fault: a replica, which doesn't know enough of its leader."""
-        until = self._questions.shown.fresh_until
-        # (to ask the clock takes longer than to see that a leader never is)
-        if until != math.inf and clock.now() > until:
+        if clock.now() > self.shown.fresh_until:
             raise Fault(Result("unavailable", "behind"))
 
     def submit(
