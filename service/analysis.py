@@ -4,8 +4,9 @@ deadline.
 The lines are those of a script (docs/SCRIPT.md) and of `sdstore compare` (docs/ANALYSIS.md)."""
 
 import functools
+import itertools
 from collections.abc import Callable, Iterable, Iterator, Sequence
-from dataclasses import dataclass, field
+from dataclasses import dataclass
 from typing import NamedTuple
 
 from hudarin import Comparison, Descriptor, Group, Refused, Token, Verdict, View
@@ -95,12 +96,14 @@ def dump(view: View, deadline: Deadline) -> Iterator[Answer]:
 
 def listed(view: View, top: str, deadline: Deadline) -> Iterator[Answer]:
     """The nodes at and below the path. Fault: there is no such node."""
+    # (nodes beside one another mostly have the same descriptor)
+    printed = functools.lru_cache(1)(str)
     with view:
         _required(view, top)
         for node in deadline.paced(view.nodes()):
             if _is_within(top, node.path):
                 kind = "container" if node.is_container else "object"
-                yield Node(kind, node.path, str(view.descriptor(node.path)))
+                yield Node(kind, node.path, printed(view.descriptor(node.path)))
 
 
 def found(
@@ -195,27 +198,26 @@ def reviewed(
         for path in deadline.paced(now):
             if _is_within(top, path):
                 before = path if path in stood else origins.of(path)
-                yield from map(Text, _changes(old, new, before, path, compared))
+                for line in _changes(old, new, before, path, compared):
+                    yield Text(line)
         yield from (Text(f"gone {spelled(path)}") for path in was if path not in stands and _is_within(top, path))
     yield Reviewed(pending.old_length, pending.new_length)
 
 
 def _changes(
     old: View, new: View, before: str | None, path: str, compared: Callable[[Descriptor, Descriptor], _Changes]
-) -> Iterator[str]:
+) -> Iterable[str]:
     """The lines of a node that is there now, and was at the path `before`, or nowhere."""
-    name = spelled(path)
     if before is None:
-        yield f"new {name}"
-        return
-    if before != path:
-        yield f"moved {spelled(before)} {name}"
+        return [f"new {spelled(path)}"]
+    moved = [] if before == path else [f"moved {spelled(before)} {spelled(path)}"]
     was, now = old.descriptor(before), new.descriptor(path)
-    if was != now:
-        of_object, of_container = compared(was, now)
-        is_container = of_container != of_object and new.own(path).is_container
-        changes = of_container if is_container else of_object
-        yield from (f"{name} {change}" for change in changes)
+    if was == now:
+        return moved
+    name, (of_object, of_container) = spelled(path), compared(was, now)
+    is_container = of_container != of_object and new.own(path).is_container
+    changes = of_container if is_container else of_object
+    return itertools.chain(moved, (f"{name} {change}" for change in changes))
 
 
 @dataclass(slots=True)
@@ -223,21 +225,21 @@ class _Node:
     """A node, where it was published, if it was, and those below it."""
 
     was: str | None
-    below: dict[str, "_Node"] = field(default_factory=dict)
+    below: dict[str, "_Node"]
 
 
 class _Origins:
     """Where each node was before the pending edits."""
 
     def __init__(self, was: Iterable[str], lines: Iterable[str]) -> None:
-        self._root = _Node("/")
+        self._root = _Node("/", {})
         for path in was:
             if path != "/":
-                self._put(path, _Node(path))
+                self._put(path, _Node(path, {}))
         for line in lines:
             name, *words = line.split(" ")
             if name in ("addc", "addo"):
-                self._put(path_of(words[0]), _Node(None))
+                self._put(path_of(words[0]), _Node(None, {}))
             elif name == "remove":
                 self._take(path_of(words[0]))
             elif name == "move":
@@ -259,7 +261,7 @@ class _Origins:
 
     def _parent(self, path: str) -> tuple[_Node, str]:
         node = self._root
-        *names, last = path.split("/")[1:]
+        _, *names, last = path.split("/")
         for name in names:
             node = node.below[name]
         return node, last
