@@ -473,22 +473,25 @@ def _mapping(masks: Iterable[Mask], files: Iterable[Mask] = FILES, of_files: _Ma
     return _Mapping(*(_mask(one, "mapping") for one in given))
 
 
+#: What most calls write has room there. Making the type takes longer than making one.
+_Buffer = ctypes.c_char * 256
+
+
 def _filled(
     call: Callable[[Any, int], Any], kind: str = "sddl", argument: Optional[Callable[[Any], str]] = None
 ) -> Tuple[bytes, Any]:
     """What the call writes into a buffer, and its answer. A buffer that is too small is replaced by one of the length
     that the answer says."""
-    length = 256
+    buffer = _Buffer()
     while True:
-        buffer = (ctypes.c_char * length)()
-        answer = call(buffer, length)
+        answer = call(buffer, len(buffer))
         written = getattr(answer, "written", answer)
         if written.status == 0:
             return buffer.raw[: written.length], answer
         if written.status != _ROOM:
             named = ARGUMENTS.get(getattr(answer, "argument", 0))
             _refuse(written, kind, argument(written) if argument else named)
-        length = written.length
+        buffer = (ctypes.c_char * written.length)()
 
 
 def _written(call: Callable[..., Any], given: bytes, kind: str = "sddl") -> bytes:
@@ -571,6 +574,9 @@ def _verdict_of(kind: int, mask: int) -> Verdict:
 
 
 def _verdict(answer: Any) -> Verdict:
+    """The verdict of the answer, if its status is OK."""
+    if answer.status != 0:
+        _refuse(answer)
     return _verdict_of(answer.kind, answer.mask)
 
 
@@ -1055,7 +1061,7 @@ class Descriptor(_Bytes):
         and the groups, and to these SIDs alone. ``mapping`` has the masks of the four generic rights."""
         token = _token(user, groups, privileges, restricting)
         request = _mapping(mapping), _mask(asked, "asked")
-        return _verdict(_checked(_library.hudarin_check(self._bytes, len(self._bytes), *token, *request)))
+        return _verdict(_library.hudarin_check(self._bytes, len(self._bytes), *token, *request))
 
     def check_by(self, token: Token, asked: Mask = 0, mapping: Iterable[Mask] = FILES) -> Verdict:
         """The same for a ``Token``. A closed one is ``Refused``."""
@@ -1063,7 +1069,7 @@ class Descriptor(_Bytes):
         request = _mapping(mapping), _mask(asked, "asked")
         with token._turn:
             answer = _library.hudarin_check_bytes(self._bytes, len(self._bytes), token._kept, *request)
-        return _verdict(_checked(answer))
+        return _verdict(answer)
 
     def explain(
         self,
@@ -1159,7 +1165,7 @@ class KeptDescriptor(_Held):
     def check(self, token: Token, asked: Mask = 0, mapping: Iterable[Mask] = FILES) -> Verdict:
         """Whether the descriptor grants ``asked``, as ``Descriptor.check`` says. If it or the token is closed:
         ``Refused``."""
-        return _verdict(_checked(self._asked(_library.hudarin_check_kept, token, asked, mapping)))
+        return _verdict(self._asked(_library.hudarin_check_kept, token, asked, mapping))
 
     def explain(self, token: Token, asked: Mask = 0, mapping: Iterable[Mask] = FILES) -> Explanation:
         """The same verdict, and why."""
@@ -1174,7 +1180,7 @@ class KeptDescriptor(_Held):
 
         with self._turn:
             explained = self._asked(_library.hudarin_explain, token, asked, mapping)
-            verdict = _verdict(_checked(explained.answer))
+            verdict = _verdict(explained.answer)
             return Explanation(verdict, tuple(_part(part, found) for part in explained.parts if part.mask != 0))
 
     def _sid(self, call: Callable[..., Any], *index: int) -> Optional[Sid]:
@@ -1233,7 +1239,7 @@ class View(_Held):
         bits = _mask(asked, "asked")
         with self._turn, token._turn:
             checked = _view_check(self._kept, given, len(given), token._kept, bits)
-        return _verdict(_checked(checked))
+        return _verdict(checked)
 
     def check_all(self, paths: Iterable[str], token: Token, asked: Mask = 0) -> List[Optional[Verdict]]:
         """The same for the node of each path, faster than one by one. None where there is no such node."""
@@ -1244,7 +1250,7 @@ class View(_Held):
         with self._turn, token._turn:
             view, kept = self._kept, token._kept
             answers = [_view_check(view, path, len(path), kept, bits) for path in given]
-        return [None if answer.status == _NO_NODE else _verdict(_checked(answer)) for answer in answers]
+        return [None if answer.status == _NO_NODE else _verdict(answer) for answer in answers]
 
     def descriptor(self, path: str) -> Descriptor:
         """The descriptor of the node of the path, with the entries that it inherits."""
