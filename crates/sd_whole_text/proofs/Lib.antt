@@ -1,0 +1,4 @@
+pub mod Cited
+pub mod Digits
+pub mod Names
+pub mod PlainTexts

@@ -1,0 +1,11 @@
+pub mod Kind
+pub mod Guid
+pub mod Flags
+pub mod Rights
+pub mod Data
+pub mod Entry
+pub mod Acl
+pub mod Descriptor
+pub mod NoText
+pub mod Plain
+pub mod Laws
