@@ -1,0 +1,6 @@
+-- The text so far is what was there, and the units so far.
+use Rattle.std.proofs.Common.{string_bytes, take, ◌++◌, ◌≡◌}
+use Rattle.sd_condition_text.proofs.attribute.push_plain.Given as goal
+
+abbrev pub invariant-loop-unit : goal.invariant-loop-unit
+invariant-loop-unit l = string_bytes l.out ≡ string_bytes l.fn.out ++ take l.unit-index l.name
