@@ -21,7 +21,7 @@ from script import takes_long
 from tree import MAPPINGS
 
 #: The nodes of a tree, each with a list of its own of so many entries: if all change a review takes some seconds.
-NODES, ENTRIES = 100, 1_750
+NODES, ENTRIES = 500, 1_750
 
 
 class Others:
