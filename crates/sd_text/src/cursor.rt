@@ -9,15 +9,15 @@ ghost use Rattle.sd_text.specs.Finding.{Gives, find, digits_len, IsCapped};
 
 use crate::fault::TextFault;
 
-/// The part of a text that isn't parsed yet.
+/// The part of a text that isn't parsed yet, for grammars of other crates too.
 #[derive(Drop)]
-pub(crate) struct Cursor<'a> {
-    pub(crate) rest: &'a [u8],
+pub struct Cursor<'a> {
+    pub rest: &'a [u8],
 }
 
 impl<'a> Cursor<'a> {
     /// The whole text.
-    pub(crate) fn new(text: &'a str) -> Cursor<'a>
+    pub fn new(text: &'a str) -> Cursor<'a>
         ensures { result.rest.now ≡ text.now }
     {
         Cursor {
@@ -26,14 +26,14 @@ impl<'a> Cursor<'a> {
     }
 
     /// The cursor's offset in the text.
-    pub(crate) fn place(&self, text: &str) -> u64
+    pub fn place(&self, text: &str) -> u64
         ensures { length self.now.rest.now ≤ length text.now → result + length self.now.rest.now ≡ length text.now }
     {
         text.len().saturating_sub(self.rest.len()) as u64
     }
 
     /// Whether the rest begins with these letters, at least one, of either case.
-    pub(crate) fn begins(&self, letters: &[u8]) -> bool
+    pub fn begins(&self, letters: &[u8]) -> bool
         ensures value { result ≡ begins self.now.rest.now letters.now }
         ensures within { IsTrue result → length letters.now ≤ length self.now.rest.now }
     {
@@ -41,7 +41,7 @@ impl<'a> Cursor<'a> {
     }
 
     /// Whether the rest begins with a digit.
-    pub(crate) fn begins_digit(&self, radix: u32) -> bool
+    pub fn begins_digit(&self, radix: u32) -> bool
         requires low { 2 ≤ radix }
         requires high { radix ≤ 16 }
         ensures { result ≡ begins_digit radix self.now.rest.now }
@@ -53,7 +53,7 @@ impl<'a> Cursor<'a> {
     }
 
     /// Whether there is a letter so many bytes ahead.
-    pub(crate) fn letter_at(&self, ahead: usize) -> bool
+    pub fn letter_at(&self, ahead: usize) -> bool
         ensures { result ≡ begins_letter (drop ahead self.now.rest.now) }
     {
         match self.rest.get(ahead) {
@@ -63,7 +63,7 @@ impl<'a> Cursor<'a> {
     }
 
     /// Consumes these letters, of either case. Returns false, and consumes nothing, if they aren't here.
-    pub(crate) fn eat(&mut self, letters: &[u8]) -> bool
+    pub fn eat(&mut self, letters: &[u8]) -> bool
         ensures stood { result ≡ begins self.old.rest.now letters.now }
         ensures rest { self.new.rest.now
             ≡ (if result then drop (length letters.now) self.old.rest.now else self.old.rest.now) }
@@ -77,7 +77,7 @@ impl<'a> Cursor<'a> {
     }
 
     /// These letters, of either case.
-    pub(crate) fn word(&mut self, letters: &[u8]) -> Result<(), TextFault>
+    pub fn word(&mut self, letters: &[u8]) -> Result<(), TextFault>
         ensures { Gives (λ _. tt) result self.new.rest.now (find (word letters.now) self.old.rest.now) }
     {
         if self.eat(letters) {
@@ -88,7 +88,7 @@ impl<'a> Cursor<'a> {
     }
 
     /// The end of the text.
-    pub(crate) fn end(&self) -> Result<(), TextFault>
+    pub fn end(&self) -> Result<(), TextFault>
         ensures { Gives (λ _. tt) result self.now.rest.now (find end self.now.rest.now) }
     {
         if self.rest.is_empty() {
@@ -100,7 +100,7 @@ impl<'a> Cursor<'a> {
 
     /// A head of so many bytes and all digits after it: a number below the limit.
     #[inline(always)]
-    pub(crate) fn number(&mut self, head: usize, radix: u32, limit: u64) -> Result<u64, TextFault>
+    pub fn number(&mut self, head: usize, radix: u32, limit: u64) -> Result<u64, TextFault>
         requires within { head ≤ length self.old.rest.now }
         requires low { 2 ≤ radix }
         requires high { radix ≤ 16 }

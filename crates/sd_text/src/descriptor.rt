@@ -27,11 +27,11 @@ pub(crate) enum DaclWord {
 
 /// The keywords of a DACL's section.
 #[derive(Clone, Copy)]
-pub(crate) struct DaclWords {
-    pub(crate) protected: bool,
-    pub(crate) auto_req: bool,
-    pub(crate) auto_inherited: bool,
-    pub(crate) no_access_control: bool,
+pub struct DaclWords {
+    pub protected: bool,
+    pub auto_req: bool,
+    pub auto_inherited: bool,
+    pub no_access_control: bool,
 }
 
 /// The section of a DACL, or its absence.
@@ -186,7 +186,7 @@ impl Cursor<'_> {
     }
 
     /// A run of keywords, perhaps empty.
-    pub(crate) fn words(&mut self) -> DaclWords
+    pub fn words(&mut self) -> DaclWords
         ensures { find words self.old.rest.now ≡ Ok (result, self.new.rest.now) }
     {
         let mut words = DaclWords::none();

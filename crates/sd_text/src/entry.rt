@@ -16,7 +16,7 @@ use sd_acl::{ACL_HEADER_BYTES, Ace, AceFlags, AceKind, AceList, MAX_ACL_BYTES};
 use std::alloc::Global;
 
 /// The names of flags ([MS-DTYP] 2.4.4.1, AceFlags).
-pub(crate) fn flag_names() -> &'static [(&'static str, u32)]
+pub fn flag_names() -> &'static [(&'static str, u32)]
     ensures { rows result.now ≡ flag_names }
 {
     &AceFlags::NAMED

@@ -29,8 +29,10 @@ mod sacl;
 mod sid;
 
 pub use alias::{Aliases, alias_of};
-pub use descriptor::{read_sddl, read_sddl_in};
+pub use cursor::Cursor;
+pub use descriptor::{DaclWords, read_sddl, read_sddl_in};
 pub use domain::Domain;
+pub use entry::flag_names;
 pub use fault::{TextError, TextFault};
 pub use laws::{
     printed_texts_come_back, texts_end_with_their_sacl, texts_have_a_value_or_a_fault,
@@ -39,7 +41,8 @@ pub use laws::{
 };
 pub use mask_names::print_mask_names;
 pub use print::{
-    print_entry, print_entry_in, print_full_sid, print_sddl, print_sddl_in, print_sid,
+    print_entry, print_entry_in, print_full_sid, print_sddl, print_sddl_in, print_sid, write_flags,
+    write_rights, write_section, write_sid, write_where,
 };
 pub use right_names::RightNames;
 pub use rights::read_mask;

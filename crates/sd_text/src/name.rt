@@ -12,7 +12,7 @@ use crate::places::{Places, slot};
 
 impl Cursor<'_> {
     /// Consumes the first name of the table that is here, and returns its meaning.
-    pub(crate) fn name<T: Copy>(&mut self, names: &[(&str, T)]) -> Option<T>
+    pub fn name<T: Copy>(&mut self, names: &[(&str, T)]) -> Option<T>
         ensures none { IfNone result
             ((named (rows names.now) self.old.rest.now ≡ None) × (self.new.rest.now ≡ self.old.rest.now)) }
         ensures some { IfSome result (λ x. named (rows names.now) self.old.rest.now ≡ Some (x, self.new.rest.now)) }

@@ -146,8 +146,8 @@ fn write_sddl(out: &mut String, names: RightNames, d: &Descriptor) -> Result<(),
     write_dacl(out, names, d)
 }
 
-/// A section of one SID, if there is one.
-fn write_section(out: &mut String, head: &str, sid: &Option<Sid>) -> Result<(), AllocError>
+/// Appends a section of one SID, if there is one ([MS-DTYP] 2.5.1.1, owner and group). The only error is out of memory.
+pub fn write_section(out: &mut String, head: &str, sid: &Option<Sid>) -> Result<(), AllocError>
     ensures { OnOk result (string_bytes out.new ≡ string_bytes out.old ++ section_canon head.now sid.now) }
 {
     match sid {
@@ -159,8 +159,9 @@ fn write_section(out: &mut String, head: &str, sid: &Option<Sid>) -> Result<(), 
     }
 }
 
+/// Appends a SID by its alias, or else in full ([MS-DTYP] 2.4.2.1). The only error is out of memory.
 #[tactic(auto, unfolding(crate::specs::Canon::sid_canon))]
-fn write_sid(out: &mut String, sid: &Sid) -> Result<(), AllocError>
+pub fn write_sid(out: &mut String, sid: &Sid) -> Result<(), AllocError>
     ensures { OnOk result (string_bytes out.new ≡ string_bytes out.old ++ sid_canon sid.now) }
 {
     match alias_text(sid) {
@@ -225,8 +226,8 @@ fn write_words(out: &mut String, d: &Descriptor) -> Result<(), AllocError>
     write_where(out, d.auto_inherited, "AI")
 }
 
-/// The letters, if the test holds.
-fn write_where(out: &mut String, test: bool, letters: &str) -> Result<(), AllocError>
+/// Appends the letters, if the test holds. The only error is out of memory.
+pub fn write_where(out: &mut String, test: bool, letters: &str) -> Result<(), AllocError>
     ensures { OnOk result (string_bytes out.new ≡ string_bytes out.old ++ where_set test letters.now) }
 {
     if test { out.push_str(letters) } else { Ok(()) }
@@ -248,8 +249,10 @@ fn write_entry(out: &mut String, names: RightNames, entry: &Ace) -> Result<(), A
     out.push_str(")")
 }
 
+/// Appends the seven flags that have names in every version ([MS-DTYP] 2.4.4.1, AceFlags). The only error is out of
+/// memory.
 #[tactic(auto, unfolding(crate::specs::Canon::flags_canon))]
-fn write_flags(out: &mut String, flags: AceFlags) -> Result<(), AllocError>
+pub fn write_flags(out: &mut String, flags: AceFlags) -> Result<(), AllocError>
     ensures { OnOk result (string_bytes out.new ≡ string_bytes out.old ++ flags_canon flags.0) }
 {
     let bits = u32::from(flags.bits());
@@ -262,8 +265,9 @@ fn write_flags(out: &mut String, flags: AceFlags) -> Result<(), AllocError>
     Ok(())
 }
 
+/// Appends a mask by its name, or else in hexadecimal ([MS-DTYP] 2.5.1.1, ace-rights). The only error is out of memory.
 #[tactic(auto, unfolding(crate::specs::Canon::rights_canon_in))]
-fn write_rights(out: &mut String, names: RightNames, mask: Mask) -> Result<(), AllocError>
+pub fn write_rights(out: &mut String, names: RightNames, mask: Mask) -> Result<(), AllocError>
     ensures { OnOk result (string_bytes out.new ≡ string_bytes out.old ++ rights_canon_in names mask) }
 {
     let bits = mask.bits();

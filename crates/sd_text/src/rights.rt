@@ -72,7 +72,7 @@ impl Cursor<'_> {
 
     /// A number, or a run of names.
     #[tactic(auto, unfolding(crate::specs::Rights::rights, crate::specs::Rights::names_from_greatest))]
-    pub(crate) fn rights(&mut self) -> Result<Mask, TextFault>
+    pub fn rights(&mut self) -> Result<Mask, TextFault>
         ensures { Gives (λ mask. mask) result self.new.rest.now (find rights self.old.rest.now) }
     {
         if self.begins_digit(10) {

@@ -55,7 +55,7 @@ impl Cursor<'_> {
 
     /// A SID, in full or by its alias.
     #[tactic(auto, unfolding(crate::specs::Sid::sid))]
-    pub(crate) fn sid(&mut self, known: Aliases) -> Result<Sid, TextFault>
+    pub fn sid(&mut self, known: Aliases) -> Result<Sid, TextFault>
         ensures { Gives (λ sid. sid) result self.new.rest.now (find (sid known) self.old.rest.now) }
     {
         if !self.eat(b"S-1-") {
