@@ -1,14 +1,9 @@
 -- What these proofs cite of other modules, passed on from one place.
-pub use Rattle.std.proofs.Common.{add-one, cond, drop, drop-cons, get_or, length, refl, sym, take, false, List, Some, [], ℕ, ◌&&◌, ◌++◌, ◌+◌, ◌/◌, ◌%◌, ◌-◌, ◌<◌, ◌==◌, ◌^◌, ◌∷◌, ◌≡◌}
+pub use Rattle.std.proofs.Common.{append_assoc, cond, drop, length, refl, sym, take, false, List, [], ℕ, ◌&&◌, ◌++◌, ◌+◌, ◌/◌, ◌%◌, ◌-◌, ◌<◌, ◌==◌, ◌^◌, ◌∷◌, ◌≡◌}
 pub use Rattle.std.proofs.lemmas.Fmt.{hex_byte}
-pub use Rattle.std.specs.Borrow.{Bor}
 pub use Rattle.std.specs.Fmt.{digits, digit_glyph, format_spec, padded_integral}
 pub use Rattle.std.specs.List.{AllByRecursion, flat_map}
 pub use Rattle.std.specs.Prelude.{map, slice_index, string_bytes}
-pub use Rattle.sd_text.specs.Canon.{flag_canon}
-pub use Rattle.sd_text.specs.Entry.{flag_names}
-pub use Rattle.sd_text.specs.Names.{rows}
-pub use Rattle.sd_text.specs.RightNames.{has, printed_right}
 pub use Rattle.sd_text.specs.declared.right_names.RightNames.{RightNames}
 pub use Rattle.sd_whole_text.specs.Guid.{byte_text}
 pub use Rattle.sd_whole_text.specs.Entry.{entry_text}
@@ -31,5 +26,9 @@ pub use Rattle.sd_whole_text.specs.Acl.{acl_text}
 pub use Rattle.sd_whole_text.specs.Descriptor.{whole_text}
 pub use Rattle.sd_whole_text.specs.Laws.{PlainTextsStay}
 pub use Rattle.sd_whole_text.specs.NoText.{acl_test, bits_without_keyword, keyword_bits}
+pub use Rattle.sd_acl.specs.declared.ace.AceKind.{AceKind}
+pub use Rattle.sd_text.specs.Canon.{rights_canon_in, sid_canon}
+pub use Rattle.sd_whole_text.specs.Kind.{kind_of_plain, letters_of}
+pub use Rattle.sd_whole_text.specs.Rights.{rights_text}
 pub use Rattle.sd_whole_text.specs.Plain.{control_of, whole_dacl, whole_of}
 pub use Rattle.sd_whole_text.specs.declared.no_text.AclKind.TheVariants.{Dacl as DaclKind, Sacl as SaclKind}

@@ -1,4 +1,3 @@
 pub mod Cited
 pub mod Digits
-pub mod Names
 pub mod PlainTexts

@@ -1,10 +1,11 @@
 -- A plain descriptor has the same text as a whole one.
-use Rattle.sd_whole_text.proofs.Cited.{Absent, Ace, AllByRecursion, Bool, Dacl, DaclKind, HasNamedFlags, HaveNamedFlags, IsTrue, List, Null, Ok, Plain, PlainTextsStay, RightNames, SaclKind, [], acl_test, acl_text, all_named, and_assoc, and_zero_r, ap, append-nil, bit_and, bits_without_keyword, codes, cond, control_of, dacl_canon, entries_test, entry_text, false, flat_map, has_object, is_absent, is_set, keyword_bits, kind_canon, map, not, refl, true, where_set, whole_dacl, ℕ, ◌&&◌, ◌++◌, ◌+◌, ◌∙◌, ◌∷◌, ◌≡◌}
+use Rattle.sd_whole_text.proofs.Cited.{Absent, Ace, AceKind, AllByRecursion, Bool, Dacl, DaclKind, HasNamedFlags, HaveNamedFlags, IsTrue, List, Null, Ok, Plain, PlainTextsStay, RightNames, SaclKind, [], acl_test, acl_text, all_named, and_assoc, and_zero_r, ap, append-nil, bit_and, bits_without_keyword, codes, cond, control_of, dacl_canon, entries_test, entry_text, false, flat_map, has_object, is_absent, is_set, keyword_bits, kind_canon, kind_of_plain, letters_of, map, not, refl, rights_canon_in, rights_text, sid_canon, true, where_set, whole_dacl, ℕ, ◌&&◌, ◌++◌, ◌+◌, ◌∙◌, ◌∷◌, ◌≡◌}
 use Rattle.sd_acl.specs.declared.descriptor.DaclOf.TheVariants.{List as Entries}
-use Rattle.sd_text.specs.Canon.{canon_in, entry_canon_in, flags_canon, rights_canon_in, sid_canon, words_canon}
+use Rattle.sd_acl.specs.declared.ace.AceKind.TheVariants as plain
+use Rattle.sd_text.specs.Canon.{canon_in, entry_canon_in, flags_canon, words_canon}
 use Rattle.sd_whole_text.specs.Acl.{keywords_text}
 use Rattle.sd_whole_text.specs.Descriptor.{sections_text}
-use Rattle.sd_whole_text.specs.Entry.{fields_text}
+use Rattle.sd_whole_text.specs.Entry.{head_text}
 use Rattle.sd_whole_text.specs.Flags.{flags_text}
 use Rattle.sd_whole_text.specs.NoText.{whole_test}
 
@@ -16,14 +17,23 @@ not_critical flags named =
     let apart : bit_and (bit_and flags all_named) 0x20 ≡ 0 = and_assoc 0x20 flags all_named ∙ and_zero_r flags in
     rw named at apart
 
--- empty fields, one by one or together
-three_ends : (before : List ℕ) → before ++ codes ";" ++ codes ";" ++ codes ";" ≡ before ++ codes ";;;"
+-- an allow and a deny have their letters, and rights by these names
+kind_stays : (kind : AceKind) → letters_of (kind_of_plain kind) ≡ kind_canon kind
+kind_stays plain.Allow = refl
+kind_stays plain.Deny = refl
+
+rights_stay : (names : RightNames) (kind : AceKind) (mask : ℕ) → rights_text names (kind_of_plain kind) mask ≡ rights_canon_in names mask
+rights_stay names plain.Allow mask = refl
+rights_stay names plain.Deny mask = refl
+
+-- empty fields after another one, one by one or together
+three_ends : (before : List ℕ) → before ++ codes ";" ++ codes ";;" ≡ before ++ codes ";;;"
 three_ends [] = refl
 three_ends (c ∷ before) = rw (three_ends before) refl
 
 entry_stays : (names : RightNames) (e : Ace) → HasNamedFlags e → entry_text names (Plain e) ≡ entry_canon_in names e
-unfolding fields_text flags_text entry_canon_in
-entry_stays names e named = rw (not_critical e.flags.0 named, append-nil)
+unfolding head_text flags_text entry_canon_in
+entry_stays names e named = rw (not_critical e.flags.0 named, append-nil, kind_stays e.kind, rights_stay names e.kind e.mask)
     (ap (λ fields. fields ++ sid_canon e.sid ++ codes ")")
     (three_ends (codes "(" ++ kind_canon e.kind ++ codes ";" ++ flags_canon e.flags.0 ++ codes ";" ++ rights_canon_in names e.mask)))
 

@@ -1,16 +1,16 @@
 -- Entries as text ([MS-DTYP] 2.5.1.1, ace).
 use Rattle.std.specs.Prelude.{ℕ, Bool, true, false, List, [], ◌++◌, Option, Some, None, codes}
-use Rattle.sd_sid.specs.Sid.{SidValue}
-use Rattle.sd_text.specs.Canon.{kind_canon, rights_canon_in, sid_canon}
+use Rattle.sd_text.specs.Canon.{sid_canon}
 use Rattle.sd_text.specs.declared.right_names.RightNames.{RightNames}
 use Rattle.sd_whole.specs.Kind.{has_object_types}
 use Rattle.sd_whole.specs.declared.ace.WholeAce.{WholeAce}
 use Rattle.sd_whole.specs.declared.ace.WholeAce.TheVariants.{Plain, Typed, Opaque}
+use Rattle.sd_whole.specs.declared.kind.WholeKind.{WholeKind}
 use Rattle.sd_whole.specs.declared.types.Guid.{Guid}
 use Rattle.sd_whole.specs.declared.types.ObjectTypes.{ObjectTypes}
 use Rattle.sd_whole_text.specs.Flags.{flags_text}
 use Rattle.sd_whole_text.specs.Guid.{guid_text}
-use Rattle.sd_whole_text.specs.Kind.{letters_of}
+use Rattle.sd_whole_text.specs.Kind.{kind_of_plain, letters_of}
 use Rattle.sd_whole_text.specs.Rights.{rights_text}
 
 -- a GUID, if there is one
@@ -23,16 +23,15 @@ abbrev pub types_text : Bool → ObjectTypes → List ℕ
 types_text false types = codes ";"
 types_text true types = guid_field types.object ++ codes ";" ++ guid_field types.inherited
 
--- an entry, by the texts of its fields, its flags and its SID
-unfoldable pub fields_text : List ℕ → ℕ → List ℕ → List ℕ → SidValue → List ℕ
-fields_text letters flags rights types sid = codes "(" ++ letters ++ codes ";" ++ flags_text flags ++ codes ";"
-    ++ rights ++ codes ";" ++ types ++ codes ";" ++ sid_canon sid ++ codes ")"
+-- the fields before the GUIDs: type, flags, rights
+unfoldable pub head_text : RightNames → WholeKind → ℕ → ℕ → List ℕ
+head_text names kind flags mask = codes "(" ++ letters_of kind ++ codes ";" ++ flags_text flags ++ codes ";"
+    ++ rights_text names kind mask ++ codes ";"
 
 -- an entry with these names of rights: an opaque one has no text
 abbrev pub entry_text : RightNames → WholeAce → List ℕ
-entry_text names (Plain e) =
-    fields_text (kind_canon e.kind) e.flags.0 (rights_canon_in names e.mask) (codes ";") e.sid
-entry_text names (Typed e) =
-    fields_text (letters_of e.kind) e.flags.0 (rights_text names e.kind e.mask)
-    (types_text (has_object_types e.kind) e.types) e.sid
+entry_text names (Plain e) = head_text names (kind_of_plain e.kind) e.flags.0 e.mask ++ codes ";;" ++ sid_canon e.sid
+    ++ codes ")"
+entry_text names (Typed e) = head_text names e.kind e.flags.0 e.mask ++ types_text (has_object_types e.kind) e.types
+    ++ codes ";" ++ sid_canon e.sid ++ codes ")"
 entry_text names (Opaque e) = []

@@ -1,5 +1,7 @@
 -- The letters of the types of entries ([MS-DTYP] 2.5.1.1, ace-type).
 use Rattle.std.specs.Prelude.{ℕ, List, [], codes}
+use Rattle.sd_acl.specs.declared.ace.AceKind.{AceKind}
+use Rattle.sd_acl.specs.declared.ace.AceKind.TheVariants as plain
 use Rattle.sd_whole.specs.declared.kind.WholeKind.{WholeKind}
 use Rattle.sd_whole.specs.declared.kind.WholeKind.TheVariants.{Allow, Deny, Audit, Alarm, ObjectAllow, ObjectDeny}
 use Rattle.sd_whole.specs.declared.kind.WholeKind.TheVariants.{ObjectAudit, ObjectAlarm, CallbackAllow, CallbackDeny}
@@ -7,6 +9,11 @@ use Rattle.sd_whole.specs.declared.kind.WholeKind.TheVariants.{CallbackObjectAll
 use Rattle.sd_whole.specs.declared.kind.WholeKind.TheVariants.{CallbackAudit, CallbackObjectAudit, MandatoryLabel}
 use Rattle.sd_whole.specs.declared.kind.WholeKind.TheVariants.{ResourceAttribute, ScopedPolicy, TrustLabel}
 use Rattle.sd_whole.specs.declared.kind.WholeKind.TheVariants.{AccessFilter}
+
+-- an allow or a deny as a kind
+abbrev pub kind_of_plain : AceKind → WholeKind
+kind_of_plain plain.Allow = Allow
+kind_of_plain plain.Deny = Deny
 
 -- the letters of a type: 0x0c and 0x0f have none
 abbrev pub letters_of : WholeKind → List ℕ

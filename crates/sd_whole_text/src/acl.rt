@@ -5,12 +5,11 @@ ghost use Rattle.sd_whole_text.specs.Acl.{acl_text, auto_inherited_bit, auto_req
 ghost use Rattle.sd_whole_text.specs.Acl.{protected_bit};
 
 use crate::entry::push_entry;
-use crate::flags::push_where;
 use crate::no_text::AclKind;
-use sd_text::RightNames;
+use sd_text::{RightNames, write_where};
 use sd_whole::WholeAcl;
 use sd_wire::has_bits;
-use std::alloc::{AllocError, Global};
+use std::alloc::AllocError;
 
 impl AclKind {
     /// The head of its section.
@@ -56,7 +55,6 @@ impl AclKind {
 
 /// Appends the section of a SACL or a DACL, if it is there.
 pub(crate) fn push_acl(
-    alloc: Global,
     out: &mut String,
     names: RightNames,
     kind: AclKind,
@@ -76,7 +74,7 @@ pub(crate) fn push_acl(
             out.push_str(kind.head())?;
             push_keywords(out, kind, control)?;
             for entry in list.entries() {
-                push_entry(alloc, out, names, entry)?;
+                push_entry(out, names, entry)?;
             }
             Ok(())
         }
@@ -88,7 +86,7 @@ pub(crate) fn push_acl(
 fn push_keywords(out: &mut String, kind: AclKind, control: u16) -> Result<(), AllocError>
     ensures { OnOk result (string_bytes out.new ≡ string_bytes out.old ++ keywords_text kind control) }
 {
-    push_where(out, has_bits(control, kind.protected_bit()), "P")?;
-    push_where(out, has_bits(control, kind.auto_req_bit()), "AR")?;
-    push_where(out, has_bits(control, kind.auto_inherited_bit()), "AI")
+    write_where(out, has_bits(control, kind.protected_bit()), "P")?;
+    write_where(out, has_bits(control, kind.auto_req_bit()), "AR")?;
+    write_where(out, has_bits(control, kind.auto_inherited_bit()), "AI")
 }

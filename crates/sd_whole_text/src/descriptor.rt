@@ -1,16 +1,13 @@
 //! Whole descriptors as text: [MS-DTYP] 2.5.1.1, sddl.
 
 ghost use Rattle.std.specs.Prelude.{◌≡◌, ◌<◌, ◌++◌, ◌==◌, length, OnOk, IsErrOf, string_bytes};
-ghost use Rattle.sd_text.specs.Canon.{section_canon};
 ghost use Rattle.sd_text.specs.declared.right_names.RightNames.{RightNames};
 ghost use Rattle.sd_whole_text.specs.Descriptor.{Gives, sections_text, whole_text};
 
 use crate::acl::push_acl;
-use crate::entry::push_sid;
 use crate::lack::test_whole;
 use crate::no_text::{AclKind, WholeTextError};
-use sd_sid::Sid;
-use sd_text::RightNames;
+use sd_text::{RightNames, write_section};
 use sd_whole::{WholeAcl, WholeDescriptor};
 use std::alloc::{AllocError, Global};
 
@@ -27,7 +24,7 @@ pub fn print_whole(
     test_whole(descriptor)?;
     let mut text = String::new(alloc);
     if !is_empty(descriptor) {
-        push_sections(alloc, &mut text, names, descriptor)?;
+        push_sections(&mut text, names, descriptor)?;
     }
     Ok(text)
 }
@@ -45,34 +42,11 @@ fn is_empty(d: &WholeDescriptor) -> bool
 
 /// Appends owner, group, DACL and SACL.
 #[tactic(auto, unfolding(crate::specs::Descriptor::sections_text))]
-fn push_sections(
-    alloc: Global,
-    out: &mut String,
-    names: RightNames,
-    d: &WholeDescriptor,
-) -> Result<(), AllocError>
+fn push_sections(out: &mut String, names: RightNames, d: &WholeDescriptor) -> Result<(), AllocError>
     ensures { OnOk result (string_bytes out.new ≡ string_bytes out.old ++ sections_text names d.now) }
 {
-    push_section(alloc, out, "O:", &d.owner)?;
-    push_section(alloc, out, "G:", &d.group)?;
-    push_acl(alloc, out, names, AclKind::Dacl, d.control, &d.dacl)?;
-    push_acl(alloc, out, names, AclKind::Sacl, d.control, &d.sacl)
-}
-
-/// Appends a section of one SID, if there is one.
-fn push_section(
-    alloc: Global,
-    out: &mut String,
-    head: &str,
-    sid: &Option<Sid>,
-) -> Result<(), AllocError>
-    ensures { OnOk result (string_bytes out.new ≡ string_bytes out.old ++ section_canon head.now sid.now) }
-{
-    match sid {
-        Some(sid) => {
-            out.push_str(head)?;
-            push_sid(alloc, out, sid)
-        }
-        None => Ok(()),
-    }
+    write_section(out, "O:", &d.owner)?;
+    write_section(out, "G:", &d.group)?;
+    push_acl(out, names, AclKind::Dacl, d.control, &d.dacl)?;
+    push_acl(out, names, AclKind::Sacl, d.control, &d.sacl)
 }
