@@ -7,7 +7,7 @@ pub use Rattle.std.specs.Prelude.{map, slice_index, string_bytes}
 pub use Rattle.sd_text.specs.declared.right_names.RightNames.{RightNames}
 pub use Rattle.sd_whole_text.specs.Guid.{byte_text}
 pub use Rattle.sd_whole_text.specs.Entry.{entry_text}
-pub use Rattle.sd_whole_text.specs.NoText.{entries_test, has_object}
+pub use Rattle.sd_whole_text.specs.NoText.{entries_test}
 pub use Rattle.std.proofs.Common.{Bool, IsTrue, Ok, ap, bit_and, codes, true, not, ◌∙◌}
 pub use Rattle.std.proofs.lemmas.List.{append-nil}
 pub use Rattle.std.proofs.lemmas.Nat.{and_assoc}

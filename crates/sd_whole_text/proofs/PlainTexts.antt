@@ -1,5 +1,5 @@
 -- A plain descriptor has the same text as a whole one.
-use Rattle.sd_whole_text.proofs.Cited.{Absent, Ace, AceKind, AllByRecursion, Bool, Dacl, DaclKind, HasNamedFlags, HaveNamedFlags, IsTrue, List, Null, Ok, Plain, PlainTextsStay, RightNames, SaclKind, [], acl_test, acl_text, all_named, and_assoc, and_zero_r, ap, append-nil, bit_and, bits_without_keyword, codes, cond, control_of, dacl_canon, entries_test, entry_text, false, flat_map, has_object, is_absent, is_set, keyword_bits, kind_canon, kind_of_plain, letters_of, map, not, refl, rights_canon_in, rights_text, sid_canon, true, where_set, whole_dacl, ℕ, ◌&&◌, ◌++◌, ◌+◌, ◌∙◌, ◌∷◌, ◌≡◌}
+use Rattle.sd_whole_text.proofs.Cited.{Absent, Ace, AceKind, AllByRecursion, Bool, Dacl, DaclKind, HasNamedFlags, HaveNamedFlags, IsTrue, List, Null, Ok, Plain, PlainTextsStay, RightNames, SaclKind, [], acl_test, acl_text, all_named, and_assoc, and_zero_r, ap, append-nil, bit_and, bits_without_keyword, codes, cond, control_of, dacl_canon, entries_test, entry_text, false, flat_map, is_absent, is_set, keyword_bits, kind_canon, kind_of_plain, letters_of, map, not, refl, rights_canon_in, rights_text, sid_canon, true, where_set, whole_dacl, ℕ, ◌&&◌, ◌++◌, ◌+◌, ◌∙◌, ◌∷◌, ◌≡◌}
 use Rattle.sd_acl.specs.declared.descriptor.DaclOf.TheVariants.{List as Entries}
 use Rattle.sd_acl.specs.declared.ace.AceKind.TheVariants as plain
 use Rattle.sd_text.specs.Canon.{canon_in, entry_canon_in, flags_canon, words_canon}
@@ -41,14 +41,10 @@ entries_stay : (names : RightNames) (es : List Ace) → AllByRecursion HasNamedF
 entries_stay names [] all = refl
 entries_stay names (e ∷ es) all = rw (entry_stays names e all.0, entries_stay names es all.1) refl
 
--- plain entries have a text, and no object types
+-- plain entries have a text
 entries_pass : (place : ℕ) (es : List Ace) → entries_test DaclKind place (map (λ e. Plain e) es) ≡ Ok tt
 entries_pass place [] = refl
 entries_pass place (e ∷ es) = entries_pass (place + 1) es
-
-none_is_object : (es : List Ace) → has_object (map (λ e. Plain e) es) ≡ false
-none_is_object [] = refl
-none_is_object (e ∷ es) = none_is_object es
 
 -- ---- the control bits
 
@@ -96,7 +92,7 @@ acl_stays names control words (Entries es) named e = rw (e, entries_stay names e
 acl_passes : (control : ℕ) (dacl : Dacl) → (IsTrue (is_absent dacl) → is_set (keyword_bits DaclKind) control ≡ false) → acl_test DaclKind control (whole_dacl dacl) ≡ Ok tt
 acl_passes control Absent none = rw (none refl) refl
 acl_passes control Null none = refl
-acl_passes control (Entries es) none = rw (entries_pass 1 es, none_is_object es) refl
+acl_passes control (Entries es) none = entries_pass 1 es
 
 -- ---- descriptors
 

@@ -1,10 +1,8 @@
 -- What has no text ([MS-DTYP] 2.5.1.1): what the text doesn't say, so that it would be parsed as another descriptor.
-use Rattle.std.specs.Prelude.{ℕ, ◌+◌, Bool, false, not, ◌==◌, ◌||◌, List, [], ◌∷◌, length, Result, Ok, Err, codes}
+use Rattle.std.specs.Prelude.{ℕ, ◌+◌, not, ◌==◌, List, [], ◌∷◌, length, Result, Ok, Err, codes}
 use Rattle.std.specs.Prelude.{if◌then◌else◌}
 use Rattle.sd_acl.specs.declared.descriptor.DaclOf.TheVariants.{Absent, Null, List as Entries}
-use Rattle.sd_whole.specs.Kind.{has_object_types}
 use Rattle.sd_whole.specs.Reading.{WholeAcl}
-use Rattle.sd_whole.specs.Values.{WholeListValue, revision_number}
 use Rattle.sd_whole.specs.declared.ace.WholeAce.{WholeAce}
 use Rattle.sd_whole.specs.declared.ace.WholeAce.TheVariants as aces
 use Rattle.sd_whole.specs.declared.descriptor.WholeDescriptor.{WholeDescriptor}
@@ -15,7 +13,7 @@ use Rattle.sd_whole_text.specs.declared.no_text.AclKind.{AclKind}
 use Rattle.sd_whole_text.specs.declared.no_text.AclKind.TheVariants.{Dacl, Sacl}
 use Rattle.sd_whole_text.specs.declared.no_text.NoText.{NoText}
 use Rattle.sd_whole_text.specs.declared.no_text.NoText.TheVariants.{ResourceManager, Control, Keywords, Opaque, Kind}
-use Rattle.sd_whole_text.specs.declared.no_text.NoText.TheVariants.{Data, Revision}
+use Rattle.sd_whole_text.specs.declared.no_text.NoText.TheVariants.{Data}
 
 abbrev pub no_text_number : NoText → ℕ
 no_text_number ResourceManager = 1
@@ -24,7 +22,6 @@ no_text_number (Keywords acl) = 3
 no_text_number (Opaque acl entry) = 4
 no_text_number (Kind acl entry) = 5
 no_text_number (Data acl entry) = 6
-no_text_number (Revision acl) = 7
 
 abbrev pub no_text_name : NoText → List ℕ
 no_text_name ResourceManager = codes "ResourceManager"
@@ -33,7 +30,6 @@ no_text_name (Keywords acl) = codes "Keywords"
 no_text_name (Opaque acl entry) = codes "Opaque"
 no_text_name (Kind acl entry) = codes "Kind"
 no_text_name (Data acl entry) = codes "Data"
-no_text_name (Revision acl) = codes "Revision"
 
 infixl 10 ◌>>◌
 -- one test after another: the first that fails is the result
@@ -55,23 +51,6 @@ abbrev pub entries_test : AclKind → ℕ → List WholeAce → Result (Unit {0}
 entries_test acl place [] = Ok tt
 entries_test acl place (e ∷ es) = entry_test acl place e >> entries_test acl (place + 1) es
 
--- an entry with object types
-abbrev pub is_object : WholeAce → Bool
-is_object (aces.Plain e) = false
-is_object (aces.Typed e) = has_object_types e.kind
-is_object (aces.Opaque e) = false
-
--- one of them is
-abbrev pub has_object : List WholeAce → Bool
-has_object [] = false
-has_object (e ∷ es) = is_object e || has_object es
-
--- a list of the revision that a parsed text has: 4 with an object entry, else 2 (2.4.5)
-abbrev pub revision_test : AclKind → WholeListValue → Result (Unit {0}) NoText
-revision_test acl list =
-    if revision_number list.revision == (if has_object list.entries then 4 else 2) then Ok tt
-    else Err (Revision acl)
-
 -- the control bits of the keywords P, AR and AI
 abbrev pub keyword_bits : AclKind → ℕ
 keyword_bits Dacl = 0x1500
@@ -81,7 +60,7 @@ keyword_bits Sacl = 0x2a00
 abbrev pub acl_test : AclKind → ℕ → WholeAcl → Result (Unit {0}) NoText
 acl_test acl control Absent = if is_set (keyword_bits acl) control then Err (Keywords acl) else Ok tt
 acl_test acl control Null = Ok tt
-acl_test acl control (Entries list) = entries_test acl 1 list.entries >> revision_test acl list
+acl_test acl control (Entries list) = entries_test acl 1 list.entries
 
 -- the control bits without a keyword: OD, GD, DD, SD, SS, DT and RM (2.4.6)
 abbrev pub bits_without_keyword : ℕ

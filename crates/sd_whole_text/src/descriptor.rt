@@ -12,7 +12,8 @@ use sd_whole::{WholeAcl, WholeDescriptor};
 use std::alloc::{AllocError, Global};
 
 /// The text of a descriptor in which rights have these names: owner, group, DACL, SACL ([MS-DTYP] 2.5.1.1). The error
-/// is the first part that has no text, in the order of the text, or else out of memory.
+/// is the first part that has no text, in the order of the text, or else out of memory. The text doesn't say a list's
+/// AclRevision: a parsed text has 4 where an object entry (0x05 to 0x08, 0x0b, 0x0c, 0x0f) is in the list, else 2.
 pub fn print_whole(
     alloc: Global,
     names: RightNames,

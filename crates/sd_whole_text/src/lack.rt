@@ -1,13 +1,12 @@
 //! The first part of a descriptor that has no text.
 
 ghost use Rattle.std.specs.Prelude.{◌≡◌};
-ghost use Rattle.sd_whole_text.specs.NoText.{acl_test, entries_test, entry_test, has_object, is_object};
-ghost use Rattle.sd_whole_text.specs.NoText.{keyword_bits, revision_test, whole_test};
+ghost use Rattle.sd_whole_text.specs.NoText.{acl_test, entries_test, entry_test, keyword_bits, whole_test};
 
 use crate::data::lacks_data_text;
 use crate::kind::letters_of;
 use crate::no_text::{AclKind, NoText};
-use sd_whole::{ListRevision, WholeAce, WholeAcl, WholeDescriptor, WholeList};
+use sd_whole::{WholeAce, WholeAcl, WholeDescriptor};
 use sd_wire::has_bits;
 
 /// The control bits without a keyword: OD, GD, DD, SD, SS, DT and RM ([MS-DTYP] 2.4.6).
@@ -35,10 +34,7 @@ fn test_acl(kind: AclKind, control: u16, acl: &WholeAcl) -> Result<(), NoText>
     match acl {
         WholeAcl::Absent if has_bits(control, keyword_bits(kind)) => Err(NoText::Keywords(kind)),
         WholeAcl::Absent | WholeAcl::Null => Ok(()),
-        WholeAcl::List(list) => {
-            test_entries(kind, list.entries())?;
-            test_revision(kind, list)
-        }
+        WholeAcl::List(list) => test_entries(kind, list.entries()),
     }
 }
 
@@ -72,43 +68,5 @@ fn test_entry(kind: AclKind, place: usize, entry: &WholeAce) -> Result<(), NoTex
         WholeAce::Typed(ace) if lacks_data_text(ace) => Err(NoText::Data(kind, place)),
         WholeAce::Typed(_) => Ok(()),
         WholeAce::Opaque(_) => Err(NoText::Opaque(kind, place)),
-    }
-}
-
-/// The list's revision is the one that its entries imply ([MS-DTYP] 2.4.5).
-fn test_revision(kind: AclKind, list: &WholeList) -> Result<(), NoText>
-    ensures { result ≡ revision_test kind list.now }
-{
-    let implied = if has_object(list.entries()) {
-        ListRevision::DirectoryService
-    } else {
-        ListRevision::Standard
-    };
-    if list.revision().number() == implied.number() {
-        Ok(())
-    } else {
-        Err(NoText::Revision(kind))
-    }
-}
-
-/// Whether one of the entries has object types.
-fn has_object(entries: &[WholeAce]) -> bool
-    ensures { result ≡ has_object entries.now }
-{
-    for entry in entries {
-        if is_object(entry) {
-            return true;
-        }
-    }
-    false
-}
-
-/// Whether the entry has object types.
-fn is_object(entry: &WholeAce) -> bool
-    ensures { result ≡ is_object entry.now }
-{
-    match entry {
-        WholeAce::Typed(ace) => ace.kind.has_object_types(),
-        WholeAce::Plain(_) | WholeAce::Opaque(_) => false,
     }
 }

@@ -1,8 +1,8 @@
 //! Whole security descriptors as text, with every list and entry that has one: [MS-DTYP] 2.5.1.1 (SDDL).
 //!
 //! Prints owner, group, DACL and SACL, with audits, object entries, labels, policies and trust labels. What no text can
-//! say is an error with its place: control bits without a keyword, a list's revision that doesn't follow from its
-//! entries, entries without letters. Conditions and claims aren't printed. `sd_text` prints plain descriptors, whose
+//! say is an error with its place: control bits without a keyword, entries without letters. AclRevision isn't said:
+//! it decides nothing of access. Conditions and claims aren't printed. `sd_text` prints plain descriptors, whose
 //! text is the same here.
 //!
 //! ```text

@@ -34,8 +34,6 @@ pub enum NoText {
     Kind(AclKind, usize),
     /// An entry has application data or a claim, whose text isn't printed here.
     Data(AclKind, usize),
-    /// A list's revision isn't the one that its entries imply: 4 with an object entry, else 2.
-    Revision(AclKind),
 }
 
 impl NoText {
@@ -50,7 +48,6 @@ impl NoText {
             NoText::Opaque(..) => 4,
             NoText::Kind(..) => 5,
             NoText::Data(..) => 6,
-            NoText::Revision(_) => 7,
         }
     }
 
@@ -65,7 +62,6 @@ impl NoText {
             NoText::Opaque(..) => "Opaque",
             NoText::Kind(..) => "Kind",
             NoText::Data(..) => "Data",
-            NoText::Revision(_) => "Revision",
         }
     }
 }
