@@ -18,12 +18,16 @@ pub use Rattle.sd_text.specs.MaskNames.{is_due, named_from, with_rest, with_word
 pub use Rattle.sd_text.specs.Rights.{mask_text}
 pub use Rattle.sd_text.specs.declared.fault.TextError.{TextError}
 pub use Rattle.sd_text.specs.declared.fault.TextError.TheVariants.{Fault, Memory}
-pub use Rattle.std.proofs.Common.{Bool, Err, List, None, Ok, Option, Result, Some, [], add-one, ap, append-nil, append_assoc, arith, cond, drop, false, get_or, inl, inr, length, map, not, refl, rules, string_bytes, subst, suc, sym, true, ℕ, ◌&&◌, ◌++◌, ◌+◌, ◌<◌, ◌==◌, ◌^◌, ◌||◌, ◌∙◌, ◌∷◌, ◌≡◌}
+pub use Rattle.std.proofs.Common.{Bool, Err, List, None, Ok, Option, Result, Some, [], add-one, ap, append-nil, append_assoc, arith, cond, drop, false, get_or, inl, inr, length, map, not, refl, rules, string_bytes, subst, suc, sym, take, tests, true, ℕ, ◌&&◌, ◌++◌, ◌+◌, ◌<◌, ◌==◌, ◌^◌, ◌||◌, ◌∙◌, ◌∷◌, ◌≡◌, ◌≤◌}
 pub use Rattle.std.proofs.Math.Seq.{drop-cons}
 pub use Rattle.std.proofs.lemmas.Bool.{and_parts, eqb-true, ltb-true, ne_eqb}
+pub use Rattle.std.proofs.lemmas.Bool.Decides.{nat_tests}
 pub use Rattle.std.proofs.lemmas.Fmt.{digits_is_IsNumeral}
+pub use Rattle.std.proofs.lemmas.Iterator.{YieldsList-from_slice}
+pub use Rattle.std.proofs.lemmas.Iterator.Search.{position_from_yields_List}
+pub use Rattle.std.proofs.lemmas.List.{take_rest}
 pub use Rattle.std.proofs.lemmas.List.Splits.{join_with_byte-slice_split, length-slice_split, slice_split_first, slice_split_none}
-pub use Rattle.std.proofs.lemmas.List.Sums.{fails_before_first}
+pub use Rattle.std.proofs.lemmas.List.Sums.{fails_before_first, prefix_len-le-length}
 pub use Rattle.std.proofs.lemmas.Nat.{and_le_l, or_lt}
 pub use Rattle.std.proofs.lemmas.Nat.Bits.{bit_at_and, bit_at_or, same_from_bits}
 pub use Rattle.std.proofs.lemmas.Result.{err_from_is_err_and}

@@ -12,26 +12,26 @@ use crate::line::{Line, Part, Value};
 /// A value, its name, and the words that follow it.
 #[derive(Clone, Copy)]
 pub(crate) struct Field<'a> {
-    pub(crate) name: &'a str,
+    pub(crate) name: &'a [u8],
     pub(crate) value: &'a Value,
-    pub(crate) words: &'a str,
+    pub(crate) words: &'a [u8],
 }
 
 /// Fields of a part, in their order.
 #[derive(Clone, Copy)]
 pub(crate) struct Fields<'a> {
     /// The form from the next name on, if there is one.
-    pieces: Option<&'a str>,
+    pieces: Option<&'a [u8]>,
     values: &'a [Value],
 }
 
 impl<'a> Fields<'a> {
     /// The words before the first one, and the fields.
-    pub(crate) fn of(part: &'a Part) -> (&'a str, Fields<'a>)
+    pub(crate) fn of(part: &'a Part) -> (&'a [u8], Fields<'a>)
         ensures words { result.0.now ≡ first_words (pieces_of part.entry.now.form) }
         ensures fields { fields_in result.1 ≡ fields_of part.entry.now }
     {
-        let (words, pieces) = first_words(part.form());
+        let (words, pieces) = first_words(part.form().as_bytes());
         let values = part.values();
         (words, Fields { pieces, values })
     }
@@ -53,7 +53,7 @@ impl<'a> Fields<'a> {
         ensures { option_map (λ value. value.now) result ≡ named_among name.now (fields_in self.entry) }
     {
         let (field, fields) = self.first()?;
-        if field.name.as_bytes() == name {
+        if field.name == name {
             return Some(field.value);
         }
         fields.value(name)

@@ -61,7 +61,7 @@ impl Printer {
     }
 
     /// Adds a value by this name.
-    fn push_member(&self, out: &mut Vec<u8>, name: &str, value: &Value) -> Result<(), AllocError>
+    fn push_member(&self, out: &mut Vec<u8>, name: &[u8], value: &Value) -> Result<(), AllocError>
         ensures { OnOk result (out.new.items ≡ out.old.items ++ member self.now.spelling name.now value.now) }
     {
         match value {
@@ -79,7 +79,7 @@ impl Printer {
     fn push_text_value(
         &self,
         out: &mut Vec<u8>,
-        name: &str,
+        name: &[u8],
         value: &Value,
     ) -> Result<(), AllocError>
         ensures { OnOk result (out.new.items ≡ out.old.items
@@ -92,7 +92,7 @@ impl Printer {
 }
 
 /// Adds an array of strings by this name, where there are some.
-fn push_list(out: &mut Vec<u8>, name: &str, texts: &[String]) -> Result<(), AllocError>
+fn push_list(out: &mut Vec<u8>, name: &[u8], texts: &[String]) -> Result<(), AllocError>
     ensures { OnOk result (out.new.items ≡ out.old.items ++ list_member name.now (map string_bytes texts.now)) }
 {
     if texts.is_empty() {
@@ -121,10 +121,10 @@ fn push_strings(out: &mut Vec<u8>, texts: &[String]) -> Result<(), AllocError>
 }
 
 /// A comma, and the name of a member with its colon.
-fn push_name(out: &mut Vec<u8>, name: &str) -> Result<(), AllocError>
+fn push_name(out: &mut Vec<u8>, name: &[u8]) -> Result<(), AllocError>
     ensures { (value : List ℕ) → OnOk result (out.new.items ++ value ≡ out.old.items ++ then_named name.now value) }
 {
     out.extend_from_slice(b",\"")?;
-    out.extend_from_slice(name.as_bytes())?;
+    out.extend_from_slice(name)?;
     out.extend_from_slice(b"\":")
 }

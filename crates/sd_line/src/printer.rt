@@ -37,7 +37,7 @@ impl Printer {
         ensures { OnOk result (out.new.items ≡ out.old.items ++ part_text self.now.spelling part.now) }
     {
         let (words, fields) = Fields::of(part);
-        out.extend_from_slice(words.as_bytes())?;
+        out.extend_from_slice(words)?;
         self.push_fields(out, fields)
     }
 
@@ -61,7 +61,7 @@ impl Printer {
         ensures { OnOk result (out.new.items ≡ out.old.items ++ coloured_part self.now.spelling kind.now part.now) }
     {
         let (words, fields) = Fields::of(part);
-        push_coloured_words(out, kind.as_bytes(), words.as_bytes())?;
+        push_coloured_words(out, kind.as_bytes(), words)?;
         self.push_fields(out, fields)
     }
 
@@ -74,7 +74,7 @@ impl Printer {
             return Ok(());
         };
         self.push_value(out, field.value)?;
-        out.extend_from_slice(field.words.as_bytes())?;
+        out.extend_from_slice(field.words)?;
         self.push_fields(out, fields)
     }
 

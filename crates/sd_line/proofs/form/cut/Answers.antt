@@ -1,9 +1,0 @@
-use Rattle.sd_line.proofs.Cited.{rules, split_once_first}
-use Rattle.sd_line.proofs.Cuts.{none_cut, some_cut}
-use Rattle.sd_line.proofs.form.cut.Goals as goal
-
-pub returns-clause-cut : goal.returns-clause-cut
-returns-clause-cut c = some_cut 123 c.args.form.now c.split_once.result (split_once_first 123 c.args.form.now c.split_once.result c.split_once.ensures.cases (search rules))
-
-pub returns-clause-whole : goal.returns-clause-whole
-returns-clause-whole c = none_cut 123 c.args.form.now c.split_once.result (split_once_first 123 c.args.form.now c.split_once.result c.split_once.ensures.cases (search rules))
