@@ -12,11 +12,11 @@ use sd_condition::{Condition, Operator, Token};
 use std::alloc::{AllocError, Global};
 use std::collections::VecDeque;
 
-/// The text of a condition ([MS-DTYP] 2.5.1.1, cond-expr), in parentheses; `None` if no text is parsed as just its
-/// tokens. These have none: an integer that isn't of 64 bits, or whose sign and value disagree; a text or a name with
-/// a zero unit or an unpaired surrogate; a text with a quote; an empty name; a name without a prefix that has a unit
-/// but letters, digits and `:./_`, that is a word as `Exists`, or that stands on the right of a comparison. The only
-/// error is out of memory.
+/// The text of a condition ([MS-DTYP] 2.5.1.1, cond-expr), in parentheses and in one line; `None` if no such text is
+/// parsed as just its tokens. These have none: an integer that isn't of 64 bits, or whose sign and value disagree; a
+/// text or a name with a zero unit or an unpaired surrogate; a text with a quote or a control character; an empty name;
+/// a name without a prefix that has a unit but letters, digits and `:./_`, that is a word as `Exists`, or that stands
+/// on the right of a comparison. The only error is out of memory.
 #[tactic(auto, unfolding(crate::specs::Text::condition_text), using(crate::proofs::Parts::part_is_of_the_tree))]
 pub fn print_condition(alloc: Global, condition: &Condition) -> Result<Option<String>, AllocError>
     ensures { IfOk result (λ text. option_map string_bytes text ≡ condition_text condition.now) }

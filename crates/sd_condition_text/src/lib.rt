@@ -21,3 +21,4 @@ mod value;
 
 pub use condition::print_condition;
 pub use laws::{conditions_have_a_tree, trees_say_the_tokens};
+pub use value::has_unquotable;

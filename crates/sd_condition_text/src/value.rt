@@ -2,9 +2,10 @@
 
 ghost use Rattle.std.specs.Prelude.{◌≡◌, ◌++◌, Some, IfOk, OnOk, string_bytes};
 ghost use Rattle.std.specs.Fmt.{◌++?◌};
-ghost use Rattle.std.specs.List.{flat_map};
+ghost use Rattle.std.specs.List.{flat_map, list_any};
 ghost use Rattle.std.specs.Option.{option_map};
-ghost use Rattle.sd_condition_text.specs.Value.{further_values, integer_text, is_widest, list_text, number_text};
+ghost use Rattle.sd_condition_text.specs.Value.{further_values, integer_text, is_control, is_unquotable, is_widest};
+ghost use Rattle.sd_condition_text.specs.Value.{list_text, number_text};
 ghost use Rattle.sd_condition_text.specs.Value.{octet_text, octets_text, quoted_text, sid_text, sign_fits, sign_text};
 ghost use Rattle.sd_condition_text.specs.Value.{value_text, values_text};
 
@@ -93,7 +94,7 @@ fn push_number(out: &mut String, base: Base, number: u64) -> Result<(), AllocErr
 fn print_quoted(alloc: Global, units: &[u16]) -> Result<Option<String>, AllocError>
     ensures { IfOk result (λ text. option_map string_bytes text ≡ quoted_text units.now) }
 {
-    if !is_text(alloc, units)? || units.contains(&QUOTE) {
+    if !is_text(alloc, units)? || has_unquotable(units) {
         return Ok(None);
     }
     let decoded = String::from_utf16_lossy(alloc, units)?;
@@ -101,6 +102,28 @@ fn print_quoted(alloc: Global, units: &[u16]) -> Result<Option<String>, AllocErr
     text.push_str(decoded.as_str())?;
     text.push_str("\"")?;
     Ok(Some(text))
+}
+
+/// Whether one of the units can't stand in a printed text between quotes ([MS-DTYP] 2.5.1.1, string-value): it is a
+/// quote, or what doesn't stay in a line. Claims have such texts too.
+pub fn has_unquotable(units: &[u16]) -> bool
+    ensures { result ≡ list_any is_unquotable units.now }
+{
+    units.iter().any(|unit| is_unquotable(*unit))
+}
+
+/// Whether a text between quotes can't have the unit: a quote, or what doesn't stay in a line.
+fn is_unquotable(unit: u16) -> bool
+    ensures { result ≡ is_unquotable unit }
+{
+    unit == QUOTE || is_control(unit)
+}
+
+/// Whether the unit is a control character, or a separator of lines or of paragraphs.
+fn is_control(unit: u16) -> bool
+    ensures { result ≡ is_control unit }
+{
+    matches!(unit, 0..=0x1f | 0x7f..=0x9f | 0x2028..=0x2029)
 }
 
 /// Octets, in hexadecimal digits.
