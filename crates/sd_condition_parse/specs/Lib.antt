@@ -1,0 +1,9 @@
+pub mod Outcome
+pub mod Run
+pub mod Integer
+pub mod Attribute
+pub mod Value
+pub mod Operator
+pub mod Term
+pub mod Condition
+pub mod Laws
