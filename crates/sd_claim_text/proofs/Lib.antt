@@ -1,0 +1,5 @@
+pub mod Digits
+pub mod Loops
+pub mod Lengths
+pub mod Utf8
+pub mod PrintedNames

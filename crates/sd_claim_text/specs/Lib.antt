@@ -1,0 +1,10 @@
+pub mod Parser
+pub mod Outcome
+pub mod Number
+pub mod Utf16
+pub mod ValueType
+pub mod Name
+pub mod Value
+pub mod Text
+pub mod Found
+pub mod Laws
