@@ -1,5 +1,5 @@
 -- A plain descriptor has the same text as a whole one.
-use Rattle.sd_whole_text.proofs.Cited.{Absent, Ace, AceKind, AllByRecursion, Bool, Dacl, DaclKind, HasNamedFlags, HaveNamedFlags, IsTrue, List, Null, Ok, Plain, PlainTextsStay, RightNames, SaclKind, [], acl_test, acl_text, all_named, and_assoc, and_zero_r, ap, append-nil, bit_and, bits_without_keyword, codes, cond, control_of, dacl_canon, entries_test, entry_text, false, flat_map, is_absent, is_set, keyword_bits, kind_canon, kind_of_plain, letters_of, map, not, refl, rights_canon_in, rights_text, sid_canon, true, where_set, whole_dacl, ℕ, ◌&&◌, ◌++◌, ◌+◌, ◌∙◌, ◌∷◌, ◌≡◌}
+use Rattle.sd_whole_text.proofs.Cited.{Absent, Ace, AceKind, AllByRecursion, Bool, Dacl, DaclKind, HasNamedFlags, HaveNamedFlags, IsTrue, List, Null, Ok, Plain, PlainTextsStay, RightNames, SaclKind, [], acl_test, acl_text, all_named, and_assoc, and_zero_r, ap, append-nil, bit_and, bits_without_keyword, codes, cond, control_of, dacl_canon, entries_test, entry_text, false, flat_map, is_absent, is_set, keyword_bits, keywords_test, kind_canon, kind_of_plain, letters_of, map, not, refl, rights_canon_in, rights_text, sid_canon, true, where_set, whole_dacl, ℕ, ◌&&◌, ◌++◌, ◌+◌, ◌∙◌, ◌∷◌, ◌≡◌}
 use Rattle.sd_acl.specs.declared.descriptor.DaclOf.TheVariants.{List as Entries}
 use Rattle.sd_acl.specs.declared.ace.AceKind.TheVariants as plain
 use Rattle.sd_text.specs.Canon.{canon_in, entry_canon_in, flags_canon, words_canon}
@@ -31,9 +31,15 @@ three_ends : (before : List ℕ) → before ++ codes ";" ++ codes ";;" ≡ befor
 three_ends [] = refl
 three_ends (c ∷ before) = rw (three_ends before) refl
 
+flags_stay : (kind : AceKind) (flags : ℕ) → bit_and flags 0x20 ≡ 0 → flags_text (kind_of_plain kind) flags ≡ flags_canon flags
+unfolding flags_text
+flags_stay plain.Allow flags none = rw (none, append-nil) refl
+flags_stay plain.Deny flags none = rw (none, append-nil) refl
+
 entry_stays : (names : RightNames) (e : Ace) → HasNamedFlags e → entry_text names (Plain e) ≡ entry_canon_in names e
-unfolding head_text flags_text entry_canon_in
-entry_stays names e named = rw (not_critical e.flags.0 named, append-nil, kind_stays e.kind, rights_stay names e.kind e.mask)
+unfolding head_text entry_canon_in
+entry_stays names e named =
+    rw (flags_stay e.kind e.flags.0 (not_critical e.flags.0 named), kind_stays e.kind, rights_stay names e.kind e.mask)
     (ap (λ fields. fields ++ sid_canon e.sid ++ codes ")")
     (three_ends (codes "(" ++ kind_canon e.kind ++ codes ";" ++ flags_canon e.flags.0 ++ codes ";" ++ rights_canon_in names e.mask)))
 
@@ -89,10 +95,15 @@ acl_stays names control words Absent named e = refl
 acl_stays names control words Null named e = rw e refl
 acl_stays names control words (Entries es) named e = rw (e, entries_stay names es named) refl
 
-acl_passes : (control : ℕ) (dacl : Dacl) → (IsTrue (is_absent dacl) → is_set (keyword_bits DaclKind) control ≡ false) → acl_test DaclKind control (whole_dacl dacl) ≡ Ok tt
-acl_passes control Absent none = rw (none refl) refl
-acl_passes control Null none = refl
-acl_passes control (Entries es) none = entries_pass 1 es
+acl_passes : (dacl : Dacl) → acl_test DaclKind (whole_dacl dacl) ≡ Ok tt
+acl_passes Absent = refl
+acl_passes Null = refl
+acl_passes (Entries es) = entries_pass 1 es
+
+keywords_pass : (control : ℕ) (dacl : Dacl) → (IsTrue (is_absent dacl) → is_set (keyword_bits DaclKind) control ≡ false) → keywords_test DaclKind control (whole_dacl dacl) ≡ Ok tt
+keywords_pass control Absent none = rw (none refl) refl
+keywords_pass control Null none = refl
+keywords_pass control (Entries es) none = refl
 
 -- ---- descriptors
 
@@ -100,6 +111,6 @@ pub plain_texts_stay : PlainTextsStay
 unfolding sections_text canon_in words_canon whole_test bits_for
 plain_texts_stay names d is named =
     let bits = bits_pass d.protected d.auto_req d.auto_inherited in
-    let dacl = acl_passes (control_of d) d.dacl (λ absent. none_set d.protected d.auto_req d.auto_inherited (is.without_a_dacl absent)) in
+    let keywords = keywords_pass (control_of d) d.dacl (λ absent. none_set d.protected d.auto_req d.auto_inherited (is.without_a_dacl absent)) in
     let text = acl_stays names (control_of d) (words_canon d) d.dacl named (keywords_stay d.protected d.auto_req d.auto_inherited) in
-    rw (bits.0, bits.1, dacl, text, append-nil) refl
+    rw (bits.0, keywords, bits.1, acl_passes d.dacl, text, append-nil) refl

@@ -1,4 +1,5 @@
 pub mod Kind
+pub mod Level
 pub mod Guid
 pub mod Flags
 pub mod Rights

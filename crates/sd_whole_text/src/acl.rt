@@ -1,15 +1,18 @@
 //! SACLs and DACLs as text: [MS-DTYP] 2.5.1.1, dacl and sacl.
 
 ghost use Rattle.std.specs.Prelude.{◌≡◌, ◌++◌, OnOk, string_bytes};
+ghost use Rattle.std.specs.List.{flat_map};
 ghost use Rattle.sd_whole_text.specs.Acl.{acl_text, auto_inherited_bit, auto_req_bit, head_of, keywords_text};
 ghost use Rattle.sd_whole_text.specs.Acl.{protected_bit};
+ghost use Rattle.sd_whole_text.specs.Entry.{entry_text};
+ghost use Rattle.sd_whole_text.specs.NoText.{acl_test, entries_test, Gives};
 
 use crate::entry::push_entry;
-use crate::no_text::AclKind;
+use crate::no_text::{AclKind, WholeTextError};
 use sd_text::{RightNames, write_where};
-use sd_whole::WholeAcl;
+use sd_whole::{WholeAce, WholeAcl};
 use sd_wire::has_bits;
-use std::alloc::AllocError;
+use std::alloc::{AllocError, Global};
 
 impl AclKind {
     /// The head of its section.
@@ -55,37 +58,54 @@ impl AclKind {
 
 /// Appends the section of a SACL or a DACL, if it is there.
 pub(crate) fn push_acl(
+    alloc: Global,
     out: &mut String,
     names: RightNames,
     kind: AclKind,
     control: u16,
     acl: &WholeAcl,
-) -> Result<(), AllocError>
-    ensures { OnOk result (string_bytes out.new ≡ string_bytes out.old ++ acl_text names kind control acl.now) }
+) -> Result<(), WholeTextError>
+    ensures test { Gives (λ _. tt) result (acl_test kind acl.now) }
+    ensures text { OnOk result (string_bytes out.new ≡ string_bytes out.old ++ acl_text names kind control acl.now) }
 {
     match acl {
-        WholeAcl::Absent => Ok(()),
+        WholeAcl::Absent => {}
         WholeAcl::Null => {
-            out.push_str(kind.head())?;
-            push_keywords(out, kind, control)?;
-            out.push_str("NO_ACCESS_CONTROL")
+            push_head(out, kind, control)?;
+            out.push_str("NO_ACCESS_CONTROL")?;
         }
         WholeAcl::List(list) => {
-            out.push_str(kind.head())?;
-            push_keywords(out, kind, control)?;
-            for entry in list.entries() {
-                push_entry(out, names, entry)?;
-            }
-            Ok(())
+            push_head(out, kind, control)?;
+            push_entries(alloc, out, names, kind, list.entries())?;
         }
     }
+    Ok(())
 }
 
-/// Appends the keywords of a section.
-#[tactic(auto, unfolding(crate::specs::Acl::keywords_text))]
-fn push_keywords(out: &mut String, kind: AclKind, control: u16) -> Result<(), AllocError>
-    ensures { OnOk result (string_bytes out.new ≡ string_bytes out.old ++ keywords_text kind control) }
+/// Appends the entries of a list.
+fn push_entries(
+    alloc: Global,
+    out: &mut String,
+    names: RightNames,
+    kind: AclKind,
+    entries: &[WholeAce],
+) -> Result<(), WholeTextError>
+    ensures test { Gives (λ _. tt) result (entries_test kind 1 entries.now) }
+    ensures text { OnOk result (string_bytes out.new
+        ≡ string_bytes out.old ++ flat_map (entry_text names) entries.now) }
 {
+    for (i, entry) in entries.iter().enumerate() {
+        push_entry(alloc, out, names, kind, i + 1, entry)?;
+    }
+    Ok(())
+}
+
+/// Appends the head of a section, and its keywords.
+#[tactic(auto, unfolding(crate::specs::Acl::keywords_text))]
+fn push_head(out: &mut String, kind: AclKind, control: u16) -> Result<(), AllocError>
+    ensures { OnOk result (string_bytes out.new ≡ string_bytes out.old ++ head_of kind ++ keywords_text kind control) }
+{
+    out.push_str(kind.head())?;
     write_where(out, has_bits(control, kind.protected_bit()), "P")?;
     write_where(out, has_bits(control, kind.auto_req_bit()), "AR")?;
     write_where(out, has_bits(control, kind.auto_inherited_bit()), "AI")

@@ -18,8 +18,8 @@ pub enum AclKind {
     Sacl,
 }
 
-/// The first part of a descriptor that has no text, in the order of the text ([MS-DTYP] 2.5.1.1): its text would be
-/// parsed as another descriptor. Entries are counted from 1.
+/// The first part of a descriptor that has no text, of its header, then of its entries in the order of the text
+/// ([MS-DTYP] 2.5.1.1): its text would be parsed as another descriptor. Entries are counted from 1.
 #[derive(Clone, Copy, Debug, PartialEq, Eq)]
 pub enum NoText {
     /// The resource manager's byte isn't 0.
@@ -32,7 +32,8 @@ pub enum NoText {
     Opaque(AclKind, usize),
     /// An entry's type has no letters.
     Kind(AclKind, usize),
-    /// An entry has application data or a claim, whose text isn't printed here.
+    /// The bytes after an entry's SID have no text: its type has no field for them, or they aren't the one written form
+    /// of the condition or the claim that it has, or these have no text.
     Data(AclKind, usize),
 }
 

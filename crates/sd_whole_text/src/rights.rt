@@ -11,7 +11,8 @@ use std::alloc::AllocError;
 /// The mask of all three rights of a label.
 const LABEL_BITS: u32 = 7;
 
-/// Appends the mask of an entry of this kind: a label's by the names of labels.
+/// Appends the mask of an entry of this kind: a label's by the names of labels, and nothing of one that has to be 0 and
+/// is ([MS-DTYP] 2.4.4.15, 2.4.4.16).
 pub(crate) fn push_rights(
     out: &mut String,
     names: RightNames,
@@ -22,6 +23,7 @@ pub(crate) fn push_rights(
 {
     match kind {
         WholeKind::MandatoryLabel => push_label(out, mask),
+        WholeKind::ResourceAttribute | WholeKind::ScopedPolicy if mask.bits() == 0 => Ok(()),
         _ => write_rights(out, names, mask),
     }
 }
