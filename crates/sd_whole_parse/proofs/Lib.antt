@@ -1,0 +1,7 @@
+pub mod Opening
+pub mod Control
+pub mod Padding
+pub mod GuidTexts
+pub mod Loop
+pub mod PlainEntries
+pub mod PlainTexts

@@ -1,0 +1,10 @@
+pub mod Finding
+pub mod Spaces
+pub mod Kind
+pub mod Guid
+pub mod Fields
+pub mod Data
+pub mod Entry
+pub mod Acl
+pub mod Descriptor
+pub mod Laws
