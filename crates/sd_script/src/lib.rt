@@ -19,6 +19,7 @@
 
 mod answer;
 mod argument;
+mod boxed;
 mod command;
 mod deletion;
 mod dump;
@@ -47,6 +48,7 @@ mod view;
 mod who;
 
 pub use argument::number_in;
+pub use boxed::{BoxedRequest, BoxedToken};
 pub use expect::{LastAnswer, expects};
 pub use fault::{LineFault, LineStop, line_of_fault};
 pub use ids::LINES;

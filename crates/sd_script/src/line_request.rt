@@ -1,5 +1,5 @@
 //! What a line asks for, and how a command's arguments are parsed.
-ghost use Rattle.std.specs.Prelude.{◌≡◌, ◌∷◌, [], Some, Ok};
+ghost use Rattle.std.specs.Prelude.{◌≡◌, ◌∷◌, [], Some, Ok, IfOk};
 ghost use Rattle.sd_script.specs.Command.{Parses, adds, asks, asks_groups, asks_of, asks_taking, deletes};
 ghost use Rattle.sd_script.specs.Command.{kind_named, posed, poses};
 ghost use Rattle.sd_script.specs.declared.line_request.LineRequest.TheVariants.{Asking, Viewing};
@@ -7,6 +7,7 @@ ghost use Rattle.sd_edit.specs.declared.request.Request.TheVariants as requests;
 ghost use Rattle.sd_answer.specs.Word.{texts};
 
 use crate::argument::{Parser, number_in};
+use crate::boxed::{BoxedRequest, BoxedToken};
 use crate::command::{CommandWithArguments, ScriptCommand};
 use crate::fault::LineStop;
 use crate::listing::NodeFilter;
@@ -16,9 +17,9 @@ use sd_check::Token;
 use sd_sid::Mask;
 use sd_tree::{Edit, Entries, NodeKind, Path, RootSpec};
 use sd_versions::Request;
+use std::alloc::{AllocError, Global};
 
 /// What a line asks for.
-// (A token makes it large: more than one caller of a function here, or a match on two values at once, moves it more.)
 #[derive(Debug, Drop)]
 pub enum LineRequest {
     /// A store for so many readers, with this root.
@@ -27,7 +28,7 @@ pub enum LineRequest {
         root: RootSpec,
     },
     /// Something of the store that is open.
-    Asking(Request),
+    Asking(BoxedRequest),
     /// Of the store that is open, what a reader asks about the node of a path.
     AskingNode {
         reader: u64,
@@ -128,7 +129,7 @@ impl Parser {
         let reader = number_in(reader)?;
         let path = self.path(path)?;
         let user = self.sid(user)?;
-        let token = self.token(user, words)?;
+        let token = BoxedToken::new(self.alloc, self.token(user, words)?)?;
         Ok(Some(LineRequest::AskingNode {
             reader,
             path,
@@ -156,8 +157,8 @@ impl Parser {
         ensures { Parses self.notation (asks_taking name []) result }
     {
         match name {
-            ScriptCommand::Publish => Ok(Some(LineRequest::Asking(Request::Publish))),
-            ScriptCommand::Tell => Ok(Some(LineRequest::Asking(Request::Tell))),
+            ScriptCommand::Publish => Ok(Some(self.asking(Request::Publish)?)),
+            ScriptCommand::Tell => Ok(Some(self.asking(Request::Tell)?)),
             ScriptCommand::Dump => view(ViewRequest::Dump),
             ScriptCommand::ListNodes => self.on_one(name, "/"),
             ScriptCommand::Review => self.on_one(name, "/"),
@@ -170,12 +171,12 @@ impl Parser {
         ensures { Parses self.notation (asks_taking name (path.now ∷ [])) result }
     {
         match name {
-            ScriptCommand::Remove => edit(Edit::Remove {
+            ScriptCommand::Remove => Ok(Some(self.edit(Edit::Remove {
                 path: self.path(path)?,
-            }),
-            ScriptCommand::Protect => edit(Edit::ProtectKeeping {
+            })?)),
+            ScriptCommand::Protect => Ok(Some(self.edit(Edit::ProtectKeeping {
                 path: self.path(path)?,
-            }),
+            })?)),
             ScriptCommand::ListNodes => view(ViewRequest::List {
                 path: self.path(path)?,
             }),
@@ -197,27 +198,27 @@ impl Parser {
             })),
             ScriptCommand::AddContainer => self.added(NodeKind::Container, first, second),
             ScriptCommand::AddObject => self.added(NodeKind::Object, first, second),
-            ScriptCommand::SetOwner => edit(Edit::SetOwner {
+            ScriptCommand::SetOwner => Ok(Some(self.edit(Edit::SetOwner {
                 path: self.path(first)?,
                 owner: self.sid(second)?,
-            }),
-            ScriptCommand::SetGroup => edit(Edit::SetGroup {
+            })?)),
+            ScriptCommand::SetGroup => Ok(Some(self.edit(Edit::SetGroup {
                 path: self.path(first)?,
                 group: self.sid(second)?,
-            }),
-            ScriptCommand::SetDacl => edit(Edit::SetDacl {
+            })?)),
+            ScriptCommand::SetDacl => Ok(Some(self.edit(Edit::SetDacl {
                 path: self.path(first)?,
                 dacl: self.dacl(second)?,
-            }),
+            })?)),
             ScriptCommand::Move => self.moving(first, second),
-            ScriptCommand::Learn => Ok(Some(LineRequest::Asking(Request::Learn {
+            ScriptCommand::Learn => Ok(Some(self.asking(Request::Learn {
                 reader: number_in(first)?,
                 length: number_in(second)?,
-            }))),
-            ScriptCommand::Show => Ok(Some(LineRequest::Asking(Request::Show {
+            })?)),
+            ScriptCommand::Show => Ok(Some(self.asking(Request::Show {
                 reader: number_in(first)?,
                 path: self.path(second)?,
-            }))),
+            })?)),
             _ => Ok(None),
         }
     }
@@ -228,7 +229,7 @@ impl Parser {
     {
         let path = self.path(path)?;
         let node = self.node(sddl)?;
-        edit(Edit::addition(kind, path, node))
+        Ok(Some(self.edit(Edit::addition(kind, path, node))?))
     }
 
     /// What a command with a kind, a path and a descriptor asks for.
@@ -284,14 +285,22 @@ impl Parser {
         let user = self.sid(user)?;
         let asked = self.mask(mask)?;
         let token = self.token(user, words)?;
-        Ok(Some(question.about(reader, path, token, asked)))
+        Ok(Some(question.about(self.alloc, reader, path, token, asked)?))
     }
-}
 
-fn edit(edit: Edit) -> Parsed
-    ensures { result ≡ Ok (Some (Asking (requests.Edit edit))) }
-{
-    Ok(Some(LineRequest::Asking(Request::Edit(edit))))
+    /// Something of the store that is open. The only error is out of memory.
+    fn asking(self, request: Request) -> Result<LineRequest, AllocError>
+        ensures { IfOk result (λ asks. asks ≡ Asking request) }
+    {
+        Ok(LineRequest::Asking(BoxedRequest::new(self.alloc, request)?))
+    }
+
+    /// An edit of the store that is open. The only error is out of memory.
+    fn edit(self, edit: Edit) -> Result<LineRequest, AllocError>
+        ensures { IfOk result (λ asks. asks ≡ Asking (requests.Edit edit)) }
+    {
+        self.asking(Request::Edit(edit))
+    }
 }
 
 fn view(view: ViewRequest) -> Parsed
@@ -312,27 +321,41 @@ fn kind_named(word: &str) -> Option<NodeKind>
 }
 
 impl TokenQuestion {
-    fn about(self, reader: u64, path: Path, token: Token, asked: Mask) -> LineRequest
-        ensures { result ≡ poses self reader path token asked }
+    /// What is asked of a reader about the node of a path. The only error is out of memory.
+    fn about(
+        self,
+        alloc: Global,
+        reader: u64,
+        path: Path,
+        token: Token,
+        asked: Mask,
+    ) -> Result<LineRequest, AllocError>
+        ensures { IfOk result (λ asks. asks ≡ poses self reader path token asked) }
     {
-        match self {
-            TokenQuestion::Check => LineRequest::Asking(Request::Check {
-                reader,
-                path,
-                token,
+        let question = match self {
+            TokenQuestion::Check => {
+                let request = Request::Check {
+                    reader,
+                    path,
+                    token,
+                    asked,
+                };
+                return Ok(LineRequest::Asking(BoxedRequest::new(alloc, request)?));
+            }
+            TokenQuestion::Why => NodeQuestion::Why {
+                token: BoxedToken::new(alloc, token)?,
+                asked,
+            },
+            TokenQuestion::Find => NodeQuestion::Find(NodeFilter::Granting {
+                token: BoxedToken::new(alloc, token)?,
                 asked,
             }),
-            TokenQuestion::Why => LineRequest::AskingNode {
-                reader,
-                path,
-                question: NodeQuestion::Why { token, asked },
-            },
-            TokenQuestion::Find => LineRequest::AskingNode {
-                reader,
-                path,
-                question: NodeQuestion::Find(NodeFilter::Granting { token, asked }),
-            },
-        }
+        };
+        Ok(LineRequest::AskingNode {
+            reader,
+            path,
+            question,
+        })
     }
 }
 

@@ -8,10 +8,11 @@ ghost use Rattle.sd_script.specs.Listing.{grants, is_split_below, kind_form, lac
 ghost use Rattle.sd_script.specs.Listing.{nodes_lines};
 
 use crate::answer::{Answer, Made};
+use crate::boxed::BoxedToken;
 use crate::paths::{PathSpelling, is_split, path_value, path_word};
 use crate::reply::alone;
 use sd_answer::{CONTAINER, OBJECT, fault_line};
-use sd_check::{Token, Verdict};
+use sd_check::Verdict;
 use sd_line::{Line, LineForm, Style, Tag, Value, push_printed};
 use sd_sid::Mask;
 use sd_tree::{CheckReply, NodeKind, NodeRef, Path, Shared, Tree};
@@ -23,7 +24,7 @@ pub enum NodeFilter {
     /// All nodes, each with its descriptor.
     All,
     /// The nodes that grant a token what is asked for ([MS-DTYP] 2.5.3.2), each by its path.
-    Granting { token: Token, asked: Mask },
+    Granting { token: BoxedToken, asked: Mask },
 }
 
 /// Nodes of a tree whose lines are made as they are printed: those at and below a path, as far as they have one.
@@ -97,11 +98,11 @@ impl Nodes {
                 let values = vec![in alloc; path, Value::descriptor(descriptor)]?;
                 alone(alloc, Line::new(alloc, kind_form(node.kind), values)?)
             }
-            NodeFilter::Granting { token, asked } if grants(tree.check(node.path, token, *asked)) =>
-                {
-                    let path = path_word(alloc, self.paths, node.path)?;
-                    alone(alloc, Line::text(alloc, path)?)
-                }
+            NodeFilter::Granting { token, asked }
+                if grants(tree.check(node.path, token.as_token(), *asked)) => {
+                let path = path_word(alloc, self.paths, node.path)?;
+                alone(alloc, Line::text(alloc, path)?)
+            }
             NodeFilter::Granting { .. } => Ok(Vec::new(alloc)),
         }
     }

@@ -11,6 +11,7 @@ ghost use Rattle.sd_script.specs.Reply.{node_why_lines, seen_lines};
 ghost use Rattle.sd_script.specs.declared.session.Session.TheVariants.{Opened};
 
 use crate::answer::Answer;
+use crate::boxed::BoxedToken;
 use crate::deletion::{DELETE, deletion_line, parent_grants};
 use crate::listing::{NodeFilter, Nodes};
 use crate::reply::{alone, plain_line, reply_line, seen_line};
@@ -28,11 +29,11 @@ use std::alloc::{AllocError, Global};
 #[derive(Debug, Drop)]
 pub enum NodeQuestion {
     /// Why a check is answered as it is ([MS-DTYP] 2.5.3.2).
-    Why { token: Token, asked: Mask },
+    Why { token: BoxedToken, asked: Mask },
     /// Which nodes at and below the path there are.
     Find(NodeFilter),
     /// Whether the token's user may delete the node ([MS-FSA] 2.1.5.1.2.1).
-    Delete { token: Token },
+    Delete { token: BoxedToken },
 }
 
 impl NodeQuestion {
@@ -75,7 +76,8 @@ impl NodeQuestion {
         let tree = desk.published();
         match self {
             NodeQuestion::Why { token, asked } => {
-                let lines = node_why_lines(alloc, tree.mapping(), &token, asked, descriptor)?;
+                let token = token.as_token();
+                let lines = node_why_lines(alloc, tree.mapping(), token, asked, descriptor)?;
                 Ok(Answer::of(alloc, seen_lines(alloc, tree.len(), lines)?))
             }
             NodeQuestion::Find(which) => {
@@ -90,8 +92,9 @@ impl NodeQuestion {
                 nodes.answer(alloc, no_node, alone(alloc, found)?)
             }
             NodeQuestion::Delete { token } => {
-                let by_parent = parent_grants(alloc, tree, &path, &token)?;
-                let what = deletion_line(alloc, tree.check(&path, &token, DELETE), by_parent)?;
+                let token = token.as_token();
+                let by_parent = parent_grants(alloc, tree, &path, token)?;
+                let what = deletion_line(alloc, tree.check(&path, token, DELETE), by_parent)?;
                 Answer::alone(alloc, seen_line(alloc, tree.len(), what)?)
             }
         }

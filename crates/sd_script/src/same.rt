@@ -3,7 +3,9 @@ ghost use Rattle.std.specs.Prelude.{◌≡◌, option_map};
 ghost use Rattle.std.specs.Bool.{Decides};
 ghost use Rattle.sd_edit.specs.Additions.{addition_of, root_of};
 ghost use Rattle.sd_tree.specs.Listing.{listed};
+ghost use Rattle.sd_edit.specs.declared.request.Request.TheVariants.{Publish};
 ghost use Rattle.sd_script.specs.Dump.{making, wanted};
+ghost use Rattle.sd_script.specs.declared.line_request.LineRequest.TheVariants.{Asking};
 
 use crate::line_request::LineRequest;
 use sd_tree::{Edit, NodeDacl, NodeKind, NodeRef, Path, RootSpec, same_entries};
@@ -15,7 +17,16 @@ pub(crate) fn is_wanted(asked: &LineRequest, readers: u64, node: &Option<NodeRef
 {
     match node {
         Some(node) => is_making(asked, readers, node),
-        None => matches!(asked, LineRequest::Asking(Request::Publish)),
+        None => is_publish(asked),
+    }
+}
+
+fn is_publish(asked: &LineRequest) -> bool
+    ensures { Decides result (asked.now ≡ Asking Publish) }
+{
+    match asked {
+        LineRequest::Asking(asked) => matches!(asked.as_request(), Request::Publish),
+        _ => false,
     }
 }
 
@@ -29,7 +40,10 @@ fn is_making(asked: &LineRequest, readers: u64, node: &NodeRef<'_>) -> bool
             readers: some,
             root,
         } => { is_root && *some == readers && is_root_of(root, node) }
-        LineRequest::Asking(Request::Edit(edit)) => !is_root && is_addition(edit, node),
+        LineRequest::Asking(asked) => match asked.as_request() {
+            Request::Edit(edit) => !is_root && is_addition(edit, node),
+            _ => false,
+        },
         _ => false,
     }
 }

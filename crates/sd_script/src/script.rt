@@ -133,7 +133,7 @@ fn done(
     match asked {
         LineRequest::Opening { .. } => unreachable!(),
         LineRequest::Asking(request) => {
-            let reply = desk.step(&request);
+            let reply = desk.step(request.as_request());
             Answer::alone(alloc, reply_line(alloc, reply)?)
         }
         LineRequest::AskingNode {

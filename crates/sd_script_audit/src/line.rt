@@ -14,8 +14,6 @@ use std::alloc::{AllocError, Global};
 
 /// What a line asks for, or else its answer: none if it is silent, and a fault if it expects an answer, which scripts
 /// alone do, or has one. Without an answer it is out of memory.
-// (inlined, since what a line asks for is large, and a call would move it once more)
-#[inline(always)]
 pub(crate) fn asked_or_told(
     alloc: Global,
     notation: Notation,

@@ -8,7 +8,8 @@ ghost use Rattle.sd_script.specs.Importing.{entries_at};
 ghost use Rattle.sd_script.specs.Moving.{IsMoved};
 ghost use Rattle.sd_script.specs.Output.{opens};
 ghost use Rattle.sd_script.specs.Printed.{style_in};
-ghost use Rattle.sd_script_audit.specs.Audit.{PrintsNextInAudit};
+ghost use Rattle.sd_script.specs.declared.line_request.LineRequest.TheVariants.{Asking};
+ghost use Rattle.sd_script_audit.specs.Audit.{IsDoneInAudit, PrintsNextInAudit};
 ghost use Rattle.sd_script_audit.specs.Parts.{IsDoneOrTold, audited, machine_of, progress};
 
 use crate::line::{asked_or_told, only_in_scripts};
@@ -70,8 +71,8 @@ impl<J: StoreId, T: Wait> AnswersLines for Queries<'_, J, T> {
 }
 
 impl<J: StoreId, T: Wait> Queries<'_, J, T> {
-    /// What is asked is done, and answered by this, or the line has an answer without that. A check is kept, and what
-    /// only a script does is a fault. After an import or a move the node is compared in the tree of all accepted edits.
+    /// What is asked is done, and answered by this, or the line has an answer without that. What only a script does is
+    /// a fault. After an import or a move the node is compared in the tree of all accepted edits.
     fn done(
         &self,
         alloc: Global,
@@ -86,24 +87,8 @@ impl<J: StoreId, T: Wait> Queries<'_, J, T> {
             (progress self.now.notation J.opening self.now.workers writer.new queries.new.items)) }
     {
         match found {
-            Ok(LineRequest::Asking(Request::Edit(edit))) => {
-                alone(alloc, reply_line(alloc, edit_reply(writer, &edit))?)
-            }
-            Ok(LineRequest::Asking(Request::Publish)) => {
-                alone(alloc, reply_line(alloc, publish_reply(self.rt, writer))?)
-            }
-            Ok(
-                LineRequest::Asking(
-                    Request::Check {
-                        reader: _,
-                        path,
-                        token,
-                        asked,
-                    },
-                ),
-            ) => {
-                queries.push(Query { path, token, asked })?;
-                Ok(Vec::new(alloc))
+            Ok(LineRequest::Asking(asked)) => {
+                self.asked_of_store(alloc, writer, queries, asked.into_request())
             }
             Ok(LineRequest::Importing { edit, path, given }) => {
                 let reply = edit_reply(writer, &edit);
@@ -119,6 +104,36 @@ impl<J: StoreId, T: Wait> Queries<'_, J, T> {
             Ok(LineRequest::Opening { .. }) => unreachable!(),
             Ok(_) => only_in_scripts(alloc),
             Err(told) => told.ok_or(AllocError),
+        }
+    }
+
+    /// What is asked of the store is done, and answered by this. A check is kept, and what only a script does is a
+    /// fault.
+    fn asked_of_store(
+        &self,
+        alloc: Global,
+        writer: &mut StoreWriter<J>,
+        queries: &mut Vec<Query>,
+        request: Request,
+    ) -> Result<Vec<Line>, AllocError>
+        ensures { IfOk result (λ answer. IsDoneInAudit self.now.workers
+            (progress self.now.notation J.opening self.now.workers writer.old queries.old.items)
+            (Asking request) answer.items
+            (progress self.now.notation J.opening self.now.workers writer.new queries.new.items)) }
+    {
+        match request {
+            Request::Edit(edit) => alone(alloc, reply_line(alloc, edit_reply(writer, &edit))?),
+            Request::Publish => alone(alloc, reply_line(alloc, publish_reply(self.rt, writer))?),
+            Request::Check {
+                reader: _,
+                path,
+                token,
+                asked,
+            } => {
+                queries.push(Query { path, token, asked })?;
+                Ok(Vec::new(alloc))
+            }
+            _ => only_in_scripts(alloc),
         }
     }
 }

@@ -18,4 +18,4 @@ returns-in_err-token c =
 
 pub returns : goal.returns
 unfolding deletes
-returns c = inl (_, c.in_ok-reader.ensures, inl (_, c.in_ok-path.ensures, inl (_, c.in_ok-user.ensures, inl (_, c.in_ok-token.ensures, refl))))
+returns c = inl (_, c.in_ok-reader.ensures, inl (_, c.in_ok-path.ensures, inl (_, c.in_ok-user.ensures, inl (_, c.in_ok-token.ensures, rw c.in_ok-token-2.ensures refl))))

@@ -25,4 +25,4 @@ returns-in_err-token c =
 pub returns : goal.returns
 unfolding posed
 returns c =
-    inl (_, c.in_ok-reader.ensures, inl (_, c.in_ok-path.ensures, inl (_, c.in_ok-user.ensures, inl (_, c.in_ok-asked.ensures, inl (_, c.in_ok-token.ensures, ap Ok c.about.ensures)))))
+    inl (_, c.in_ok-reader.ensures, inl (_, c.in_ok-path.ensures, inl (_, c.in_ok-user.ensures, inl (_, c.in_ok-asked.ensures, inl (_, c.in_ok-token.ensures, ap Ok c.in_ok-about.ensures)))))
