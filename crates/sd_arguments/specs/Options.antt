@@ -23,7 +23,8 @@ use Rattle.sd_usage.specs.Table.{option_named, place, takes_option}
 use Rattle.sd_usage.specs.declared.row.OptionName.{OptionName}
 use Rattle.sd_usage.specs.declared.row.OptionName.TheVariants.{Aliases, Base64, Below, Caret, Color, Concern, Domain}
 use Rattle.sd_usage.specs.declared.row.OptionName.TheVariants.{Edits, Json, Logon, Loose, Mapping, Names, Nodes, Object}
-use Rattle.sd_usage.specs.declared.row.OptionName.TheVariants.{Percent, RequireDacl, Risks, WithoutSacl}
+use Rattle.sd_usage.specs.declared.row.OptionName.TheVariants.{Percent, RequireDacl, Risks, Whole, WithoutBits}
+use Rattle.sd_usage.specs.declared.row.OptionName.TheVariants.{WithoutSacl}
 use Rattle.sd_usage.specs.declared.row.ProgramOption.{ProgramOption}
 use Rattle.sd_usage.specs.declared.row.TheConstants.{OPTION_COUNT}
 use Rattle.sd_commands.specs.Concern.{GivesConcern, GivesNoConcern, sids_of}
@@ -138,6 +139,8 @@ pub record AreSettings (options : OptionsValue) (settings : Settings) : Type 0 w
   pub kind : settings.kind ≡ kind_given (given options Mapping)
   pub logon : GivesLogon (given options Logon) settings.logon
   pub without_sacl : settings.without_sacl ≡ has options WithoutSacl
+  pub whole : settings.whole ≡ has options Whole
+  pub without_bits : settings.without_bits ≡ has options WithoutBits
   pub require_dacl : settings.require_dacl ≡ has options RequireDacl
   pub below : settings.below ≡ has options Below
   pub object : settings.object ≡ has options Object

@@ -123,6 +123,8 @@ impl<'a> Options<'a> {
             kind: kind_given(given),
             logon,
             without_sacl: self.has(OptionName::WithoutSacl),
+            whole: self.has(OptionName::Whole),
+            without_bits: self.has(OptionName::WithoutBits),
             require_dacl: self.has(OptionName::RequireDacl),
             below: self.has(OptionName::Below),
             object: self.has(OptionName::Object),

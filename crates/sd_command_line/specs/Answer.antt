@@ -14,7 +14,7 @@ use Rattle.sd_arguments.specs.declared.command_line.ScriptRun.TheVariants.{AtOnc
 use Rattle.sd_arguments.specs.declared.options.BadValue.{BadValue}
 use Rattle.sd_questions.specs.TextAnswer.{AnswersEach, AnswersOnce, IsBadValue}
 use Rattle.sd_questions.specs.TextAnswer.{PrintedAnswer, printed_as}
-use Rattle.sd_commands.specs.CommandAnswer.{AnswerValue}
+use Rattle.sd_commands.specs.Answer.{AnswerValue}
 use Rattle.sd_commands.specs.declared.command_answer.Outcome.TheVariants.{Done}
 use Rattle.sd_command_line.specs.Scripts.{IsToldOfScript, script_outcome}
 

@@ -2,7 +2,7 @@
 ghost use Rattle.std.specs.Prelude.{◌≡◌, ◌≢◌, ◌||◌, ℕ, List, [], Option, false, Err, IfErr, IfOk, string_bytes};
 ghost use Rattle.sd_lines.specs.Watched.{has_failed, inner_of};
 ghost use Rattle.sd_lines.specs.Streams.{ReadsPart, is_read_error, is_write_error};
-ghost use Rattle.sd_commands.specs.CommandAnswer.{answer_of, outcome_status};
+ghost use Rattle.sd_commands.specs.Answer.{answer_of, outcome_status};
 ghost use Rattle.sd_command_line.specs.Answer.{Answers};
 ghost use Rattle.sd_questions.specs.TextAnswer.{printed_as};
 ghost use Rattle.sd_commands.specs.declared.command_answer.Outcome.TheVariants.{Done};

@@ -3,7 +3,7 @@ ghost use Rattle.std.specs.Prelude.{◌≡◌, ◌≤◌, ◌⊎◌, ℕ, List, 
 ghost use Rattle.std.specs.Io.KnownBytes.{Keeps};
 ghost use Rattle.sd_lines.specs.Watched.{has_failed, inner_of};
 ghost use Rattle.sd_lines.specs.Streams.{AppendsBeginning};
-ghost use Rattle.sd_commands.specs.CommandAnswer.{outcome_status};
+ghost use Rattle.sd_commands.specs.Answer.{outcome_status};
 ghost use Rattle.sd_arguments.specs.CommandLine.{IsUnread, asks_input, command_line_of};
 ghost use Rattle.sd_arguments.specs.UsageError.{IsMessage};
 ghost use Rattle.sd_command_line.specs.Output.{AppendsAnswer, IsDue, LeavesOf, error_line};

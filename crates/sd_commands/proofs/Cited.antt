@@ -12,7 +12,7 @@ pub use Rattle.sd_check.specs.Check.{applies, applies_again, decides, first, in_
 pub use Rattle.sd_check.specs.Token.{TokenValue}
 pub use Rattle.sd_line.proofs.Cuts.{none_cut, some_cut}
 pub use Rattle.sd_commands.specs.Bytes.{BytesRead, is_between, is_blank_byte, joined, part_read, parts_read}
-pub use Rattle.sd_commands.specs.CommandAnswer.{answer_of}
+pub use Rattle.sd_commands.specs.Answer.{answer_of}
 pub use Rattle.sd_commands.specs.Diagnostic.{told_line}
 pub use Rattle.sd_commands.specs.Escaped.{escaped_chars}
 pub use Rattle.sd_commands.specs.Mapping.{AreMasks, between_commas}

@@ -1,7 +1,7 @@
 -- What a command about a descriptor answers, and whether it did what was asked for. The arguments are read from left to
 -- right, and the answer is the fault of the first that is invalid.
-use Rattle.std.specs.Prelude.{◌≡◌, ◌⊎◌, ℕ, Bool, ◌||◌, MatchBool, List, [], ◌∷◌, ◌++◌, Result, Ok, Err, codes}
-use Rattle.std.specs.Prelude.{Option, Some, None, string_bytes, drop, if◌then◌else◌, slice_get}
+use Rattle.std.specs.Prelude.{◌≡◌, ◌⊎◌, ℕ, Bool, ◌&&◌, ◌||◌, MatchBool, List, [], ◌∷◌, ◌++◌, codes, Some, None, drop}
+use Rattle.std.specs.Prelude.{slice_get}
 use Rattle.std.specs.Option.{option_map_or}
 use Rattle.std.specs.Borrow.{Bor}
 use Rattle.hex.specs.Hex.{encode_lower}
@@ -13,19 +13,14 @@ use Rattle.sd_text.specs.Fault.{StandsIn}
 use Rattle.sd_text.specs.Grammar.{Spells}
 use Rattle.sd_text.specs.Sid.{sid_text_in}
 use Rattle.sd_text.specs.declared.fault.TextError.{TextError}
-use Rattle.sd_text.specs.declared.fault.TextError.TheVariants.{Fault as FaultAt, Memory}
 use Rattle.sd_text.specs.declared.fault.TextFault.{TextFault}
-use Rattle.sd_wire.specs.Fault.{wire_fault_name, wire_fault_number}
-use Rattle.sd_wire.specs.Reading.{descriptor_read}
 use Rattle.sd_wire.specs.Writing.{wire_of}
-use Rattle.sd_wire.specs.declared.fault.WireFault.{WireFault}
 use Rattle.sd_check.specs.Check.{verdict, dacl_entries}
 use Rattle.sd_check.specs.Token.{TokenValue}
 use Rattle.sd_line.specs.Line.{LineOf, form, line_of, text_line}
-use Rattle.sd_line.specs.declared.line.Value.{Value}
 use Rattle.sd_line.specs.declared.line.Value.TheVariants as values
 use Rattle.sd_answer.specs.VerdictLines.{verdict_line, fault_line, sddl_fault_line}
-use Rattle.sd_answer.specs.declared.forms.TheConstants.{CLEAN, FAULT_NAMED, SAME}
+use Rattle.sd_answer.specs.declared.forms.TheConstants.{CLEAN, SAME}
 use Rattle.sd_analysis.specs.Compare.{AreGains}
 use Rattle.sd_analysis.specs.Descendants.{AreDescendantChanges}
 use Rattle.sd_analysis.specs.declared.descendants_compare.DescendantChange.{DescendantChange}
@@ -44,92 +39,27 @@ use Rattle.sd_answer.specs.Why.{why_lines}
 use Rattle.sd_answer.specs.Word.{AreGroups, IsFirstNoGroup, IsFirstNoWord, IsToken, texts}
 use Rattle.sd_commands.specs.Analysis.{AreAccesses, AreBelowLines, with_below}
 use Rattle.sd_commands.specs.Logon.{fits_logon, words_for}
-use Rattle.sd_commands.specs.Bytes.{BytesRead, bytes_read, form_name, has_sacl, without_sacl}
 use Rattle.sd_commands.specs.Object.{leaves_out, looked_at}
 use Rattle.sd_commands.specs.Required.{missing_dacl}
 use Rattle.sd_usage.specs.declared.row.TextCommand.{TextCommand}
 use Rattle.sd_usage.specs.declared.row.TextCommand.TheVariants as questions
-use Rattle.sd_commands.specs.Pointer.{pointed}
 use Rattle.sd_commands.specs.Risks.{risk_lines}
 use Rattle.sd_commands.specs.Sort.{move_notes, sorted_descriptor}
-use Rattle.sd_commands.specs.Diagnostic.{at_byte, fault_text, object_note, sacl_note, sddl_fault_text, told_line}
-use Rattle.sd_commands.specs.Diagnostic.{told_wire_fault, word_argument}
-use Rattle.sd_commands.specs.Diagnostic.{IsStateReason, IsWordReason}
-use Rattle.sd_commands.specs.declared.command_answer.Answer.{Answer}
+use Rattle.sd_commands.specs.Diagnostic.{object_note, sddl_fault_text, told_line, word_argument, IsStateReason}
+use Rattle.sd_commands.specs.Diagnostic.{IsWordReason}
 use Rattle.sd_usage.specs.declared.row.DescriptorCommand.{DescriptorCommand}
 use Rattle.sd_usage.specs.declared.row.DescriptorCommand.TheVariants as about
 use Rattle.sd_commands.specs.declared.command_answer.Outcome.{Outcome}
-use Rattle.sd_commands.specs.declared.command_answer.Outcome.TheVariants.{Done, Refused, Fault}
+use Rattle.sd_commands.specs.declared.command_answer.Outcome.TheVariants.{Done, Refused}
 use Rattle.sd_commands.specs.declared.descriptor.Given.{Given}
 use Rattle.sd_commands.specs.declared.descriptor.Given.TheVariants as givens
 use Rattle.sd_commands.specs.declared.settings.Settings.{Settings}
 use Rattle.sd_commands.specs.declared.verdict.Form.{Form}
 use Rattle.sd_commands.specs.declared.verdict.Form.TheVariants.{Short, Explained}
-
--- ---- lines
-
-abbrev pub verdict_outcome : Verdict → Outcome
-verdict_outcome (Granted mask) = Done
-verdict_outcome verdict = Refused
-
--- the line for bytes that hold no descriptor
-abbrev pub wire_fault_line : WireFault → LineOf
-wire_fault_line fault = line_of (form FAULT_NAMED) (values.Text (codes "wire")
-    ∷ values.Number (wire_fault_number fault) ∷ values.Text (wire_fault_name fault) ∷ [])
-
--- a value alone, in a line of no kind
-abbrev pub value_line : Value → LineOf
-value_line value = line_of ([], codes "{text}") (value ∷ [])
-
--- the status behind an answer: that of a fault is one of its own where this is asked for
-abbrev pub outcome_status : Bool → Outcome → ℕ
-outcome_status is_strict Done = 0
-outcome_status is_strict Refused = 1
-outcome_status is_strict Fault = if is_strict then 4 else 1
-
--- the worse of two: a fault, or else a refusal
-abbrev pub or_worse : Outcome → Outcome → Outcome
-or_worse Fault other = Fault
-or_worse Refused Fault = Fault
-or_worse Refused other = Refused
-or_worse Done other = other
-
--- ---- answers
-
--- the lines, what standard error says beside them, and the outcome
-pub record AnswerValue : Type 0 where
-  pub lines : List LineOf
-  pub told : List ℕ
-  pub outcome : Outcome
-
-abbrev pub answer_of : Answer → AnswerValue
-answer_of answer = record {
-  lines = answer.lines.items;
-  told = string_bytes answer.told;
-  outcome = answer.outcome;
-}
-
-abbrev pub IsAnswer : List LineOf → List ℕ → Outcome → AnswerValue → Type 0
-IsAnswer lines told outcome answer =
-    (answer.lines ≡ lines) × (answer.told ≡ told) × (answer.outcome ≡ outcome)
-
--- these are the lines, and what was asked for was done
-abbrev pub AreDone : List LineOf → AnswerValue → Type 0
-AreDone lines = IsAnswer lines [] Done
-
--- this is the one line, and what was asked for was done
-abbrev pub IsDone : LineOf → AnswerValue → Type 0
-IsDone line = AreDone (line ∷ [])
-
--- this line of a fault is the answer, and standard error says this of it
-abbrev pub IsFault : LineOf → List ℕ → AnswerValue → Type 0
-IsFault line told = IsAnswer (line ∷ []) told Fault
-
--- an argument's text has this fault first; out of memory is no answer
-abbrev pub IsFaultOf : Settings → List ℕ → List ℕ → List ℕ → TextError → AnswerValue → Type 0
-IsFaultOf settings what name text (FaultAt fault place) answer =
-    IsFault (fault_line what) (told_line name (fault_text settings.points text fault place)) answer
-IsFaultOf settings what name text Memory answer = ⊥
+use Rattle.sd_commands.specs.Answer.{value_line, AnswerValue, answer_of, IsAnswer, AreDone, IsDone, IsFault}
+use Rattle.sd_commands.specs.Answer.{IsFaultOf, Noting, IsMissingDacl, descriptor_line}
+use Rattle.sd_commands.specs.FromBinary.{AnswersFromBinary}
+use Rattle.sd_commands.specs.Whole.{AnswersWholeText, takes_whole}
 
 -- what is answered of the mask that a text is, or its first fault
 abbrev pub AnswersOfMask : Settings → List ℕ → (ℕ → AnswerValue → Type 0) → AnswerValue → Type 0
@@ -157,15 +87,6 @@ argument arguments place = option_map_or (λ text. text.now) (slice_get argument
 
 -- ---- a descriptor's text
 
--- the other answer, and where a SACL was left out, standard error says that first
-unfoldable pub IsNoted : List ℕ → Bool → AnswerValue → AnswerValue → Type 0
-IsNoted argument left_out inner answer = answer ≡ record inner { told = sacl_note argument left_out ++ inner.told }
-
--- what is answered otherwise, with that
-abbrev pub Noting : List ℕ → Bool → (AnswerValue → Type 0) → AnswerValue → Type 0
-Noting argument left_out Answers answer =
-    (inner : AnswerValue) × IsNoted argument left_out inner answer × Answers inner
-
 -- the other answer, and where OI or CI of entries were left out, standard error says that first
 unfoldable pub IsObjectNoted : Bool → AnswerValue → AnswerValue → Type 0
 IsObjectNoted left_out inner answer = answer ≡ record inner { told = object_note left_out ++ inner.told }
@@ -174,10 +95,6 @@ IsObjectNoted left_out inner answer = answer ≡ record inner { told = object_no
 abbrev pub NotingObject : Bool → (AnswerValue → Type 0) → AnswerValue → Type 0
 NotingObject left_out Answers answer =
     (inner : AnswerValue) × IsObjectNoted left_out inner answer × Answers inner
-
--- the descriptor lacks the list that is required
-abbrev pub IsMissingDacl : List ℕ → List ℕ → AnswerValue → Type 0
-IsMissingDacl argument missing answer = IsFault (fault_line (codes "nodacl")) (told_line argument missing) answer
 
 -- the argument of this name isn't taken: the answer is the first fault of its text, or that its descriptor lacks a list
 abbrev pub IsRefusedArgument : List ℕ → Settings → List ℕ → AnswerValue → Type 0
@@ -211,6 +128,10 @@ AnswersOfArgument argument settings written Answers answer =
     ⊎ IsRefusedArgument argument settings written answer
 
 -- ---- verdicts
+
+abbrev pub verdict_outcome : Verdict → Outcome
+verdict_outcome (Granted mask) = Done
+verdict_outcome verdict = Refused
 
 -- the verdict's line, or with it the reasons
 abbrev pub form_lines : Settings → Form → DescriptorValue → TokenValue → ℕ → List LineOf
@@ -272,43 +193,10 @@ AnswersUser settings form arguments d = AnswersOfSid (codes "USER") settings (ar
 
 -- ---- other forms
 
--- a descriptor
-abbrev pub descriptor_line : DescriptorValue → LineOf
-descriptor_line d = value_line (values.Descriptor d)
-
 -- a descriptor whose DACL is put in canonical order; standard error says what moved
 abbrev pub IsSorted : Settings → DescriptorValue → AnswerValue → Type 0
 IsSorted settings d = IsAnswer (descriptor_line (sorted_descriptor d) ∷ [])
     (move_notes settings.spelling d.dacl) Done
-
--- a descriptor, where it doesn't lack the list that is required
-abbrev pub AnswersFit : Option (List ℕ) → DescriptorValue → AnswerValue → Type 0
-AnswersFit None d answer = IsDone (descriptor_line d) answer
-AnswersFit (Some missing) d answer = IsMissingDacl (codes "BYTES") missing answer
-
--- the descriptor that bytes hold, or their fault
-abbrev pub AnswersRead : Settings → List ℕ → Result DescriptorValue WireFault → AnswerValue → Type 0
-AnswersRead settings bytes (Ok d) answer = AnswersFit (missing_dacl settings.require_dacl d.dacl) d answer
-AnswersRead settings bytes (Err fault) answer = IsFault (wire_fault_line fault)
-    (told_line (codes "BYTES") (told_wire_fault bytes fault)) answer
-
-abbrev pub AnswersHeld : Settings → List ℕ → AnswerValue → Type 0
-AnswersHeld settings bytes answer = AnswersRead settings bytes (descriptor_read bytes) answer
-
--- the descriptor that bytes hold, or their fault; `--without-sacl` leaves a SACL out
-abbrev pub AnswersBytes : Settings → List ℕ → AnswerValue → Type 0
-AnswersBytes settings bytes answer = MatchBool settings.without_sacl
-    (Noting (codes "BYTES") (has_sacl bytes) (AnswersHeld settings (without_sacl bytes)) answer)
-    (AnswersHeld settings bytes answer)
-
--- the descriptor that a text spells in bytes, or a fault: it spells none
-abbrev pub AnswersDecoded : Settings → List ℕ → BytesRead → AnswerValue → Type 0
-AnswersDecoded settings written (Ok bytes) answer = AnswersBytes settings bytes answer
-AnswersDecoded settings written (Err (what, place)) answer = IsFault (fault_line (form_name settings.bytes))
-    (told_line (codes "BYTES") (at_byte what place ++ pointed settings.points written place)) answer
-
-abbrev pub AnswersFromBinary : Settings → List ℕ → AnswerValue → Type 0
-AnswersFromBinary settings written = AnswersDecoded settings written (bytes_read settings.bytes written)
 
 -- ---- whom rights are granted to, and changes
 
@@ -408,10 +296,16 @@ abbrev pub descriptor_name : DescriptorCommand → List ℕ
 descriptor_name about.Compare = codes "OLD"
 descriptor_name question = codes "SDDL"
 
+-- what a command about a descriptor answers to its text and the arguments after it
+abbrev pub AnswersDescriptor : Settings → DescriptorCommand → List ℕ → List (Bor (List ℕ)) → AnswerValue → Type 0
+AnswersDescriptor settings question text arguments answer = MatchBool (settings.whole && takes_whole question)
+    (AnswersWholeText settings question text answer)
+    (AnswersOfArgument (descriptor_name question) settings text (AnswersOn settings question arguments) answer)
+
 -- what a command answers to a text and the arguments after it
 abbrev pub AnswersQuestion : Settings → TextCommand → List ℕ → List (Bor (List ℕ)) → AnswerValue → Type 0
 AnswersQuestion settings (questions.Descriptor question) text arguments =
-    AnswersOfArgument (descriptor_name question) settings text (AnswersOn settings question arguments)
+    AnswersDescriptor settings question text arguments
 AnswersQuestion settings questions.FromBinary text arguments = AnswersFromBinary settings text
 AnswersQuestion settings questions.Rights text arguments = AnswersRights settings text
 AnswersQuestion settings questions.Sid text arguments = AnswersSid settings text

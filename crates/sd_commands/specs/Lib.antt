@@ -1,9 +1,11 @@
 pub mod Analysis
+pub mod Answer
 pub mod CommandAnswer
 pub mod Bytes
 pub mod Concern
 pub mod Diagnostic
 pub mod Escaped
+pub mod FromBinary
 pub mod Kinds
 pub mod Logon
 pub mod Mapping
@@ -13,3 +15,4 @@ pub mod Required
 pub mod Risks
 pub mod Sort
 pub mod Value
+pub mod Whole

@@ -3,8 +3,9 @@ ghost use Rattle.std.specs.Prelude.{◌<◌, IfOk, length};
 ghost use Rattle.sd_acl.specs.Descriptor.{descriptor_of};
 ghost use Rattle.sd_answer.specs.Word.{IsFirstNoGroup, texts};
 ghost use Rattle.sd_commands.specs.Analysis.{AreBelowLines};
+ghost use Rattle.sd_commands.specs.Answer.{answer_of};
 ghost use Rattle.sd_commands.specs.CommandAnswer.{AnswersComparison, AnswersOfBase, AnswersOn, AreDescendantLines};
-ghost use Rattle.sd_commands.specs.CommandAnswer.{AreOwnChanges, IsGroupFault, PrintsComparison, PrintsWho, answer_of};
+ghost use Rattle.sd_commands.specs.CommandAnswer.{AreOwnChanges, IsGroupFault, PrintsComparison, PrintsWho};
 
 use crate::command_answer::{Answer, Answered, found};
 use crate::descriptor::{Given, note_left_out_sacl, note_object};

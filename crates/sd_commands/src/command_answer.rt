@@ -3,15 +3,17 @@ ghost use Rattle.std.specs.Prelude.{◌≡◌, ◌⊎◌, ◌≤◌, ◌<◌, �
 ghost use Rattle.sd_line.specs.Line.{form_of, line_of};
 ghost use Rattle.sd_answer.specs.VerdictLines.{fault_line, sddl_fault_line};
 ghost use Rattle.sd_acl.specs.Descriptor.{descriptor_of};
-ghost use Rattle.sd_commands.specs.CommandAnswer.{AnswersOfArgument, AnswersOn, AnswersQuestion, AreDone, IsAnswer};
-ghost use Rattle.sd_commands.specs.CommandAnswer.{IsDone, IsFault, IsFaultOf, IsFound, IsTokenFault, answer_of};
-ghost use Rattle.sd_commands.specs.CommandAnswer.{descriptor_name, or_worse, outcome_status, value_line};
+ghost use Rattle.sd_commands.specs.Answer.{AreDone, IsAnswer, IsDone, IsFault, IsFaultOf, answer_of, or_worse};
+ghost use Rattle.sd_commands.specs.Answer.{outcome_status, value_line};
+ghost use Rattle.sd_commands.specs.CommandAnswer.{AnswersDescriptor, AnswersOfArgument, AnswersOn, AnswersQuestion};
+ghost use Rattle.sd_commands.specs.CommandAnswer.{IsFound, IsTokenFault, descriptor_name};
 ghost use Rattle.sd_commands.specs.Diagnostic.{sddl_fault_text, told_line};
 
 use crate::descriptor::{Given, note_left_out_sacl};
 use crate::diagnostic::{fault_text, sddl_fault_text, told_line, word_argument};
 use crate::settings::{CommandContext, Settings};
 use crate::verdict::Form;
+use crate::whole::takes_whole;
 use sd_acl::Descriptor;
 use sd_answer::{fault_line, sddl_fault_line};
 use sd_line::{Line, LineForm, Value};
@@ -109,7 +111,7 @@ pub fn answer_question(
 {
     let command = CommandContext { alloc, settings };
     match question {
-        TextCommand::Descriptor(question) => command.answer(question, text, arguments),
+        TextCommand::Descriptor(question) => command.answer_descriptor(question, text, arguments),
         TextCommand::FromBinary => command.from_binary(text),
         TextCommand::Rights => command.rights(text),
         TextCommand::Sid => command.sid(text),
@@ -166,8 +168,25 @@ pub(crate) fn found(alloc: Global, lines: Vec<Line>, nothing: LineForm) -> Answe
 }
 
 impl CommandContext {
-    /// The answer to a question about the descriptor that the text is, or the first fault of this argument and of those
-    /// after it.
+    /// The answer to a question about the descriptor that the text is: under `--whole`, of one that is only printed or
+    /// written, with all that it says.
+    fn answer_descriptor(
+        self,
+        question: DescriptorCommand,
+        sddl: &str,
+        arguments: &[&str],
+    ) -> Answered
+        ensures { IfOk result (λ answer. AnswersDescriptor self.settings question sddl.now arguments.now
+            (answer_of answer)) }
+    {
+        if self.settings.whole && takes_whole(question) {
+            return self.answer_whole_text(question, sddl);
+        }
+        self.answer(question, sddl, arguments)
+    }
+
+    /// The answer to a question about the plain descriptor that the text is, or the first fault of this argument and of
+    /// those after it.
     fn answer(self, question: DescriptorCommand, sddl: &str, arguments: &[&str]) -> Answered
         ensures { IfOk result (λ answer. AnswersOfArgument (descriptor_name question) self.settings sddl.now
             (AnswersOn self.settings question arguments.now) (answer_of answer)) }

@@ -5,9 +5,9 @@ ghost use Rattle.hex.specs.Hex.{encode_lower};
 ghost use Rattle.sd_wire.specs.Writing.{wire_of};
 ghost use Rattle.sd_line.specs.Line.{text_line};
 ghost use Rattle.sd_commands.specs.Diagnostic.{told_line, told_wire_fault};
-ghost use Rattle.sd_commands.specs.CommandAnswer.{AnswersBytes, AnswersFromBinary, AnswersHeld, AnswersSid};
-ghost use Rattle.sd_commands.specs.CommandAnswer.{IsDone, IsFault, answer_of, descriptor_line, value_line};
-ghost use Rattle.sd_commands.specs.CommandAnswer.{wire_fault_line};
+ghost use Rattle.sd_commands.specs.Answer.{IsDone, IsFault, answer_of, descriptor_line, value_line, wire_fault_line};
+ghost use Rattle.sd_commands.specs.CommandAnswer.{AnswersSid};
+ghost use Rattle.sd_commands.specs.FromBinary.{AnswersBytes, AnswersFromBinary, AnswersHeld};
 
 use crate::bytes::{BytesError, leave_out_sacl, read_bytes};
 use crate::command_answer::{Answer, Answered, fault_told, value_line};
@@ -61,10 +61,14 @@ impl CommandContext {
         }
     }
 
-    /// The descriptor whose self-relative form the bytes are ([MS-DTYP] 2.4.6); `--without-sacl` leaves its SACL out.
+    /// The descriptor whose self-relative form the bytes are ([MS-DTYP] 2.4.6): `--whole` takes all that it has, and
+    /// `--without-sacl` leaves its SACL out.
     fn answer_bytes(self, mut bytes: Vec<u8>) -> Answered
         ensures { IfOk result (λ answer. AnswersBytes self.settings bytes.items (answer_of answer)) }
     {
+        if self.settings.whole {
+            return self.answer_whole(&bytes);
+        }
         if !self.settings.without_sacl {
             return self.answer_held(&bytes);
         }
@@ -99,7 +103,7 @@ impl CommandContext {
 }
 
 /// The answer to bytes that hold no descriptor.
-fn wire_fault(alloc: Global, bytes: &[u8], fault: WireFault) -> Answered
+pub(crate) fn wire_fault(alloc: Global, bytes: &[u8], fault: WireFault) -> Answered
     ensures { IfOk result
         (λ answer. IsFault (wire_fault_line fault) (told_line (codes "BYTES") (told_wire_fault bytes.now fault))
         (answer_of answer)) }

@@ -1,12 +1,13 @@
 //! The descriptor that an argument's text is, with a SACL that is left out where that is asked for.
 ghost use Rattle.std.specs.Prelude.{◌≡◌, IfOk, option_map};
 ghost use Rattle.sd_commands.specs.Required.{missing_dacl};
-ghost use Rattle.sd_commands.specs.CommandAnswer.{IsGiven, IsNoted, IsObjectNoted, answer_of};
+ghost use Rattle.sd_commands.specs.Answer.{IsNoted, answer_of};
+ghost use Rattle.sd_commands.specs.CommandAnswer.{IsGiven, IsObjectNoted};
 
 use crate::command_answer::{Answer, Answered};
 use crate::diagnostic::told_line;
 use crate::settings::{CommandContext, Settings};
-use sd_acl::Dacl;
+use sd_acl::DaclOf;
 use sd_answer::read_sddl_argument;
 use sd_text::{TextError, WithoutSacl};
 use std::alloc::{AllocError, Global};
@@ -45,18 +46,18 @@ impl CommandContext {
 
 /// What the DACL is in place of a list, where a list is required ([MS-DTYP] 2.5.3.2: without one everything is
 /// granted).
-pub(crate) fn missing_dacl(settings: Settings, dacl: &Dacl) -> Option<&'static str>
+pub(crate) fn missing_dacl<L>(settings: Settings, dacl: &DaclOf<L>) -> Option<&'static str>
     ensures { option_map (λ text. text.now) result ≡ missing_dacl settings.require_dacl dacl.now }
 {
     match dacl {
-        Dacl::Absent if settings.require_dacl => Some("no DACL"),
-        Dacl::Null if settings.require_dacl => Some("a null DACL"),
+        DaclOf::Absent if settings.require_dacl => Some("no DACL"),
+        DaclOf::Null if settings.require_dacl => Some("a null DACL"),
         _ => None,
     }
 }
 
 /// The answer, and before what else standard error says, that a SACL was left out of the argument, where one was.
-#[tactic(auto, unfolding(crate::specs::CommandAnswer::IsNoted))]
+#[tactic(auto, unfolding(crate::specs::Answer::IsNoted))]
 pub(crate) fn note_left_out_sacl(
     alloc: Global,
     name: &str,

@@ -34,6 +34,7 @@ mod settings;
 mod sort;
 mod value;
 mod verdict;
+mod whole;
 mod words;
 
 pub use command_answer::{Answer, Outcome, answer_question, fault};
@@ -44,3 +45,4 @@ pub use laws::{object_decides_alike, object_hands_nothing_on, sorted_is_canonica
 pub use logon::{Logon, fits_logon, logon_given};
 pub use mapping::{kind_given, mapping_given};
 pub use settings::{ByteForm, Settings};
+pub use whole::takes_whole;

@@ -1,7 +1,8 @@
 //! The answer to `lint`: what stands in a descriptor that its author may not have meant.
 ghost use Rattle.std.specs.Prelude.{IfOk};
 ghost use Rattle.sd_acl.specs.Descriptor.{descriptor_of};
-ghost use Rattle.sd_commands.specs.CommandAnswer.{AnswersFindings, AnswersOfBase, PrintsFindings, answer_of};
+ghost use Rattle.sd_commands.specs.Answer.{answer_of};
+ghost use Rattle.sd_commands.specs.CommandAnswer.{AnswersFindings, AnswersOfBase, PrintsFindings};
 
 use crate::command_answer::{Answered, found};
 use crate::descriptor::note_object;

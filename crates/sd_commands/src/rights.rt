@@ -1,6 +1,7 @@
 //! The answer to `rights`: a mask by the names of its rights.
 ghost use Rattle.std.specs.Prelude.{IfOk};
-ghost use Rattle.sd_commands.specs.CommandAnswer.{AnswersRights, answer_of};
+ghost use Rattle.sd_commands.specs.Answer.{answer_of};
+ghost use Rattle.sd_commands.specs.CommandAnswer.{AnswersRights};
 
 use crate::command_answer::{Answer, Answered};
 use crate::settings::CommandContext;

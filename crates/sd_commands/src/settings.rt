@@ -33,6 +33,10 @@ pub struct Settings {
     pub logon: Option<Logon>,
     /// Whether a SACL is left out.
     pub without_sacl: bool,
+    /// Whether descriptors may have a SACL and entries of every type, where a command only converts them.
+    pub whole: bool,
+    /// Whether what the header has that SDDL has no word for is left out.
+    pub without_bits: bool,
     /// Whether a descriptor without a list of entries is a fault.
     pub require_dacl: bool,
     /// Whether `who` also looks at what is made in a container.

@@ -2,7 +2,8 @@
 ghost use Rattle.std.specs.Prelude.{◌≡◌, ◌<◌, IfOk, length, string_bytes};
 ghost use Rattle.sd_acl.specs.Ace.{acl_size_of};
 ghost use Rattle.sd_acl.specs.Descriptor.{descriptor_of};
-ghost use Rattle.sd_commands.specs.CommandAnswer.{IsSorted, answer_of};
+ghost use Rattle.sd_commands.specs.Answer.{answer_of};
+ghost use Rattle.sd_commands.specs.CommandAnswer.{IsSorted};
 ghost use Rattle.sd_commands.specs.Sort.{move_notes, note_of, notes_below, sorted, sorted_dacl};
 
 use crate::command_answer::{Answer, Answered, Outcome, value_line};

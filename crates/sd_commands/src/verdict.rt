@@ -2,8 +2,9 @@
 ghost use Rattle.std.specs.Prelude.{◌≡◌, ◌<◌, IfOk, length};
 ghost use Rattle.sd_acl.specs.Descriptor.{descriptor_of};
 ghost use Rattle.sd_answer.specs.Word.{IsFirstNoWord, texts};
+ghost use Rattle.sd_commands.specs.Answer.{answer_of};
 ghost use Rattle.sd_commands.specs.CommandAnswer.{AnswersFitting, AnswersMask, AnswersUser, AnswersWithLogon};
-ghost use Rattle.sd_commands.specs.CommandAnswer.{IsVerdict, IsWordFault, answer_of, verdict_outcome};
+ghost use Rattle.sd_commands.specs.CommandAnswer.{IsVerdict, IsWordFault, verdict_outcome};
 
 use crate::command_answer::{Answer, Answered, Outcome};
 use crate::logon::{fits_logon, words_for};

@@ -4,7 +4,7 @@ use Rattle.std.specs.Io.KnownBytes.{Appends}
 use Rattle.sd_lines.specs.Answers.{Prints}
 use Rattle.sd_lines.specs.Output.{LeavesAnswers}
 use Rattle.sd_lines.specs.declared.error.RunError.{RunError}
-use Rattle.sd_commands.specs.CommandAnswer.{outcome_status}
+use Rattle.sd_commands.specs.Answer.{outcome_status}
 use Rattle.sd_commands.specs.declared.command_answer.Outcome.{Outcome}
 use Rattle.sd_commands.specs.declared.settings.Settings.{Settings}
 use Rattle.sd_arguments.specs.CommandLine.{RequestValue}

@@ -15,7 +15,8 @@ use Rattle.sd_text.specs.Alias.{in_domain}
 use Rattle.sd_usage.specs.declared.row.DescriptorCommand.TheVariants as about
 use Rattle.sd_usage.specs.declared.row.TextCommand.{TextCommand}
 use Rattle.sd_usage.specs.declared.row.TextCommand.TheVariants.{Descriptor}
-use Rattle.sd_commands.specs.CommandAnswer.{AnswerValue, AnswersQuestion, IsFault, argument}
+use Rattle.sd_commands.specs.Answer.{AnswerValue, IsFault}
+use Rattle.sd_commands.specs.CommandAnswer.{AnswersQuestion, argument}
 use Rattle.sd_commands.specs.Concern.{IsConcernReason}
 use Rattle.sd_commands.specs.Diagnostic.{told_line, IsSidReason}
 use Rattle.sd_commands.specs.Escaped.{escaped}

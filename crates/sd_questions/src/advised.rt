@@ -1,19 +1,25 @@
 //! An answer, and after what standard error is told otherwise the advice on it.
 ghost use Rattle.std.specs.Prelude.{◌≡◌, ◌++◌, IfOk, string_bytes};
-ghost use Rattle.sd_commands.specs.CommandAnswer.{answer_of};
+ghost use Rattle.sd_commands.specs.Answer.{answer_of};
 ghost use Rattle.sd_questions.specs.TextAnswer.{Advising, AnswersText};
 ghost use Rattle.sd_arguments.specs.CommandLine.{request_of};
 
 use crate::found::{found_in_descriptor, found_in_mask, found_in_user, found_in_word};
 use crate::notes::notes_on;
-use crate::remedies::{EACH, HEX, LABELS, NO_CHILDREN, OTHER_USER, RemedyRow, row_line};
-use crate::spoken::answer_text;
+use crate::remedies::{
+    CHILDREN, EACH, HEX, LABELS, NO_BITS, NO_CHILDREN, OTHER_USER, RemedyRow, WHOLE_BITS,
+    WHOLE_ENTRY, WHOLE_SACL, row_line,
+};
+use crate::spoken::{answer_text, asks_who};
 use sd_answer::{TokenError, read_base, read_sddl_argument, read_token};
 use sd_arguments::{Options, TextRequest};
-use sd_commands::{Answer, ByteForm, Outcome, Settings, fits_logon, told_line};
-use sd_line::read_mask_in;
-use sd_text::{TextError, read_sid_text_in};
+use sd_commands::{Answer, ByteForm, Outcome, Settings, fits_logon, takes_whole, told_line};
+use sd_line::{Value, read_mask_in};
+use sd_text::{TextError, TextFault, read_sddl_in, read_sid_text_in};
 use sd_usage::{DescriptorCommand, OptionName, TextCommand};
+use sd_whole_parse::read_whole_sddl;
+use sd_whole_text::NoText;
+use sd_wire::WireFault;
 use std::alloc::{AllocError, Global};
 
 /// The answer of a command to a text, and advice on it. The only error is out of memory.
@@ -27,7 +33,7 @@ pub(crate) fn advised(
         (answer_of answer)) }
 {
     let answer = answer_text(alloc, settings, request, text)?;
-    let advice = advice_on(alloc, &settings, &request, text, answer.outcome)?;
+    let advice = advice_on(alloc, &settings, &request, text, &answer)?;
     with_advice(answer, advice.as_str())
 }
 
@@ -37,10 +43,10 @@ fn advice_on(
     settings: &Settings,
     request: &TextRequest<'_>,
     text: &str,
-    outcome: Outcome,
+    answer: &Answer,
 ) -> Result<String, AllocError> {
-    match outcome {
-        Outcome::Fault => remedy(alloc, settings, request, text),
+    match answer.outcome {
+        Outcome::Fault => remedy(alloc, settings, request, text, answer),
         _ => notes_on(alloc, settings, request, text),
     }
 }
@@ -72,6 +78,14 @@ pub(crate) fn advice_on_each(
     let mut advice = misplaced_line(alloc, request)?;
     if options.has(OptionName::WithoutSacl) && is_verdict(request.question) {
         let note = told_line(alloc, "SDDL", LABELS)?;
+        advice.push_str(note.as_str())?;
+    }
+    if asks_who(request.question) && !options.has(OptionName::Below) {
+        let note = told_line(alloc, "SDDL", CHILDREN)?;
+        advice.push_str(note.as_str())?;
+    }
+    if options.has(OptionName::WithoutBits) {
+        let note = told_line(alloc, "--without-bits", NO_BITS)?;
         advice.push_str(note.as_str())?;
     }
     if options.has(OptionName::Object) {
@@ -110,21 +124,59 @@ fn remedy(
     settings: &Settings,
     request: &TextRequest<'_>,
     text: &str,
+    answer: &Answer,
 ) -> Result<String, AllocError> {
     let row = match request.question {
         TextCommand::Descriptor(question) => {
-            match descriptor_row(alloc, settings, text) {
+            match text_row(alloc, settings, question, text) {
                 Some(row) => Some(row),
                 None => argument_row(alloc, settings, question, request.arguments),
             }
         }
-        TextCommand::FromBinary => hex_row(settings.bytes, text),
+        TextCommand::FromBinary => match hex_row(settings.bytes, text) {
+            Some(row) => Some(row),
+            None if settings.without_sacl => None,
+            None => held_row(answer),
+        },
         TextCommand::Rights => found_in_mask(settings, text),
         TextCommand::Sid => found_in_user(settings.aliases, text),
     };
     match row {
         Some(row) => row_line(alloc, row),
         None => Ok(String::new(alloc)),
+    }
+}
+
+/// The row of advice for the text of a command about a descriptor.
+fn text_row(
+    alloc: Global,
+    settings: &Settings,
+    question: DescriptorCommand,
+    text: &str,
+) -> Option<RemedyRow> {
+    if !takes_whole(question) || settings.without_sacl {
+        return descriptor_row(alloc, settings, text);
+    }
+    if settings.whole {
+        return whole_row(alloc, settings, text);
+    }
+    match read_sddl_in(alloc, settings.aliases, text).err()? {
+        TextError::Fault { fault, place } => match fault {
+            TextFault::HasSacl => Some(WHOLE_SACL),
+            TextFault::EntryKind | TextFault::ObjectGuid => Some(WHOLE_ENTRY),
+            _ => found_in_descriptor(text, fault, place),
+        },
+        TextError::Memory => None,
+    }
+}
+
+/// The row of advice for the text of a whole descriptor.
+fn whole_row(alloc: Global, settings: &Settings, text: &str) -> Option<RemedyRow> {
+    match read_whole_sddl(alloc, settings.aliases, text).err()? {
+        TextError::Fault { fault, place } if fault != TextFault::EntryKind => found_in_descriptor(
+            text, fault, place,
+        ),
+        _ => None,
     }
 }
 
@@ -141,6 +193,17 @@ fn hex_row(form: ByteForm, text: &str) -> Option<RemedyRow> {
         Some(HEX)
     } else {
         None
+    }
+}
+
+/// The row of advice for bytes that hold more than a plain descriptor.
+fn held_row(answer: &Answer) -> Option<RemedyRow> {
+    match answer.lines.first()?.value(b"name")? {
+        Value::Text(name) if name.as_str() == WireFault::HasSacl.name() => Some(WHOLE_SACL),
+        Value::Text(name) if name.as_str() == WireFault::EntryKind.name() => Some(WHOLE_ENTRY),
+        Value::Text(name) if name.as_str() == NoText::Control.name() => Some(WHOLE_BITS),
+        Value::Text(name) if name.as_str() == NoText::ResourceManager.name() => Some(WHOLE_BITS),
+        _ => None,
     }
 }
 

@@ -4,7 +4,7 @@ ghost use Rattle.std.specs.Prelude.{OnOk, option_map, string_bytes};
 ghost use Rattle.std.specs.Io.KnownBytes.{Keeps};
 ghost use Rattle.sd_lines.specs.Watched.{has_failed, inner_of};
 ghost use Rattle.sd_lines.specs.Streams.{is_read_error, is_write_error};
-ghost use Rattle.sd_commands.specs.CommandAnswer.{answer_of, outcome_status};
+ghost use Rattle.sd_commands.specs.Answer.{answer_of, outcome_status};
 ghost use Rattle.sd_line.specs.Printed.{tag_of};
 ghost use Rattle.sd_questions.specs.TextAnswer.{AnswersLine, AnswersLineIn, AnswersNext, AnswersTold};
 ghost use Rattle.sd_questions.specs.TextAnswer.{AnswersEach, after_answer, form_of};

@@ -1,6 +1,6 @@
 //! The answer to the one text that an input is, in UTF-8, or in UTF-16 after a byte order mark.
 ghost use Rattle.std.specs.Prelude.{◌≡◌, IfOk};
-ghost use Rattle.sd_commands.specs.CommandAnswer.{answer_of};
+ghost use Rattle.sd_commands.specs.Answer.{answer_of};
 ghost use Rattle.sd_lines.specs.Decoder.{decoded};
 ghost use Rattle.sd_questions.specs.TextAnswer.{AnswersInput, IsInputFault};
 ghost use Rattle.sd_arguments.specs.CommandLine.{request_of};

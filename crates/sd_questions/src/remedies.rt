@@ -192,6 +192,24 @@ pub(crate) const HEX: RemedyRow = (
     "write --base64 or --loose before the command for other forms",
 );
 
+pub(crate) const WHOLE_SACL: RemedyRow = (
+    "a SACL",
+    "none",
+    "write --whole before the command to keep it, or --without-sacl to leave it out",
+);
+
+pub(crate) const WHOLE_BITS: RemedyRow = (
+    "what SDDL has no word for",
+    "P, AR and AI",
+    "write --without-bits before the command to leave it out",
+);
+
+pub(crate) const WHOLE_ENTRY: RemedyRow = (
+    "another kind of entry",
+    "an allow or a deny",
+    "write --whole before the command",
+);
+
 pub(crate) const EACH: RemedyRow = (
     "a descriptor",
     "an argument after it",
@@ -201,6 +219,9 @@ pub(crate) const EACH: RemedyRow = (
 /// What a SACL that is left out can have, where lines are answered.
 pub(crate) const LABELS: &str =
     "a line's mandatory label is ignored, by which Windows may deny what is granted here";
+
+/// What `--without-bits` leaves out, where lines are answered.
+pub(crate) const NO_BITS: &str = "what a line's header has that SDDL has no word for is left out";
 
 /// What `--object` leaves out, where lines are answered.
 pub(crate) const NO_CHILDREN: &str =

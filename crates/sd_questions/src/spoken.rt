@@ -1,6 +1,7 @@
 //! The answer of a command to a text, where what is asked can be answered at all.
 ghost use Rattle.std.specs.Prelude.{◌≡◌, ◌==◌, ◌&&◌, IfOk, length, option_map};
-ghost use Rattle.sd_commands.specs.CommandAnswer.{answer_of, argument};
+ghost use Rattle.sd_commands.specs.Answer.{answer_of};
+ghost use Rattle.sd_commands.specs.CommandAnswer.{argument};
 ghost use Rattle.sd_questions.specs.TextAnswer.{AnswersText, IsSaid, asks_who, blank_name};
 ghost use Rattle.sd_arguments.specs.CommandLine.{request_of};
 
@@ -67,7 +68,7 @@ fn first<'a>(arguments: &'a [&'a str]) -> &'a str
     arguments.get(0).copied().unwrap_or("")
 }
 
-fn asks_who(question: TextCommand) -> bool
+pub(crate) fn asks_who(question: TextCommand) -> bool
     ensures { result ≡ asks_who question }
 {
     matches!(question, TextCommand::Descriptor(DescriptorCommand::Who))

@@ -2,7 +2,7 @@
 ghost use Rattle.std.specs.Prelude.{◌≡◌, ◌≢◌, ◌||◌, ◌++◌, true, Err, IfErr, IfOk, codes, is_some, option_map};
 ghost use Rattle.sd_lines.specs.Watched.{has_failed, inner_of};
 ghost use Rattle.sd_lines.specs.Streams.{ReadsPart, is_read_error};
-ghost use Rattle.sd_commands.specs.CommandAnswer.{answer_of};
+ghost use Rattle.sd_commands.specs.Answer.{answer_of};
 ghost use Rattle.sd_commands.specs.Escaped.{escaped};
 ghost use Rattle.sd_questions.specs.TextAnswer.{Advising, AnswersOnce, IsBadOption, IsBadValue};
 ghost use Rattle.sd_arguments.specs.CommandLine.{request_of};

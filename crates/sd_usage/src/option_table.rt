@@ -31,11 +31,32 @@ MASK, and prints entries with names of that kind alone",
         ProgramOption {
             name: OptionName::WithoutSacl,
             value: None,
-            excludes: None,
+            excludes: Some(OptionName::Whole),
         },
         "\
 drops a section S:, whatever its entries, or the SACL in bytes, and reports it on standard error,
 but not of a script's lines",
+    ),
+    (
+        "--whole",
+        ProgramOption {
+            name: OptionName::Whole,
+            value: None,
+            excludes: Some(OptionName::WithoutSacl),
+        },
+        "\
+takes descriptors with a SACL and with entries of every type; what SDDL has no text for is a fault",
+    ),
+    (
+        "--without-bits",
+        ProgramOption {
+            name: OptionName::WithoutBits,
+            value: None,
+            excludes: None,
+        },
+        "\
+under '--whole' drops the control bits that SDDL has no word for, as OD, and the resource manager's
+byte, and reports it on standard error",
     ),
     (
         "--require-dacl",

@@ -2,10 +2,11 @@
 
 use crate::row::OptionName;
 
-/// The options of commands that parse a descriptor's text.
-pub(crate) const TEXT_OPTIONS: &[OptionName] = &[
+/// The options of `tobin`.
+pub(crate) const TO_BINARY_OPTIONS: &[OptionName] = &[
     OptionName::Stdin,
     OptionName::WithoutSacl,
+    OptionName::Whole,
     OptionName::RequireDacl,
     OptionName::Domain,
     OptionName::Aliases,
@@ -15,8 +16,24 @@ pub(crate) const TEXT_OPTIONS: &[OptionName] = &[
     OptionName::StrictStatus,
 ];
 
-/// The options of commands that parse a descriptor's text and also print masks, or entries.
-pub(crate) const NAMED_TEXT_OPTIONS: &[OptionName] = &[
+/// The options of `print`.
+pub(crate) const PRINT_OPTIONS: &[OptionName] = &[
+    OptionName::Stdin,
+    OptionName::Names,
+    OptionName::WithoutSacl,
+    OptionName::Whole,
+    OptionName::RequireDacl,
+    OptionName::Domain,
+    OptionName::Aliases,
+    OptionName::Mapping,
+    OptionName::Json,
+    OptionName::Color,
+    OptionName::Caret,
+    OptionName::StrictStatus,
+];
+
+/// The options of `sort`.
+pub(crate) const SORT_OPTIONS: &[OptionName] = &[
     OptionName::Stdin,
     OptionName::Names,
     OptionName::WithoutSacl,
@@ -97,6 +114,8 @@ pub(crate) const BYTES_OPTIONS: &[OptionName] = &[
     OptionName::Stdin,
     OptionName::Names,
     OptionName::WithoutSacl,
+    OptionName::Whole,
+    OptionName::WithoutBits,
     OptionName::RequireDacl,
     OptionName::Base64,
     OptionName::Loose,

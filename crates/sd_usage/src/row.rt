@@ -79,6 +79,10 @@ pub enum OptionName {
     Names,
     /// `--without-sacl`.
     WithoutSacl,
+    /// `--whole`.
+    Whole,
+    /// `--without-bits`.
+    WithoutBits,
     /// `--require-dacl`.
     RequireDacl,
     /// `--below`.
@@ -120,7 +124,7 @@ pub enum OptionName {
 }
 
 /// How many options there are.
-pub const OPTION_COUNT: usize = 22;
+pub const OPTION_COUNT: usize = 24;
 
 /// A command, and what follows it.
 #[derive(Clone, Copy)]

@@ -1,8 +1,8 @@
 //! The table of commands. It and that of options alone say which arguments are a command line.
 
 use crate::options::{
-    BYTES_OPTIONS, COMPARE_OPTIONS, LINT_OPTIONS, NAMED_TEXT_OPTIONS, RIGHTS_OPTIONS,
-    SCRIPT_OPTIONS, SID_OPTIONS, TEXT_OPTIONS, VERDICT_OPTIONS, WHO_OPTIONS,
+    BYTES_OPTIONS, COMPARE_OPTIONS, LINT_OPTIONS, PRINT_OPTIONS, RIGHTS_OPTIONS, SCRIPT_OPTIONS,
+    SID_OPTIONS, SORT_OPTIONS, TO_BINARY_OPTIONS, VERDICT_OPTIONS, WHO_OPTIONS,
 };
 use crate::row::{
     Argument, Arguments, Command, CommandName, CommandRow, DescriptorCommand, Flag, Flags,
@@ -80,7 +80,7 @@ sdstore verdict 'D:(D;;0x2;;;S-1-5-21-1-2-3-1001)(A;;0x1f01ff;;;S-1-5-21-1-2-3-1
             arguments: Arguments::One(Argument::Descriptor),
             repeated: None,
         },
-        NAMED_TEXT_OPTIONS,
+        PRINT_OPTIONS,
         "Prints a descriptor in canonical SDDL",
         "sdstore print 'o:s-1-5-18d:(a;;0x1f01ff;;;s-1-1-0)'",
     ),
@@ -92,7 +92,7 @@ sdstore verdict 'D:(D;;0x2;;;S-1-5-21-1-2-3-1001)(A;;0x1f01ff;;;S-1-5-21-1-2-3-1
             arguments: Arguments::One(Argument::Descriptor),
             repeated: None,
         },
-        NAMED_TEXT_OPTIONS,
+        SORT_OPTIONS,
         "Prints a descriptor with its DACL in canonical order",
         "sdstore sort 'D:(A;;FA;;;BU)(D;;FW;;;BG)'",
     ),
@@ -104,7 +104,7 @@ sdstore verdict 'D:(D;;0x2;;;S-1-5-21-1-2-3-1001)(A;;0x1f01ff;;;S-1-5-21-1-2-3-1
             arguments: Arguments::One(Argument::Descriptor),
             repeated: None,
         },
-        TEXT_OPTIONS,
+        TO_BINARY_OPTIONS,
         "Prints a descriptor in self-relative form, in hexadecimal",
         "sdstore tobin O:BA",
     ),

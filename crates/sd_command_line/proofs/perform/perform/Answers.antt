@@ -1,7 +1,7 @@
 -- The one answer is printed.
 use Rattle.std.proofs.Common.{ap, option_map, refl}
 use Rattle.sd_lines.specs.Watched.{inner_of}
-use Rattle.sd_commands.specs.CommandAnswer.{answer_of}
+use Rattle.sd_commands.specs.Answer.{answer_of}
 use Rattle.sd_questions.specs.TextAnswer.{printed_as}
 use Rattle.sd_arguments.specs.CommandLine.{Ask, Help, Runs, Version, request_of}
 use Rattle.sd_arguments.specs.Options.{options_of}

@@ -1,7 +1,7 @@
 -- What an error leaves of the output, it leaves of the answer.
 use Rattle.std.proofs.Common.{None, Err, ap}
 use Rattle.std.proofs.lemmas.Result.{err_from_is_err_and}
-use Rattle.sd_commands.specs.CommandAnswer.{answer_of}
+use Rattle.sd_commands.specs.Answer.{answer_of}
 use Rattle.sd_arguments.specs.CommandLine.{Runs, Script}
 use Rattle.sd_arguments.specs.Options.{options_of}
 use Rattle.sd_questions.specs.TextAnswer.{printed_as}

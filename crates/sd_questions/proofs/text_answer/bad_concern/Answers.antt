@@ -1,7 +1,7 @@
 -- The reason begins with the text in quotes.
 use Rattle.std.proofs.Common.{◌≡◌, ◌∙◌, ◌++◌, append_assoc, codes, string_bytes, subst}
 use Rattle.std.specs.Prelude.{IfOk}
-use Rattle.sd_commands.specs.CommandAnswer.{answer_of}
+use Rattle.sd_commands.specs.Answer.{answer_of}
 use Rattle.sd_commands.specs.Escaped.{escaped}
 use Rattle.sd_questions.specs.TextAnswer.{IsBadOption}
 use Rattle.sd_questions.proofs.text_answer.bad_concern.Goals as goal

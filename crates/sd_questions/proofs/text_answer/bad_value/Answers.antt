@@ -1,7 +1,7 @@
 -- The reason is that of the SID.
 use Rattle.std.proofs.Common.{codes, string_bytes, subst}
 use Rattle.std.proofs.lemmas.Result.{IfOk-weaker}
-use Rattle.sd_commands.specs.CommandAnswer.{answer_of}
+use Rattle.sd_commands.specs.Answer.{answer_of}
 use Rattle.sd_questions.specs.TextAnswer.{IsBadOption}
 use Rattle.sd_questions.proofs.text_answer.bad_value.Goals as goal
 
