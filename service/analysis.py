@@ -15,7 +15,7 @@ import apart
 from answers import Answer, Result, Reviewed, Text
 from deadline import Deadline
 from errors import Fault
-from spelling import fault_of, path_of, spelled
+from spelling import all_spelled, fault_of, path_of, spelled
 from tree import Mapping, dumped
 
 #: The most bytes of one answer, and how many more are counted at once.
@@ -24,6 +24,8 @@ ANSWER_BYTES, _STEP = 1 << 28, 1 << 20
 _KEPT = 64
 #: The paths, and the lines of edits, between two looks at the deadline: each takes microseconds.
 _AT_ONCE = 64
+#: The same of nodes: to print a long descriptor takes milliseconds.
+_NODES_AT_ONCE = 16
 #: The words of tokens that are looked at, one by one for each node, between two looks at the deadline.
 _WORDS_AT_ONCE = 4_096
 
@@ -31,7 +33,8 @@ _WORDS_AT_ONCE = 4_096
 def gathered(pieces: Iterable[bytes], deadline: Deadline, most: int = ANSWER_BYTES) -> bytes:
     """The answer of these pieces. Fault: it is too long, or too late."""
     kept, counted = bytearray(), 0
-    for piece in deadline.paced(pieces):
+    for piece in pieces:
+        deadline.require()
         kept += piece
         if len(kept) >= counted + _STEP:
             counted = len(kept)
@@ -74,15 +77,15 @@ class Node(NamedTuple):
 
 
 class Found(NamedTuple):
-    """The path of a node that is found."""
+    """The paths of nodes that are found, each a line of its own and an item."""
 
-    path: str
+    paths: Sequence[str]
 
     def line(self) -> str:
-        return spelled(self.path)
+        return "\n".join(all_spelled(self.paths))
 
-    def json(self) -> str:
-        return self.path
+    def json(self) -> Sequence[str]:
+        return self.paths
 
 
 def _is_within(top: str, path: str) -> bool:
@@ -91,7 +94,7 @@ def _is_within(top: str, path: str) -> bool:
 
 def dump(view: View, deadline: Deadline) -> Iterator[Answer]:
     with view:
-        yield from map(Text, deadline.paced(dumped(view)))
+        yield from map(Text, deadline.paced(dumped(view), _NODES_AT_ONCE))
 
 
 def listed(view: View, top: str, deadline: Deadline) -> Iterator[Answer]:
@@ -100,7 +103,7 @@ def listed(view: View, top: str, deadline: Deadline) -> Iterator[Answer]:
     printed = functools.lru_cache(1)(str)
     with view:
         _required(view, top)
-        for node in deadline.paced(view.nodes()):
+        for node in deadline.paced(view.nodes(), _NODES_AT_ONCE):
             if _is_within(top, node.path):
                 kind = "container" if node.is_container else "object"
                 yield Node(kind, node.path, printed(view.descriptor(node.path)))
@@ -114,19 +117,29 @@ def found(
     with view, token:
         _required(view, top, seen)
         yield Result("found", seen=seen)
-        paths = [path for path in deadline.paced(view.paths(), _AT_ONCE) if _is_within(top, path)]
-        verdicts = checked(view, paths, token, words, asked, deadline)
-        yield from (Found(path) for path, verdict in zip(paths, verdicts) if verdict)
+        for paths in deadline.parts(view.paths(), min(_AT_ONCE, _checks_at_once(words))):
+            if top != "/":
+                paths = [path for path in paths if _is_within(top, path)]
+            verdicts = view.check_all(paths, token, asked)
+            # (to ask a verdict whether it is true takes longer)
+            granting = [
+                path for path, verdict in zip(paths, verdicts) if verdict is not None and verdict.kind == "granted"
+            ]
+            if granting:
+                yield Found(granting)
 
 
 def checked(
     view: View, paths: Sequence[str], token: Token, words: int, asked: int, deadline: Deadline
 ) -> Iterator[Verdict | None]:
     """The verdict at each path for the token of so many words."""
-    at_once = max(1, _WORDS_AT_ONCE // (words + 1))
-    for at in range(0, len(paths), at_once):
-        deadline.require()
-        yield from view.check_all(paths[at : at + at_once], token, asked)
+    for part in deadline.parts(paths, _checks_at_once(words)):
+        yield from view.check_all(part, token, asked)
+
+
+def _checks_at_once(words: int) -> int:
+    """How many nodes are checked between two looks at the deadline, for a token of so many words."""
+    return max(1, _WORDS_AT_ONCE // (words + 1))
 
 
 def granted(
@@ -187,6 +200,8 @@ def reviewed(
 
     @functools.lru_cache(_KEPT)
     def compared(was: Descriptor, now: Descriptor) -> _Changes:
+        # (of long lists that takes long)
+        deadline.require()
         return _changes_of(was.compare(now, (), mapping))
 
     with old, new:
@@ -195,7 +210,7 @@ def reviewed(
         if descriptor_in(new, top) is None and top not in stood:
             raise Fault(Result("nonode"))
         origins = _Origins(deadline.paced(was, _AT_ONCE), deadline.paced(lines, _AT_ONCE))
-        for path in deadline.paced(now):
+        for path in deadline.paced(now, _NODES_AT_ONCE):
             if _is_within(top, path):
                 before = path if path in stood else origins.of(path)
                 for line in _changes(old, new, before, path, compared):

@@ -141,16 +141,16 @@ class Described(NamedTuple):
         return {"descriptor": self.descriptor}
 
 
-class Text(NamedTuple):
+class Text(str):
     """A line that JSON has as it is: an access, or a change."""
 
-    text: str
+    __slots__ = ()
 
     def line(self) -> str:
-        return self.text
+        return self
 
     def json(self) -> str:
-        return self.text
+        return self
 
 
 class Reviewed(NamedTuple):

@@ -2,6 +2,7 @@
 
 docs/SERVICE.md and openapi.json have the requests."""
 
+import itertools
 import json
 from collections.abc import Callable, Iterable, Iterator, Sequence
 from dataclasses import replace
@@ -9,6 +10,7 @@ from http import HTTPStatus
 from typing import Any
 
 import api_edits
+from analysis import Found
 from answers import NO_NOTICE, Answer, Result, Reviewed
 from api_request import Request, Response, fault_response, state_of
 from errors import Fault
@@ -20,6 +22,8 @@ from shown import Shown
 
 #: The words of a token, times the masks of a request, whose checks are answered in the loop.
 _WORDS_IN_LOOP = 4_096
+#: The answers of a list that are put together at once.
+_ANSWERS_AT_ONCE = 16
 
 
 def route(request: Request, method: str, target: str, fields: dict[str, str], body: bytes) -> None:
@@ -149,17 +153,25 @@ def _asked_long(request: Request, words: list[str], name: str) -> None:
     request.asker.start_long(work())
 
 
-def _listed(state: dict[str, Any], name: str, lines: Iterable[Answer]) -> Iterator[bytes]:
+def _listed(state: dict[str, Any], name: str, lines: Iterator[Answer]) -> Iterator[bytes]:
     """An object of JSON, piece by piece, with a list of this name; the end of a review has members more, or others."""
     yield f'{{"{name}": ['.encode()
     mark = ""
-    for line in lines:
-        if isinstance(line, Reviewed):
-            state = state | line.json()
-        elif not isinstance(line, Result):
-            yield f"{mark}{json.dumps(line.json())}".encode()
+    while some := list(itertools.islice(lines, _ANSWERS_AT_ONCE)):
+        items = [item for answer in some for item in _items(answer)]
+        if items:
+            yield f"{mark}{json.dumps(items)[1:-1]}".encode()
             mark = ", "
+        if isinstance(some[-1], Reviewed):
+            state = state | some[-1].json()
     yield f"], {json.dumps(state)[1:]}".encode()
+
+
+def _items(answer: Answer) -> Sequence[object]:
+    """What an answer is in a list."""
+    if isinstance(answer, (Result, Reviewed)):
+        return ()
+    return answer.json() if isinstance(answer, Found) else (answer.json(),)
 
 
 def _list_nodes(request: Request) -> None:

@@ -1,6 +1,7 @@
 """How long an answer that takes long is worked at: up to a time, while somebody waits for it, and in a part of the time
 while others go first."""
 
+import itertools
 import time
 from collections.abc import Callable, Iterable, Iterator
 from typing import Protocol, TypeVar
@@ -69,12 +70,13 @@ class Deadline:
             self._since = now = time.monotonic()
         return now
 
-    def paced(self, items: Iterable[_T], at_once: int = 1) -> Iterator[_T]:
+    def paced(self, items: Iterable[_T], at_once: int) -> Iterator[_T]:
         """The items, one by one, until the end, which is asked for once before so many. Fault: it has ended."""
-        left = 0
-        for item in items:
-            if not left:
-                self.require()
-                left = at_once
-            left -= 1
-            yield item
+        return itertools.chain.from_iterable(self.parts(items, at_once))
+
+    def parts(self, items: Iterable[_T], at_once: int) -> Iterator[list[_T]]:
+        """The same, in lists of so many."""
+        rest = iter(items)
+        while part := list(itertools.islice(rest, at_once)):
+            self.require()
+            yield part

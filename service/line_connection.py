@@ -114,8 +114,11 @@ class LineConnection(Connection):
 
 def _pieces(tag: str, lines: Iterator[Answer]) -> Iterator[bytes]:
     """The lines of an answer of lines, each with the tag, and an empty one."""
-    while some := list(itertools.islice(lines, _LINES_IN_PIECE)):
-        yield "".join([f"{tag}{line.line()}\n" for line in some]).encode()
+    end = f"\n{tag}"
+    while some := [each.line() for each in itertools.islice(lines, _LINES_IN_PIECE)]:
+        # (an answer may be several lines)
+        text = "\n".join(some).replace("\n", end)
+        yield f"{tag}{text}\n".encode()
     yield f"{tag}\n".encode()
 
 

@@ -1,6 +1,7 @@
 """The words of a line: paths spelled by `%` as `sdstore --percent` has them, and descriptors in canonical SDDL."""
 
 import functools
+from collections.abc import Iterable, Sequence
 from urllib.parse import quote_from_bytes, unquote_to_bytes
 
 from hudarin import Descriptor, Refused, Sid
@@ -18,8 +19,17 @@ _KEPT, _KEPT_LENGTH = 4096, 256
 
 def spelled(path: str) -> str:
     """The path as one word of a line."""
-    is_plain = path.isascii() and path.isprintable() and " " not in path and "%" not in path
-    return path if is_plain else quote_from_bytes(path.encode(), safe=_SAFE)
+    return path if _is_word(path) else quote_from_bytes(path.encode(), safe=_SAFE)
+
+
+def all_spelled(paths: Sequence[str]) -> Iterable[str]:
+    """The same of each: mostly all are plain, as is asked of all at once."""
+    return paths if _is_word("".join(paths)) else map(spelled, paths)
+
+
+def _is_word(path: str) -> bool:
+    """Whether it is spelled as it is."""
+    return path.isascii() and path.isprintable() and " " not in path and "%" not in path
 
 
 def path_of(word: str) -> str:
