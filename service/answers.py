@@ -102,14 +102,20 @@ class Checked:
         return (self.verdict,)
 
 
-class CheckedAll(NamedTuple):
+@dataclass(frozen=True, slots=True)
+class CheckedAll:
     """The verdicts at several paths."""
 
     seen: int
     verdicts: Sequence[Verdict | None]
+    #: That of each verdict, made once: they are quicker to count, too.
+    texts: list[str] = field(init=False)
+
+    def __post_init__(self) -> None:
+        object.__setattr__(self, "texts", list(map(_text, self.verdicts)))
 
     def line(self) -> str:
-        return f"seen {self.seen} {', '.join(map(_text, self.verdicts))}"
+        return f"seen {self.seen} {', '.join(self.texts)}"
 
     def json(self) -> list[dict[str, Any]]:
         return list(map(_members, self.verdicts))

@@ -5,7 +5,7 @@ from bisect import bisect_left
 from collections import Counter
 from dataclasses import dataclass, field
 
-from answers import NO_ROLE, VERDICTS, Checked, CheckedAll, Result, kind_of
+from answers import NO_ROLE, VERDICTS, Checked, CheckedAll, Result
 
 #: The upper bounds of a latency's counts, in seconds.
 _BOUNDS = (0.000_025, 0.000_1, 0.000_5, 0.001, 0.005, 0.02, 0.1, 0.5, 2.5)
@@ -71,9 +71,10 @@ class Metrics:
         if isinstance(answer, Checked):
             self.checks[answer.kind] += 1
         else:
-            self.checks.update(dict.fromkeys(VERDICTS, 0))
-            for verdict, count in Counter(answer.verdicts).items():
-                self.checks[kind_of(verdict)] += count
+            for kind in VERDICTS:
+                self.checks.setdefault(kind, 0)
+            for text in set(answer.texts):
+                self.checks[text.partition(" ")[0]] += answer.texts.count(text)
         self.check_seconds.add(seconds)
 
     def count_edit(self, is_publish: bool, answer: Result, seconds: float) -> None:
