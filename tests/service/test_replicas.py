@@ -9,6 +9,7 @@ import signal
 import subprocess
 import time
 import unittest
+from pathlib import Path
 from unittest import mock
 
 import rig
@@ -32,9 +33,21 @@ class Replicas(rig.Case):
         self.make()
         self.start("lines_in_epoch = 30")
 
-    def follow(self, seconds: int = 20, limits: str = "lines_in_epoch = 20") -> None:
-        leader = f'[leader]\nunix = "{self.lines}"\nmax_age_seconds = {seconds}'
-        self.other.start(limits, more=leader)
+    def follow(self, seconds: int = 20, limits: str = "lines_in_epoch = 20", leader: Path | None = None) -> None:
+        at = f'[leader]\nunix = "{leader or self.lines}"\nmax_age_seconds = {seconds}'
+        self.other.start(limits, more=at)
+
+    def between(self) -> rig.Scripted:
+        """What stands between a replica and the leader: it passes on what is asked, and counts that."""
+
+        def answer(asked: str) -> list[str]:
+            with self.connect() as leader:
+                lines = [leader.ask(asked)]
+                while lines[-1] and not asked.startswith("status"):
+                    lines.append(leader.read().decode().removeprefix("x ").rstrip("\n"))
+            return lines
+
+        return rig.Scripted(self.room / "between", answer)
 
     def wait_for_line(self) -> None:
         """Until the replica shows what the leader does."""
@@ -352,16 +365,19 @@ class Replicas(rig.Case):
         small = self.mount_small()
         self.other.store = small / "store"
         self.edit(1)
-        self.follow(1)
-        self.wait_for_line()
-        self.said(*(f"addo /m{at} O:BAG:SYD:{'(A;;FR;;;BU)' * 500}" for at in range(200)), "publish")
-        self.other.wait_for(lambda: self.other.said("tell") == ["unavailable behind"])
-        before, began = self.processor(), time.monotonic()
-        time.sleep(3)
-        self.assertLess((self.processor() - before) / (time.monotonic() - began), 0.3)
-        self.assertLess(len([each for each in self.other.events() if each["event"] == "warning"]), 20)
-        subprocess.run(["mount", "-o", "remount,size=64m", str(small)], check=True)
-        self.other.wait_for(lambda: self.other.said("tell") == ["told 201"])
+        with self.between() as between:
+            self.follow(1, leader=self.room / "between")
+            self.wait_for_line()
+            self.said(*(f"addo /m{at} O:BAG:SYD:{'(A;;FR;;;BU)' * 500}" for at in range(200)), "publish")
+            self.other.wait_for(lambda: self.other.said("tell") == ["unavailable behind"])
+            before, count, began = self.processor(), between.count, time.monotonic()
+            time.sleep(3)
+            seconds = time.monotonic() - began
+            self.assertLess((between.count - count) / seconds, 1.5)
+            self.assertLess((self.processor() - before) / seconds, 0.3)
+            self.assertLess(len([each for each in self.other.events() if each["event"] == "warning"]), 20)
+            subprocess.run(["mount", "-o", "remount,size=64m", str(small)], check=True)
+            self.other.wait_for(lambda: self.other.said("tell") == ["told 201"])
 
     def processor(self) -> float:
         """The processor seconds of the replica."""
