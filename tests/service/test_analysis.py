@@ -8,10 +8,11 @@ from unittest import mock
 
 import rig
 
-from analysis import Pending, reviewed
+from analysis import Pending, found, reviewed
 from client import AsyncClient, Client, Rejected
 from deadline import Deadline
-from hudarin import FILES, Descriptor, Store
+from hudarin import FILES, Descriptor, Sid, Store, Token
+from spelling import spelled
 
 PAGES = rig.TOP / "docs"
 
@@ -114,6 +115,26 @@ class Analysis(rig.Case):
                                  [f"{each}lost 0x120089 by S-1-5-32-545" for each in whose])
 
         asyncio.run(asked())
+
+    def test_find_among_many_nodes(self) -> None:
+        """It has just the paths at and below its own that a check grants, each spelled for itself."""
+        token = Token(Sid.from_text(rig.USER), [Sid.from_text("BU")])
+        with Store(Descriptor.from_sddl("O:BAG:SYD:(A;OICI;FR;;;BU)")) as store:
+            for top in ("/a", "/b", "/ab"):
+                store.add_container(top, Descriptor.from_sddl("O:BAG:SYD:"))
+                for number in range(150):
+                    own = "O:BAG:SYD:P" if number % 3 == 0 or 64 <= number < 128 else "O:BAG:SYD:"
+                    store.add_object(f"{top}/n{' %' * (number > 140)}{number}", Descriptor.from_sddl(own))
+            view = store.publish()
+        with view, token:
+            for top, count in (("/", 175), ("/a", 58), ("/a/n1", 1), ("/a/n0", 0)):
+                wanted = [spelled(path) for path in view.paths()
+                          if (path == top or path.startswith(top.rstrip("/") + "/")) and view.check(path, token, "FR")]
+                said = [each.line() for each in found(view.share(), 7, top, token.share(), 1, 0x120089,
+                                                      Deadline(rig.PATIENCE, print))]
+                with self.subTest(top):
+                    self.assertEqual("\n".join(said).split("\n"), ["seen 7 found", *wanted])
+                    self.assertEqual(len(wanted), count)
 
     def test_nodes_with_the_same_descriptors(self) -> None:
         """A review compares these once, and says of each node the same as where it compares each."""
