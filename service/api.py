@@ -16,7 +16,7 @@ from api_request import Request, Response, fault_response, state_of
 from errors import Fault
 from json_request import Given
 from questions import MOST_WORDS
-from script import FEW_WORDS, MOST_PATHS, Reader
+from script import FEW_WORDS, MOST_PATHS, Reader, restrict_long
 from shown import Shown
 
 
@@ -120,7 +120,8 @@ def _check(request: Request) -> None:
                 answers[at] = verdict
         return {"answers": answers}
 
-    _ask(request, lines, len(words) > FEW_WORDS or len(words) * len(asked) > _WORDS_IN_LOOP, made)
+    is_long = len(words) > FEW_WORDS or len(words) * len(asked) > _WORDS_IN_LOOP
+    _ask(request, lines, is_long or restrict_long(words, len(checks)), made)
 
 
 def _why(request: Request) -> None:

@@ -30,6 +30,8 @@ _KEY_LENGTH = 100
 MOST_PATHS = 1_000
 #: So does one about a token of so many words. To parse more takes long, and so does a check at a long list.
 FEW_WORDS = 256
+#: So many paths of `checks` times restricting SIDs are answered in the loop.
+_SOUGHT_IN_LOOP = 4_096
 _A = TypeVar("_A")
 
 
@@ -71,12 +73,18 @@ def long_lines(words: Sequence[str], questions: Questions, reader: Reader, deadl
     return prepare(words, questions, reader, deadline)
 
 
+def restrict_long(words: Sequence[str], paths: int) -> bool:
+    """Whether so many checks take long for a token of these words: each entry is sought among its restricting SIDs."""
+    return paths * sum(word.endswith("=restrict") for word in words) > _SOUGHT_IN_LOOP
+
+
 def takes_long(words: Sequence[str], questions: Questions) -> bool:
     """Whether a question about a token is answered by another thread: the token has many words, and isn't just checked
     at one path after it was parsed before."""
     if words[0] == "checks":
         is_several = len(words) > 2 and words[2].isascii() and words[2].isdigit() and len(words[2]) < 5
-        return len(words) - (int(words[2]) if is_several else 0) > FEW_WORDS
+        paths = int(words[2]) if is_several else 0
+        return len(words) - paths > FEW_WORDS or restrict_long(words[paths + 3 :], paths)
     is_kept = words[0] == "check" and questions.tokens.has((words[3], *words[5:]))
     return len(words) > FEW_WORDS and not is_kept
 

@@ -93,6 +93,14 @@ class Words(unittest.TestCase):
                          [[False, False], [False, True], [False, True]])
 
 
+    def test_lines_of_many_paths_and_restricting_words(self) -> None:
+        """So do `checks` where the paths times the restricting SIDs are more than 4,096."""
+        questions = Questions(mock.Mock(), "", MAPPINGS["file"])
+        line = ["checks", "0", "1000", *["/BU=restrict"] * 1_000, rig.USER, "FR"]
+        self.assertEqual([takes_long([*line, *["BU"] * 99, *["BU=restrict"] * many], questions) for many in (4, 5)],
+                         [False, True])
+
+
 class Making(unittest.IsolatedAsyncioTestCase):
     """Answers of works that a test ends."""
 
