@@ -16,6 +16,11 @@ pub record LineOf : Type 0 where
   pub kind : List ℕ
   pub parts : List PartOf
 
+-- the parts after a first one, if there is one
+abbrev pub parts_from : Option PartOf → List PartOf → List PartOf
+parts_from None rest = rest
+parts_from (Some first) rest = first ∷ rest
+
 abbrev pub part_of : List ℕ → List Value → PartOf
 part_of form values = record { form = form; values = values }
 

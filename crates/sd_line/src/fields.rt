@@ -65,8 +65,22 @@ impl Line {
     pub fn value(&self, name: &[u8]) -> Option<&Value>
         ensures { option_map (λ value. value.now) result ≡ value_named name.now self.now }
     {
-        value_in(self.parts(), name)
+        let (first, rest) = self.parts();
+        let Some(part) = first else {
+            return value_in(rest, name);
+        };
+        match value_of(part, name) {
+            Some(value) => Some(value),
+            None => value_in(rest, name),
+        }
     }
+}
+
+fn value_of<'a>(part: &'a Part, name: &[u8]) -> Option<&'a Value>
+    ensures { option_map (λ value. value.now) result ≡ named_among name.now (fields_of part.entry.now) }
+{
+    let (_, fields) = Fields::of(part);
+    fields.value(name)
 }
 
 fn value_in<'a>(parts: &'a [Part], name: &[u8]) -> Option<&'a Value>
@@ -75,8 +89,7 @@ fn value_in<'a>(parts: &'a [Part], name: &[u8]) -> Option<&'a Value>
     let [part, parts @ ..] = parts else {
         return None;
     };
-    let (_, fields) = Fields::of(part);
-    match fields.value(name) {
+    match value_of(part, name) {
         Some(value) => Some(value),
         None => value_in(parts, name),
     }

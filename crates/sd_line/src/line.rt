@@ -1,11 +1,11 @@
 //! Lines of answers, before anything of them is spelled.
 
-ghost use Rattle.std.specs.Prelude.{◌≡◌, IfOk, bytes_eq, map, string_bytes};
+ghost use Rattle.std.specs.Prelude.{◌≡◌, IfOk, bytes_eq, map, option_map, string_bytes};
 ghost use Rattle.std.specs.List.{list_any};
 ghost use Rattle.sd_acl.specs.Descriptor.{descriptor_of};
 ghost use Rattle.sd_line.specs.declared.line.Value.TheVariants as values;
-ghost use Rattle.sd_line.specs.Line.{form_of, is_of, line_of, line_with, part_of, part_says, says, text_line};
-ghost use Rattle.sd_line.specs.Line.{value_says, with_head, word_part};
+ghost use Rattle.sd_line.specs.Line.{form_of, is_of, line_of, line_with, part_of, part_says, parts_from, says};
+ghost use Rattle.sd_line.specs.Line.{text_line, value_says, with_head, word_part};
 
 use sd_acl::{Ace, Descriptor};
 use sd_sid::{Mask, Sid};
@@ -240,19 +240,20 @@ impl Part {
     }
 }
 
-/// A line of an answer: what kind of line it is, and its parts.
+/// A line of an answer: what kind of line it is, and its parts. Most lines have one, for which no list is allocated.
 #[derive(Drop)]
 pub struct Line {
     kind: &'static str,
-    parts: Vec<Part>,
+    first: Option<Part>,
+    rest: Vec<Part>,
 }
 
 impl Model for Line {
-    ghost use Rattle.sd_line.specs.Line.{LineOf};
+    ghost use Rattle.sd_line.specs.Line.{LineOf, parts_from};
 
     ghost Value = { LineOf };
 
-    ghost view = { λ l. record { kind = l.kind.now; parts = l.parts.items } };
+    ghost view = { λ l. record { kind = l.kind.now; parts = parts_from l.first l.rest.items } };
 }
 
 impl Line {
@@ -269,11 +270,10 @@ impl Line {
     pub fn new(alloc: Global, form: LineForm, values: Vec<Value>) -> Result<Line, AllocError>
         ensures { IfOk result (λ line. line ≡ line_of (form_of form.entry) values.items) }
     {
-        let mut parts = Vec::new(alloc);
-        parts.push(Part::new(form.1, values))?;
         Ok(Line {
             kind: form.0,
-            parts,
+            first: Some(Part::new(form.1, values)),
+            rest: Vec::new(alloc),
         })
     }
 
@@ -281,16 +281,30 @@ impl Line {
     pub fn of(kind: &'static str, parts: Vec<Part>) -> Line
         ensures { result ≡ line_with kind.now parts.items }
     {
-        Line { kind, parts }
+        Line {
+            kind,
+            first: None,
+            rest: parts,
+        }
     }
 
     /// The line with a part more before it. The only error is out of memory.
     pub fn with_head(self, head: Part) -> Result<Line, AllocError>
         ensures { IfOk result (λ line. line ≡ with_head head self) }
     {
-        let Line { kind, mut parts } = self;
-        parts.insert(0, head)?;
-        Ok(Line { kind, parts })
+        let Line {
+            kind,
+            first,
+            mut rest,
+        } = self;
+        if let Some(part) = first {
+            rest.insert(0, part)?;
+        }
+        Ok(Line {
+            kind,
+            first: Some(head),
+            rest,
+        })
     }
 
     /// Whether the line is of this kind.
@@ -304,7 +318,11 @@ impl Line {
     pub fn says(&self, word: &str) -> bool
         ensures { result ≡ says word.now self.now }
     {
-        self.parts.iter().any(|part| part.says(word))
+        let (first, rest) = self.parts();
+        match first {
+            Some(part) if part.says(word) => true,
+            _ => any_says(rest, word),
+        }
     }
 
     /// What kind of line it is; no text where it is of none.
@@ -314,9 +332,16 @@ impl Line {
         self.kind
     }
 
-    pub(crate) fn parts(&self) -> &[Part]
-        ensures { result.now ≡ self.now.parts }
+    /// The first part, and those after it. Without a first one the others are all.
+    pub(crate) fn parts(&self) -> (Option<&Part>, &[Part])
+        ensures { parts_from (option_map (λ part. part.now) result.0) result.1.now ≡ self.now.parts }
     {
-        &self.parts
+        (self.first.as_ref(), &self.rest)
     }
+}
+
+fn any_says(parts: &[Part], word: &str) -> bool
+    ensures { result ≡ list_any (part_says word.now) parts.now }
+{
+    parts.iter().any(|part| part.says(word))
 }

@@ -24,7 +24,11 @@ impl Printer {
         out.extend_from_slice(b"\"answer\":\"")?;
         out.extend_from_slice(line.kind().as_bytes())?;
         out.push(b'"')?;
-        self.push_parts_members(out, line.parts())
+        let (first, rest) = line.parts();
+        if let Some(part) = first {
+            self.push_part_members(out, part)?;
+        }
+        self.push_parts_members(out, rest)
     }
 
     fn push_text_member(&self, out: &mut Vec<u8>, line: &Line) -> Result<(), AllocError>
@@ -42,10 +46,16 @@ impl Printer {
             ++ flat_map (part_members self.now.spelling) parts.now) }
     {
         for part in parts {
-            let (_, fields) = Fields::of(part);
-            self.push_fields_members(out, fields)?;
+            self.push_part_members(out, part)?;
         }
         Ok(())
+    }
+
+    fn push_part_members(&self, out: &mut Vec<u8>, part: &Part) -> Result<(), AllocError>
+        ensures { OnOk result (out.new.items ≡ out.old.items ++ part_members self.now.spelling part.now) }
+    {
+        let (_, fields) = Fields::of(part);
+        self.push_fields_members(out, fields)
     }
 
     /// Adds the values in turn, each by its name.

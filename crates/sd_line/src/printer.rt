@@ -27,7 +27,17 @@ impl Printer {
     pub(crate) fn push_text(&self, out: &mut Vec<u8>, line: &Line) -> Result<(), AllocError>
         ensures { OnOk result (out.new.items ≡ out.old.items ++ line_text self.now.spelling line.now) }
     {
-        for part in line.parts() {
+        let (first, rest) = line.parts();
+        if let Some(part) = first {
+            self.push_part(out, part)?;
+        }
+        self.push_parts(out, rest)
+    }
+
+    fn push_parts(&self, out: &mut Vec<u8>, parts: &[Part]) -> Result<(), AllocError>
+        ensures { OnOk result (out.new.items ≡ out.old.items ++ flat_map (part_text self.now.spelling) parts.now) }
+    {
+        for part in parts {
             self.push_part(out, part)?;
         }
         Ok(())
@@ -46,8 +56,24 @@ impl Printer {
     pub(crate) fn push_coloured(&self, out: &mut Vec<u8>, line: &Line) -> Result<(), AllocError>
         ensures { OnOk result (out.new.items ≡ out.old.items ++ coloured_text self.now.spelling line.now) }
     {
-        for part in line.parts() {
+        let (first, rest) = line.parts();
+        if let Some(part) = first {
             self.push_coloured_part(out, line.kind(), part)?;
+        }
+        self.push_coloured_parts(out, line.kind(), rest)
+    }
+
+    fn push_coloured_parts(
+        &self,
+        out: &mut Vec<u8>,
+        kind: &str,
+        parts: &[Part],
+    ) -> Result<(), AllocError>
+        ensures { OnOk result (out.new.items
+            ≡ out.old.items ++ flat_map (coloured_part self.now.spelling kind.now) parts.now) }
+    {
+        for part in parts {
+            self.push_coloured_part(out, kind, part)?;
         }
         Ok(())
     }
