@@ -1,15 +1,22 @@
 -- Where a line ends, and what the lines of a text are that begins with a whole one.
-use Rattle.sd_lines.proofs.Cited.{All, Bool, Ending, Feed, HasNoEnd, List, None, Option, Some, Zero, [], ap, arith, cond, drop, drop_more, end_byte, ended_line, eqb, fails_before_first, false, get_or, get_or-take, length, length-slice_split, length-take, lines_between, lines_in, ltb, nat_tests, passes_at_first, position_or_len, refl, slice_split, slice_split_at, slice_split_none, take, true, unwrap_or, ℕ, ◌++◌, ◌+◌, ◌<◌, ◌∙◌, ◌∷◌, ◌≡◌, ◌≤◌}
+use Rattle.sd_lines.proofs.Cited.{All, Bool, Ending, Feed, HasNoEnd, IsFirstByte, List, None, Option, Some, Zero, [], ap, arith, drop, drop_more, end_byte, ended_line, eqb, fails_before_first, false, get_or, get_or-take, is_byte, length, length-slice_split, length-take, lines_between, lines_in, nat_tests, passes_at_first, position_or_len, position_or_len_is, refl, slice_split, slice_split_at, slice_split_none, take, true, unwrap_or, ℕ, ◌++◌, ◌+◌, ◌<◌, ◌∙◌, ◌∷◌, ◌≡◌, ◌≤◌}
 
 abbrev pub ends : Ending → ℕ → Bool
 ends ending b = eqb b (end_byte ending)
 
 -- ---- where the first end stands
 
+fails : (b : Bool) → ¬ (b ≡ true) → b ≡ false
+fails true isnt = absurd (isnt refl)
+fails false isnt = refl
+
 -- the place that a search finds, or else the end
-pub place_or_end : (place : Option ℕ) (n most : ℕ) → place ≡ cond (ltb n most) (Some n) None → n ≤ most → unwrap_or place most ≡ n
-place_or_end None n most is within = grind (arith, nat_tests)
-place_or_end (Some i) n most is within = grind (arith, nat_tests)
+pub place_or_end : (ending : Ending) (xs : List ℕ) (place : Option ℕ) → IsFirstByte (is_byte (end_byte ending)) xs place
+    → position_or_len (ends ending) xs ≡ unwrap_or place (length xs)
+place_or_end ending xs None nowhere =
+    position_or_len_is (ends ending) xs (length xs) 0 (omega arith) (λ k low. fails (ends ending (get_or xs k 0)) (nowhere k (omega arith) low)) (λ low. absurd (omega arith))
+place_or_end ending xs (Some i) found =
+    position_or_len_is (ends ending) xs i 0 (omega (arith, found.0.high)) (λ k low. fails (ends ending (get_or xs k 0)) (found.0.before k (omega arith) low)) (λ low. found.1)
 
 pub end_at : (ending : Ending) (xs : List ℕ) → position_or_len (ends ending) xs < length xs
     → drop (position_or_len (ends ending) xs) xs ≡ end_byte ending ∷ drop 1 (drop (position_or_len (ends ending) xs) xs)

@@ -29,11 +29,7 @@ impl Ending {
         ensures place { result ≡ position_or_len (λ b. b == end_byte self) bytes.now }
         ensures within { result ≤ length bytes.now }
     {
-        let end = self.byte();
-        bytes
-            .iter()
-            .position(|byte| *byte == end)
-            .unwrap_or(bytes.len())
+        memchr::memchr(self.byte(), bytes).unwrap_or(bytes.len())
     }
 
     /// The bytes before the first end of a line, and those from there on; none if no line ends in the bytes.
