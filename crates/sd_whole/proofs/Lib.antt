@@ -8,4 +8,5 @@ pub mod ListStands
 pub mod EntryAgain
 pub mod DescriptorAgain
 pub mod ReadIsWhole
+pub mod PlainForms
 pub mod PlainIsWhole

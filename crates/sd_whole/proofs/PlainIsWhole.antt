@@ -1,5 +1,7 @@
 -- A descriptor that is plain is parsed as a whole one, too.
-use Rattle.sd_whole.proofs.Cited.{Absent, Ace, AceKind, AclRevision, AclSize, BadOffset, Bool, Dacl, DescriptorValue, EntrySize, Err, IsPlainAcl, HasSacl, IsPlainOf, Layout, NotSelfRelative, Revision, Short, List, ListRevision, Null, Ok, Option, PlainDescriptorsAreWhole, Result, SidValue, Some, TypedAce, WholeAce, WholeAcl, WholeDescriptor, WholeListValue, WireFault, [], add-zero, add_assoc, all_named, and_assoc, ap, arith, bit_and, bound, cases_Bool, chosen, cond, drop, drop-drop, drop-take, eqb-true, false, get_or, get_or-drop, get_or-take, good, good_is, has_entries, inl, inr, is_outside, is_set, is_without, kept_bits, kind_read, le-ltb, length, length-drop, length-take-le, ltb-false, map, nat_lt, no_types, not, not-false, of_layout, or_cases, passed, plain_as, plain_form, plain_kind, plain_or_typed, refl, revision_read, sid_read, sid_reading, slice_range, subst, suc, sym, take, true, trustee_read, u16_at, u32_at, zero, zero-add, ℕ, ◌%◌, ◌&&◌, ◌+◌, ◌-◌, ◌<◌, ◌==◌, ◌>>=◌, ◌||◌, ◌∙◌, ◌∷◌, ◌≡◌, ◌≤◌}
+use Rattle.sd_whole.proofs.Cited.{Absent, Ace, AceKind, AclRevision, AclSize, BadOffset, Bool, Dacl, DescriptorValue, EntrySize, Err, HasSacl, IsPlainOf, Layout, NotSelfRelative, Revision, Short, List, ListRevision, Null, Ok, Option, PlainDescriptorsAreWhole, Result, SidValue, Some, TypedAce, WholeAce, WholeAcl, WholeDescriptor, WholeListValue, WireFault, [], add-zero, add_assoc, all_named, and_assoc, ap, arith, bit_and, bound, cases_Bool, chosen, cond, drop, drop-drop, drop-take, eqb-true, false, get_or, get_or-drop, get_or-take, good, good_is, has_entries, inl, inr, is_outside, is_set, is_without, kept_bits, kind_read, le-ltb, length, length-drop, length-take-le, ltb-false, map, nat_lt, no_types, not, not-false, of_layout, or_cases, passed, plain_as, plain_form, plain_kind, plain_or_typed, refl, revision_read, sid_read, sid_reading, slice_range, subst, suc, sym, take, true, trustee_read, u16_at, u32_at, zero, zero-add, ℕ, ◌%◌, ◌&&◌, ◌+◌, ◌-◌, ◌<◌, ◌==◌, ◌>>=◌, ◌||◌, ◌∙◌, ◌∷◌, ◌≡◌, ◌≤◌}
+use Rattle.sd_whole.proofs.PlainForms.{plain_listed}
+use Rattle.sd_whole.specs.Plain.{plain_acl}
 use Rattle.sd_acl.specs.declared.descriptor.DaclOf.TheVariants.{List as Entries}
 use Rattle.sd_acl.specs.declared.ace.AceKind.TheVariants as plain
 use Rattle.sd_whole.specs.declared.kind.WholeKind.TheVariants.{Allow, Deny}
@@ -204,7 +206,7 @@ list_too bytes o es e =
 record AclToo (bytes : List ℕ) (o : ℕ) (dacl : Dacl) : Type 0 where
   acl : WholeAcl
   read : acl_read true bytes o ≡ Ok acl
-  same : IsPlainAcl acl dacl
+  same : plain_acl acl ≡ Ok dacl
   there : is_without acl ≡ false
 
 null_of : (bytes : List ℕ) (o : ℕ) → (o == 0) ≡ true → acl_read true bytes o ≡ Ok Null
@@ -218,12 +220,12 @@ entries_of bytes o list some inside read = rw (some, inside, read) refl
 dacl_too : (bytes : List ℕ) (o : ℕ) (dacl : Dacl) → dacl_read bytes o ≡ Ok dacl → AclToo bytes o dacl
 unfolding dacl_read
 dacl_too bytes o dacl e = elim (chosen (o == 0) _ _ _ e) [
-  | inl none ↦ subst (AclToo bytes o) (good_is Null dacl none.1) (record { acl = Null; read = null_of bytes o none.0; same = tt; there = refl })
+  | inl none ↦ subst (AclToo bytes o) (good_is Null dacl none.1) (record { acl = Null; read = null_of bytes o none.0; same = refl; there = refl })
   | inr some ↦
       let place = passed (is_outside bytes o) BadOffset (list_read bytes o >>= λ (es : List Ace). Ok (Entries es)) dacl some.1 in
       let list = bound (list_read bytes o) (λ (es : List Ace). Ok (Entries es)) dacl place.1 in
       let too = list_too bytes o list.0 list.1 in
-      subst (AclToo bytes o) (good_is (Entries list.0) dacl list.2) (record { acl = Entries too.list; read = entries_of bytes o too.list some.0 place.0 too.read; same = too.same; there = refl })
+      subst (AclToo bytes o) (good_is (Entries list.0) dacl list.2) (record { acl = Entries too.list; read = entries_of bytes o too.list some.0 place.0 too.read; same = rw (plain_listed too.list.entries list.0 too.same) refl; there = refl })
 ]
 
 -- a header that passes the tests of plain descriptors passes those of whole ones
@@ -305,7 +307,7 @@ with_a_dacl bytes c owner group v sacl control first second set e =
     let read : acl_read (is_set 0x0004 c) bytes (u32_at bytes 16) ≡ Ok too.acl = ap (λ b. acl_read b bytes (u32_at bytes 16)) set ∙ too.read in
     let d : WholeDescriptor = record { resource_manager = get_or bytes 1 0; control = control_now c; owner = owner; group = group; sacl = sacl.acl; dacl = too.acl } in
     let bit : (b : ℕ) → bit_and kept_bits b ≡ b → (is_set b (control_now c) && not (is_without too.acl)) ≡ is_set b c = λ b h. rw (kept_bit c b h, too.there) (and_true (is_set b c)) in
-    let plain_is : IsPlainOf d (made dacl.0) = record { owner = refl; group = refl; sacl = sacl.empty; dacl = too.same; protected = bit 0x1000 refl; auto_req = bit 0x0100 refl; auto_inherited = bit 0x0400 refl } in
+    let plain_is : IsPlainOf d (made dacl.0) = record { sacl = sacl.empty; part = rw (too.same, bit 0x1000 refl, bit 0x0100 refl, bit 0x0400 refl) refl } in
     (d, whole_of_parts bytes c owner group sacl.acl too.acl control first second sacl.read read, subst (IsPlainOf d) (good_is (made dacl.0) v dacl.2) plain_is)
 
 without_a_dacl : (bytes : List ℕ) (c : ℕ) (owner group : Option SidValue) (v : DescriptorValue) → SaclToo bytes c → whole_control_read bytes ≡ Ok c → trustee_read bytes (u32_at bytes 4) ≡ Ok owner → trustee_read bytes (u32_at bytes 8) ≡ Ok group → is_set 0x0004 c ≡ false
@@ -314,7 +316,7 @@ without_a_dacl bytes c owner group v sacl control first second clear e =
     let made : DescriptorValue = record { owner = owner; group = group; dacl = Absent; protected = false; auto_req = false; auto_inherited = false } in
     let read : acl_read (is_set 0x0004 c) bytes (u32_at bytes 16) ≡ Ok Absent = no_acl bytes (is_set 0x0004 c) clear in
     let d : WholeDescriptor = record { resource_manager = get_or bytes 1 0; control = control_now c; owner = owner; group = group; sacl = sacl.acl; dacl = Absent } in
-    let plain_is : IsPlainOf d made = record { owner = refl; group = refl; sacl = sacl.empty; dacl = tt; protected = and_false (is_set 0x1000 (control_now c)); auto_req = and_false (is_set 0x0100 (control_now c)); auto_inherited = and_false (is_set 0x0400 (control_now c)) } in
+    let plain_is : IsPlainOf d made = record { sacl = sacl.empty; part = rw (and_false (is_set 0x1000 (control_now c)), and_false (is_set 0x0100 (control_now c)), and_false (is_set 0x0400 (control_now c))) refl } in
     (d, whole_of_parts bytes c owner group sacl.acl Absent control first second sacl.read read, subst (IsPlainOf d) (good_is made v e) plain_is)
 
 pub plain_are_whole : PlainDescriptorsAreWhole

@@ -8,3 +8,4 @@ pub mod Whole
 pub mod Laws
 pub mod Memory
 pub mod Plain
+pub mod Order

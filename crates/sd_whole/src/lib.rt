@@ -20,6 +20,8 @@ mod kind;
 mod laws;
 mod layout;
 mod list;
+mod order;
+mod plain;
 mod types;
 
 pub use ace::{OpaqueAce, TypedAce, WholeAce};
@@ -33,4 +35,5 @@ pub use laws::{
     whole_descriptors_come_back,
 };
 pub use list::{ListRevision, WholeList, WholeListTooLarge};
+pub use plain::{OddEntry, OddKind, PlainError, PlainPart};
 pub use types::{GUID_BYTES, Guid, ObjectTypes};

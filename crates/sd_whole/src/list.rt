@@ -1,11 +1,12 @@
 //! Lists of entries of every type.
 
 ghost use Rattle.std.specs.Prelude.{◌≡◌, ◌+◌, ◌≤◌, ◌<◌, ◌/◌, ◌++◌, length, min, sum_by, nat_lt, vec_len, vec_capacity};
-ghost use Rattle.std.specs.Prelude.{IfOk, IfErr, IsErrOf, None, Some, if◌then◌else◌, codes};
+ghost use Rattle.std.specs.Prelude.{IfOk, IfErr, IsErrOf, OnOk, OnErr, None, Some, if◌then◌else◌, codes};
 ghost use Rattle.std.specs.List.{flat_map};
 ghost use Rattle.sd_wire.specs.Reading.{Gives};
 ghost use Rattle.sd_whole.specs.Entry.{whole_ace_size, whole_acl_size, whole_entry_bytes};
 ghost use Rattle.sd_whole.specs.Memory.{HasWholeEntries};
+ghost use Rattle.sd_whole.specs.Order.{IsCanonicalOrder};
 ghost use Rattle.sd_whole.specs.Reading.{revision_read, whole_entries_read, whole_list_read};
 ghost use Rattle.sd_whole.specs.Values.{revision_number};
 ghost use Rattle.sd_whole.specs.Writing.{whole_list_bytes};
@@ -14,7 +15,7 @@ use crate::ace::{ACE_HEADER_BYTES, WholeAce};
 use crate::entry::{push_whole_entry, read_whole_entry};
 use sd_acl::{ACL_HEADER_BYTES, MAX_ACL_BYTES};
 use sd_wire::{WireError, WireFault, read_u16};
-use std::alloc::Global;
+use std::alloc::{AllocError, Global};
 use std::marker::Model;
 use thiserror::Error;
 
@@ -140,6 +141,17 @@ impl WholeList {
     {
         self.size
     }
+
+    /// Puts the entries in canonical order ([MS-DTYP] 2.4.5): the explicit ones before the inherited ones, of the
+    /// explicit ones those that deny before the others, and each of these in the order that it had. The only error is
+    /// out of memory, and leaves all as it was.
+    pub fn sort(&mut self) -> Result<(), AllocError>
+        ensures sorted { OnOk result (IsCanonicalOrder self.old.entries self.new.entries) }
+        ensures revision { self.new.revision ≡ self.old.revision }
+        ensures kept { OnErr result (self.new ≡ self.old) }
+    {
+        sort_entries(&mut self.entries)
+    }
 }
 
 /// The bytes that a list of these entries takes ([MS-DTYP] 2.4.5, AclSize); `None`: more than 65,535.
@@ -154,6 +166,15 @@ fn size_within(entries: &[WholeAce]) -> Option<u64>
         }
     }
     Some(size)
+}
+
+/// Puts entries in canonical order.
+fn sort_entries(entries: &mut Vec<WholeAce>) -> Result<(), AllocError>
+    ensures sorted { OnOk result (IsCanonicalOrder entries.old.items entries.new.items) }
+    ensures kept { OnErr result (entries.new.items ≡ entries.old.items) }
+{
+    entries.sort_by_key(|entry| entry.rank())?;
+    Ok(())
 }
 
 /// Parses the list at the front of the bytes ([MS-DTYP] 2.4.5): AclRevision, AclSize, then the entries in order.
