@@ -1,0 +1,13 @@
+pub mod Runs
+pub mod Texts
+pub mod Escapes
+pub mod Words
+pub mod Names
+pub mod Values
+pub mod Lists
+pub mod Formed
+pub mod Operands
+pub mod Terms
+pub mod States
+pub mod Trees
+pub mod Whole
