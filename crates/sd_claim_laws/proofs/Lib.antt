@@ -1,0 +1,10 @@
+pub mod Tried
+pub mod Units
+pub mod Quoted
+pub mod Closing
+pub mod Numbers
+pub mod Octets
+pub mod Sids
+pub mod Values
+pub mod Claims
+pub mod Parsed
