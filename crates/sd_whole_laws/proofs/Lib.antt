@@ -1,0 +1,12 @@
+pub mod Letters
+pub mod Flags
+pub mod Rights
+pub mod Trustees
+pub mod Guids
+pub mod Data
+pub mod Entries
+pub mod Lists
+pub mod Control
+pub mod Sections
+pub mod WholeTexts
+pub mod OfBytes
