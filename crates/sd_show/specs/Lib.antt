@@ -1,0 +1,9 @@
+pub mod Control
+pub mod Act
+pub mod Data
+pub mod Entry
+pub mod Show
+pub mod Same
+pub mod Pairs
+pub mod Diff
+pub mod Laws

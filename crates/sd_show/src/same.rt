@@ -1,0 +1,59 @@
+//! Whether two entries are equal in all that they have.
+
+ghost use Rattle.std.specs.Prelude.{◌≡◌};
+ghost use Rattle.sd_show.specs.Same.{same_entry, same_guid, same_opaque, same_plain, same_typed};
+
+use bitflags::Flags;
+use sd_acl::Ace;
+use sd_whole::{Guid, OpaqueAce, TypedAce, WholeAce};
+
+/// Whether both have the same type, flags, mask, object types, SID and data.
+pub(crate) fn same_entry(one: &WholeAce, other: &WholeAce) -> bool
+    ensures { result ≡ same_entry one.now other.now }
+{
+    match (one, other) {
+        (WholeAce::Plain(one), WholeAce::Plain(other)) => same_plain(one, other),
+        (WholeAce::Typed(one), WholeAce::Typed(other)) => same_typed(one, other),
+        (WholeAce::Opaque(one), WholeAce::Opaque(other)) => same_opaque(one, other),
+        _ => false,
+    }
+}
+
+fn same_plain(one: &Ace, other: &Ace) -> bool
+    ensures { result ≡ same_plain one.now other.now }
+{
+    one.kind.is_allow() == other.kind.is_allow()
+        && one.flags.bits() == other.flags.bits()
+        && one.mask.bits() == other.mask.bits()
+        && one.sid.is(&other.sid)
+}
+
+fn same_typed(one: &TypedAce, other: &TypedAce) -> bool
+    ensures { result ≡ same_typed one.now other.now }
+{
+    one.kind.number() == other.kind.number()
+        && one.flags.bits() == other.flags.bits()
+        && one.mask.bits() == other.mask.bits()
+        && same_guid(&one.types.object, &other.types.object)
+        && same_guid(&one.types.inherited, &other.types.inherited)
+        && one.sid.is(&other.sid)
+        && one.trailing.as_slice() == other.trailing.as_slice()
+}
+
+fn same_guid(one: &Option<Guid>, other: &Option<Guid>) -> bool
+    ensures { result ≡ same_guid one.now other.now }
+{
+    match (one, other) {
+        (None, None) => true,
+        (Some(one), Some(other)) => one.as_slice() == other.as_slice(),
+        _ => false,
+    }
+}
+
+fn same_opaque(one: &OpaqueAce, other: &OpaqueAce) -> bool
+    ensures { result ≡ same_opaque one.now other.now }
+{
+    one.kind == other.kind
+        && one.flags.bits() == other.flags.bits()
+        && one.body.as_slice() == other.body.as_slice()
+}
