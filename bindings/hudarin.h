@@ -41,7 +41,8 @@ extern "C" {
 /* What a program of 0.1 changes: hudarin_who, hudarin_compare and hudarin_store_review take a hudarin_lines as their
  * last argument; hudarin_line_print writes the lines, which hudarin_who and hudarin_compare put into a buffer, and
  * hudarin_store_review after the paths. hudarin_who returns a hudarin_verdict, and hudarin_accesses is gone; the status
- * of a hudarin_comparison is in `answer`, which was `written`. Instead of "same" there is no line. */
+ * of a hudarin_comparison is in `answer`, which was `written`. Instead of "same" there is no line. hudarin_whole_at and,
+ * of what it writes, hudarin_whole_plain do what hudarin_descriptor_trim did, which left a SACL out. */
 
 /* Ignoring an answer is a mistake, of which GCC and Clang warn. */
 #if defined(__GNUC__)
@@ -93,10 +94,17 @@ typedef enum hudarin_status {
     HUDARIN_NO_NODE = 16,
     /* A SID is no domain's, which is S-1-5-21 and three more sub-authorities. */
     HUDARIN_DOMAIN = 17,
-    /* The descriptor has no owner, no group, or no entry at the index; or there is no such line, or value of a line. */
+    /* The descriptor has no owner, no group, no such list, or no entry at the index; or there is no such line, or value of
+     * a line. */
     HUDARIN_NO_PART = 18,
     /* A limit of the store is out of range: the fault is HUDARIN_LIMITS_... */
-    HUDARIN_LIMITS = 19
+    HUDARIN_LIMITS = 19,
+    /* A part of a whole descriptor has no text: the fault is HUDARIN_NO_TEXT_... Of an entry `place` is the index, and
+     * `list` its list. */
+    HUDARIN_NO_TEXT = 20,
+    /* An entry of a whole descriptor's DACL is no allow and no deny of a plain list: the fault is HUDARIN_NOT_PLAIN_..,
+     * of the first such entry, whose index is `place`. */
+    HUDARIN_NOT_PLAIN = 21
 } hudarin_status;
 
 /* ---- Faults of a text (HUDARIN_TEXT) */
@@ -170,6 +178,36 @@ typedef enum hudarin_limits_fault {
     HUDARIN_LIMITS_TOO_MANY_NODES = 2,
     HUDARIN_LIMITS_TOO_MANY_EDITS = 3
 } hudarin_limits_fault;
+
+/* ---- What of a whole descriptor has no text (HUDARIN_NO_TEXT) */
+
+typedef enum hudarin_no_text_fault {
+    /* The resource manager's byte isn't 0. */
+    HUDARIN_NO_TEXT_RESOURCE_MANAGER = 1,
+    /* A control bit has no keyword: OD, GD, DD, SD, SS, DT or RM. */
+    HUDARIN_NO_TEXT_CONTROL = 2,
+    /* A keyword is set of a list that isn't there. */
+    HUDARIN_NO_TEXT_KEYWORDS = 3,
+    /* An entry's type has no layout, or its body doesn't have the layout of its type. */
+    HUDARIN_NO_TEXT_OPAQUE = 4,
+    /* An entry's type has no letters. */
+    HUDARIN_NO_TEXT_KIND = 5,
+    /* The bytes after an entry's SID have no text. */
+    HUDARIN_NO_TEXT_DATA = 6
+} hudarin_no_text_fault;
+
+/* ---- What an entry is that isn't plain (HUDARIN_NOT_PLAIN) */
+
+typedef enum hudarin_not_plain_fault {
+    /* It says for which types of objects it is. */
+    HUDARIN_NOT_PLAIN_OBJECT_ACE = 1,
+    /* A condition says whether it applies. */
+    HUDARIN_NOT_PLAIN_CONDITIONAL_ACE = 2,
+    /* Its type is of SACLs. */
+    HUDARIN_NOT_PLAIN_SYSTEM_ACE = 3,
+    /* Its type has no layout, or its body doesn't have the layout of its type. */
+    HUDARIN_NOT_PLAIN_OPAQUE_ACE = 4
+} hudarin_not_plain_fault;
 
 /* ---- Arguments of a check: the number of the invalid one, in an answer's `argument` */
 
@@ -349,6 +387,8 @@ typedef enum hudarin_mark {
 #define HUDARIN_SID_TEXT_BYTES 183u
 /* Of a descriptor. */
 #define HUDARIN_DESCRIPTOR_BYTES 65688u
+/* Of the self-relative form of a whole descriptor. */
+#define HUDARIN_WHOLE_BYTES 131226u
 /* Of a path's text: 128 names of 255 bytes, each after a slash. */
 #define HUDARIN_PATH_BYTES 32768u
 /* Of what hudarin_status_text and hudarin_fault_name write. */
@@ -427,16 +467,46 @@ typedef struct hudarin_token_parts {
 /* The answer of a call that writes, keeps or shares, or returns a length. */
 typedef struct hudarin_written {
     uint32_t status;
-    uint32_t fault;  /* HUDARIN_TEXT_.., HUDARIN_WIRE_.., HUDARIN_SID_.. or HUDARIN_PATH_.., else 0 */
-    uint64_t place;  /* of HUDARIN_TEXT the fault's byte offset, of HUDARIN_UTF8 the number of valid bytes, else 0 */
+    uint32_t fault;  /* HUDARIN_TEXT_.., HUDARIN_WIRE_.. or another of the status, else 0 */
+    uint64_t place;  /* of HUDARIN_TEXT the fault's byte offset, of HUDARIN_UTF8 the number of valid bytes, of
+                        HUDARIN_NO_TEXT and HUDARIN_NOT_PLAIN an entry's index, else 0 */
     uint64_t length; /* with HUDARIN_OK as the call says, with HUDARIN_ROOM the bytes required, else 0 */
 } hudarin_written;
 
-/* The answer of hudarin_descriptor_trim and hudarin_sddl_trim. */
+/* The answer of hudarin_whole_to_sddl and hudarin_whole_plain. */
 typedef struct hudarin_trimmed {
     hudarin_written written;
     uint32_t left_out; /* HUDARIN_LEFT_OUT_.., joined by |; 0 unless the status is HUDARIN_OK or HUDARIN_ROOM */
+    uint32_t list;     /* HUDARIN_LIST_DACL or HUDARIN_LIST_SACL of what has no text or isn't plain, else 0 */
 } hudarin_trimmed;
+
+/* The lists of a whole descriptor. */
+typedef enum hudarin_list {
+    HUDARIN_LIST_DACL = 1,
+    HUDARIN_LIST_SACL = 2
+} hudarin_list;
+
+/* The answer of hudarin_whole_list. */
+typedef struct hudarin_whole_acl {
+    uint32_t status;
+    uint32_t fault;    /* HUDARIN_WIRE_.., else 0 */
+    uint32_t kind;     /* HUDARIN_DACL_ABSENT, _NULL or _LIST, of a SACL too; 0 without a descriptor, as those below */
+    uint32_t revision; /* AclRevision, 2 or 4; 0 where there is no list */
+    uint32_t control;  /* the control bits that speak of the list ([MS-DTYP] 2.4.6), but whether it is present */
+    uint64_t entries;  /* the number of entries */
+} hudarin_whole_acl;
+
+/* The answer of hudarin_whole_entry: its other fields are 0 unless the status is HUDARIN_OK or HUDARIN_ROOM. */
+typedef struct hudarin_whole_ace {
+    hudarin_written written;
+    uint32_t type;         /* AceType ([MS-DTYP] 2.4.4.1) */
+    uint32_t flags;        /* AceFlags, with every bit */
+    uint32_t mask;         /* 0 where the body doesn't have the layout of the type */
+    uint32_t object_types; /* 1 where there is an ObjectType, joined by | with 2 where an InheritedObjectType is */
+    unsigned char object_type[16];
+    unsigned char inherited_object_type[16];
+    uint64_t sid_length;   /* the bytes of the SID, at the front of what is written; 0 as `mask` */
+} hudarin_whole_ace;
 
 /* The answer of a call that returns a node. */
 typedef struct hudarin_node {
@@ -477,8 +547,16 @@ typedef enum hudarin_review_kind {
 } hudarin_review_kind;
 
 #define HUDARIN_LEFT_OUT_SACL 0x1u
-/* The resource manager's byte, which no descriptor keeps. */
+/* The resource manager's byte. */
 #define HUDARIN_LEFT_OUT_MANAGER 0x2u
+/* Control bits: of a text those without a keyword, of a plain part all but those of its DACL. */
+#define HUDARIN_LEFT_OUT_CONTROL 0x4u
+
+/* Parts of a whole descriptor, joined by |, as in SECURITY_INFORMATION ([MS-DTYP] 2.4.7). */
+#define HUDARIN_PART_OWNER 0x1u
+#define HUDARIN_PART_GROUP 0x2u
+#define HUDARIN_PART_DACL 0x4u
+#define HUDARIN_PART_SACL 0x8u
 
 /* The answer of hudarin_descriptor_dacl. */
 typedef struct hudarin_dacl {
@@ -626,11 +704,6 @@ HUDARIN_ANSWERS hudarin_written hudarin_sddl_to_bytes(const char *text, size_t t
 HUDARIN_ANSWERS hudarin_written hudarin_sddl_to_bytes_in(const void *domain, size_t domain_length, const char *text,
                                                          size_t text_length, void *room, size_t room_length);
 
-/* The same without its SACL, which no descriptor keeps and the two calls above refuse. If `domain_length` is 0 there is
- * no domain. */
-HUDARIN_ANSWERS hudarin_trimmed hudarin_sddl_trim(const void *domain, size_t domain_length, const char *text,
-                                                  size_t text_length, void *room, size_t room_length);
-
 /* The canonical SDDL text of the descriptor at the front of the bytes. */
 HUDARIN_ANSWERS hudarin_written hudarin_bytes_to_sddl(const void *bytes, size_t bytes_length, char *room,
                                                       size_t room_length);
@@ -642,11 +715,47 @@ HUDARIN_ANSWERS hudarin_written hudarin_sddl_canonical(const char *text, size_t 
 /* The length of the descriptor at the front of the bytes: up to the end of its last part. */
 HUDARIN_ANSWERS hudarin_written hudarin_descriptor_length(const void *bytes, size_t bytes_length);
 
-/* The one self-relative form of the descriptor whose header is at the offset `place` of a blob from whose front its
- * offsets count, as in Samba's security.NTACL. If `leaves_sacl` is 0 a SACL is HUDARIN_WIRE_HAS_SACL, else it is left
- * out. */
-HUDARIN_ANSWERS hudarin_trimmed hudarin_descriptor_trim(const void *blob, size_t blob_length, uint64_t place,
-                                                        uint32_t leaves_sacl, void *room, size_t room_length);
+/* ---- Whole descriptors: with a SACL, entries of every type in both lists, and all control bits. The calls above refuse
+ * these, and those below take any descriptor. */
+
+/* The self-relative form of the whole descriptor that the SDDL text spells, with the aliases of the domain whose SID is
+ * at the front of `domain`. If `domain_length` is 0 there is no domain. */
+HUDARIN_ANSWERS hudarin_written hudarin_whole_from_sddl(const void *domain, size_t domain_length, const char *text,
+                                                        size_t text_length, void *room, size_t room_length);
+
+/* The SDDL text of the whole descriptor at the front of the bytes. If `leaves_bits` is 0, control bits and the resource
+ * manager's byte that no text says are HUDARIN_NO_TEXT, else they are left out. */
+HUDARIN_ANSWERS hudarin_trimmed hudarin_whole_to_sddl(const void *bytes, size_t bytes_length, uint32_t leaves_bits,
+                                                      char *room, size_t room_length);
+
+/* The one self-relative form of the whole descriptor whose header is at the offset `place` of a blob from whose front
+ * its offsets count, as in Samba's security.NTACL; of one at the front of bytes with `place` 0. */
+HUDARIN_ANSWERS hudarin_written hudarin_whole_at(const void *blob, size_t blob_length, uint64_t place, void *room,
+                                                 size_t room_length);
+
+/* The self-relative form of the plain part of the whole descriptor at the front of the bytes, which all other calls
+ * take: its owner, its group, and its DACL if that has only allow and deny entries. */
+HUDARIN_ANSWERS hudarin_trimmed hudarin_whole_plain(const void *bytes, size_t bytes_length, void *room,
+                                                    size_t room_length);
+
+/* The one self-relative form of the whole descriptor at the front of `bytes`, with these parts, HUDARIN_PART_.., of the
+ * one at the front of `other`, each with the control bits that speak of it. */
+HUDARIN_ANSWERS hudarin_written hudarin_whole_with_parts(const void *bytes, size_t bytes_length, const void *other,
+                                                         size_t other_length, uint32_t parts, void *room,
+                                                         size_t room_length);
+
+/* The SID of the owner, HUDARIN_PART_OWNER, or of the group, HUDARIN_PART_GROUP, of the whole descriptor at the front of
+ * the bytes. */
+HUDARIN_ANSWERS hudarin_written hudarin_whole_trustee(const void *bytes, size_t bytes_length, uint32_t part, void *room,
+                                                      size_t room_length);
+
+/* A list, HUDARIN_LIST_.., of the whole descriptor at the front of the bytes. */
+HUDARIN_ANSWERS hudarin_whole_acl hudarin_whole_list(const void *bytes, size_t bytes_length, uint32_t list);
+
+/* The entry at the index, from 0, of such a list. Its SID and the bytes after that, as a condition or a claim, are
+ * written; where the body doesn't have the layout of the type, all that follows the entry's header. */
+HUDARIN_ANSWERS hudarin_whole_ace hudarin_whole_entry(const void *bytes, size_t bytes_length, uint32_t list,
+                                                      uint64_t index, void *room, size_t room_length);
 
 /* ---- SIDs and masks */
 

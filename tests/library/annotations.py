@@ -1,10 +1,15 @@
 """Uses of hudarin.py for mypy alone: it reports a fault on just the lines that ignore one. Nothing here is run."""
 
 from typing import Iterator, Optional, Tuple
+from uuid import UUID
 
 from hudarin import (
     DENY_ONLY,
     FILES,
+    OF_DACL,
+    OF_GROUP,
+    OF_OWNER,
+    OF_SACL,
     Access,
     Change,
     Comparison,
@@ -21,6 +26,8 @@ from hudarin import (
     Token,
     Verdict,
     View,
+    WholeDescriptor,
+    WholeEntry,
     mask,
 )
 
@@ -45,9 +52,16 @@ owner: Optional[Sid] = descriptor.owner
 entries: Optional[Tuple[Entry, ...]] = descriptor.entries
 subjects: Tuple[Optional[Sid], ...] = tuple(entry.subject for entry in entries or ())
 full: str = user.full if descriptor.is_protected else str(user)
-trimmed: Descriptor = Descriptor.from_sddl("S:", leaves_sacl=True)
-blob: Tuple[Descriptor, int] = Descriptor.from_blob(memoryview(b""), 0, leaves_sacl=True)
-copied: Descriptor = Descriptor(descriptor, leaves_sacl=True)
+whole: WholeDescriptor = WholeDescriptor.from_sddl("S:", user)
+blob: WholeDescriptor = WholeDescriptor.from_blob(memoryview(b""), 0)
+plain: Tuple[Descriptor, int] = whole.plain()
+printed: Tuple[str, int] = whole.without_bits()
+joined: WholeDescriptor = whole.with_parts(descriptor, OF_OWNER | OF_GROUP).with_parts(blob, OF_DACL | OF_SACL)
+audits: Optional[Tuple[WholeEntry, ...]] = whole.sacl
+types: Tuple[Optional[UUID], ...] = tuple(entry.object_type for entry in joined.dacl or ())
+data: Tuple[bytes, ...] = tuple(entry.data + bytes(entry) for entry in audits or () if entry.sid == whole.owner)
+trustees: Tuple[Optional[Sid], ...] = (whole.owner, whole.group)
+copied: Descriptor = Descriptor(descriptor)
 small: Store = Store(descriptor, FILES, nodes=2, edits=3)
 
 with Token(user, [user], restricting=[user]) as token, KeptDescriptor(descriptor) as kept, Store(descriptor) as store:
@@ -85,3 +99,5 @@ store.revert(token)  # type: ignore
 store.review("/")  # type: ignore
 view.check("/a", user)  # type: ignore
 verdict.missing  # type: ignore
+WholeDescriptor.from_sddl("S:").with_parts("S:", OF_SACL)  # type: ignore
+whole.sacl[0].text.lower()  # type: ignore

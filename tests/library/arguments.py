@@ -19,6 +19,7 @@ from hudarin import (  # noqa: E402
     Sid,
     Store,
     Token,
+    WholeDescriptor,
     mask,
 )
 from tally import close, gives, raises  # noqa: E402
@@ -105,15 +106,14 @@ NO_DOMAIN = ("sddl 6 DomainAlias at 2", "DomainAlias")
 SACL = "O:BAS:(AU;SA;FA;;;WD)"
 HAS_SACL = ("sddl 2 HasSacl at 4", "HasSacl")
 gives("a SACL", HAS_SACL, lambda: refusal(lambda: Descriptor.from_sddl(SACL)))
-gives("a SACL that is left out", "O:BA", lambda: str(Descriptor.from_sddl(SACL, leaves_sacl=True)))
+gives("a SACL that is left out", "O:BA", lambda: str(WholeDescriptor.from_sddl(SACL).plain()[0]))
 IN_DOMAIN = "O:DAS:(AU;SA;FA;;;DU)"
 OWNED = "O:S-1-5-21-7-8-9-512"
-gives("a SACL in a domain", OWNED, lambda: str(Descriptor.from_sddl(IN_DOMAIN, DOMAIN, leaves_sacl=True)))
-UNPARSED = "O:BAS:(AU;SA;FA;;;QQ)"
-gives("a SACL that is left out unparsed", "O:BA", lambda: str(Descriptor.from_sddl(UNPARSED, leaves_sacl=True)))
-KIND = ("sddl 3 EntryKind at 7", "EntryKind")
-BROKEN = "O:BAS:(A;;FA;;;WD)"
-gives("a fault of a SACL", KIND, lambda: refusal(lambda: Descriptor.from_sddl(BROKEN, leaves_sacl=True)))
+gives("a SACL in a domain", OWNED, lambda: str(WholeDescriptor.from_sddl(IN_DOMAIN, DOMAIN).plain()[0]))
+ALIAS = ("sddl 5 UnknownAlias at 18", "UnknownAlias")
+BROKEN = "O:BAS:(AU;SA;FA;;;QQ)"
+gives("a fault of a SACL", ALIAS, lambda: refusal(lambda: WholeDescriptor.from_sddl(BROKEN)))
+raises("a domain of a SACL that is no Sid", TypeError, lambda: WholeDescriptor.from_sddl(SACL, "S-1-5-21-7-8-9"))
 gives("a fault of a text", NO_DOMAIN, lambda: refusal(lambda: Descriptor.from_sddl("O:DA")))
 gives("a fault of bytes", ("wire 1 Short at 0", "Short"), lambda: refusal(lambda: Descriptor(b"")))
 gives("a fault of a SID", ("sid 3 Short at 0", "Short"), lambda: refusal(lambda: Sid(b"\x01\x01")))

@@ -62,9 +62,24 @@ static int descriptor_length(void)
     return hudarin_descriptor_length(bytes, length).status == HUDARIN_OK;
 }
 
-static int descriptor_trim(void)
+static int whole_at(void)
 {
-    return hudarin_descriptor_trim(bytes, length, 0, 0, room, sizeof room).written.status == HUDARIN_OK;
+    return hudarin_whole_at(bytes, length, 0, room, sizeof room).status == HUDARIN_OK;
+}
+
+static int whole_plain(void)
+{
+    return hudarin_whole_plain(bytes, length, room, sizeof room).written.status == HUDARIN_OK;
+}
+
+static int whole_from_sddl(void)
+{
+    return hudarin_whole_from_sddl(NULL, 0, text, text_length, room, sizeof room).status == HUDARIN_OK;
+}
+
+static int whole_to_sddl(void)
+{
+    return hudarin_whole_to_sddl(bytes, length, 0, canonical_room, sizeof canonical_room).written.status == HUDARIN_OK;
 }
 
 static int keep_sddl(void)
@@ -127,7 +142,10 @@ static const struct call {
     { "`hudarin_bytes_to_sddl`", bytes_to_sddl },
     { "`hudarin_sddl_canonical`", sddl_canonical },
     { "`hudarin_descriptor_length`", descriptor_length },
-    { "`hudarin_descriptor_trim`", descriptor_trim },
+    { "`hudarin_whole_at`", whole_at },
+    { "`hudarin_whole_plain`", whole_plain },
+    { "`hudarin_whole_from_sddl`", whole_from_sddl },
+    { "`hudarin_whole_to_sddl`", whole_to_sddl },
     { "`hudarin_keep_sddl`, and its end", keep_sddl },
     { "`hudarin_keep_bytes`, and its end", keep_bytes },
     { "`hudarin_keep_token`, and its end", keep_token },

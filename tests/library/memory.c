@@ -7,8 +7,8 @@
 
 /* The three before CHECK keep lines; it and those after it check, or keep something by which a check is made. */
 enum call {
-    TO_BYTES, TRIM_TEXT, TO_SDDL, CANONICAL, LENGTH, SID_BYTES, SID_TEXT, FULL_TEXT, MASK_TEXT, OWNER, ENTRY, SUBJECT,
-    LINE, OBJECT, VALUE, WHO, LINT, COMPARE, CHECK, KEEP_SDDL, KEEP_BYTES, KEEP_TOKEN, SHARE
+    TO_BYTES, TO_SDDL, CANONICAL, LENGTH, WHOLE_BYTES, WHOLE_TEXT, WHOLE_AT, PLAIN, JOINED, TRUSTEE, ACE, SID_BYTES, SID_TEXT,
+    FULL_TEXT, MASK_TEXT, OWNER, ENTRY, SUBJECT, LINE, OBJECT, VALUE, WHO, LINT, COMPARE, CHECK, KEEP_SDDL, KEEP_BYTES, KEEP_TOKEN, SHARE
 };
 
 /* A call, what it is given, and what it answers: what it writes, NULL where that isn't looked at, and how much; a fault of a
@@ -63,8 +63,14 @@ static const row rows[] = {
     { SID_TEXT, LONGEST_SID, LONGEST_SID, sizeof LONGEST_SID - 1, 0, 0 },
     { FULL_TEXT, "BU", "S-1-5-32-545", 12, 0, 0 },
     { MASK_TEXT, "BU", "FR+WD", 5, 0, 0 },
-    { TRIM_TEXT, ROW_1 "S:(AU;SA;FA;;;WD)", row_1, 76, 0, 0 },
-    { TRIM_TEXT, ROW_1 "S:(A;;FA;;;WD)", NULL, 0, HUDARIN_TEXT_ENTRY_KIND, 25 },
+    { WHOLE_BYTES, ROW_1, row_1, 76, 0, 0 },
+    { WHOLE_BYTES, "S:(AU;;FA;;;QQ)", NULL, 0, HUDARIN_TEXT_UNKNOWN_ALIAS, 12 },
+    { WHOLE_TEXT, row_1, ROW_1, 22, 0, 0 },
+    { WHOLE_AT, row_1, row_1, 76, 0, 0 },
+    { PLAIN, row_1, row_1, 76, 0, 0 },
+    { JOINED, row_1, row_1, 76, 0, 0 },
+    { TRUSTEE, row_1, "01020000000000052000000020020000", 16, 0, 0 },
+    { ACE, row_1, "010100000000000100000000", 12, 0, 0 },
     { OWNER, CHECKED, "01020000000000052000000020020000", 16, 0, 0 },
     { ENTRY, CHECKED, "010100000000000100000000", 12, 0, 0 },
     { SUBJECT, CHECKED, "010100000000000100000000", 12, 0, 0 },
@@ -176,7 +182,17 @@ static void made(const row *row, outcome *it)
     case SID_TEXT: written(it, hudarin_sid_bytes_to_text(lent.bytes, lent.length, chars, room)); break;
     case FULL_TEXT: written(it, hudarin_sid_bytes_to_full_text(lent.bytes, lent.length, chars, room)); break;
     case MASK_TEXT: written(it, hudarin_mask_to_text(0x160089u, chars, room)); break;
-    case TRIM_TEXT: written(it, hudarin_sddl_trim(NULL, 0, row->text, text, it->room, room).written); break;
+    case WHOLE_BYTES: written(it, hudarin_whole_from_sddl(NULL, 0, row->text, text, it->room, room)); break;
+    case WHOLE_TEXT: written(it, hudarin_whole_to_sddl(lent.bytes, lent.length, 0, chars, room).written); break;
+    case WHOLE_AT: written(it, hudarin_whole_at(lent.bytes, lent.length, 0, it->room, room)); break;
+    case PLAIN: written(it, hudarin_whole_plain(lent.bytes, lent.length, it->room, room).written); break;
+    case JOINED:
+        written(it, hudarin_whole_with_parts(lent.bytes, lent.length, lent.bytes, lent.length, HUDARIN_PART_DACL, it->room, room));
+        break;
+    case TRUSTEE: written(it, hudarin_whole_trustee(lent.bytes, lent.length, HUDARIN_PART_OWNER, it->room, room)); break;
+    case ACE:
+        written(it, hudarin_whole_entry(lent.bytes, lent.length, HUDARIN_LIST_DACL, 0, it->room, room).written);
+        break;
     case OWNER: written(it, hudarin_descriptor_owner(&descriptor, it->room, room)); break;
     case ENTRY: written(it, hudarin_descriptor_entry(&descriptor, 1, it->room, room).written); break;
     case SUBJECT: written(it, hudarin_descriptor_subject(&descriptor, 1, it->room, room)); break;
@@ -231,7 +247,7 @@ static size_t bytes_of(const char *digits, unsigned char *bytes)
 
 static int writes_text(enum call call)
 {
-    return call == TO_SDDL || call == CANONICAL || call == SID_TEXT || call == FULL_TEXT || call == MASK_TEXT ||
+    return call == TO_SDDL || call == WHOLE_TEXT || call == CANONICAL || call == SID_TEXT || call == FULL_TEXT || call == MASK_TEXT ||
            call == LINE || call == OBJECT || (call >= WHO && call <= COMPARE);
 }
 
@@ -290,7 +306,7 @@ static void runs_out(const row *row, int is_lasting, const outcome *due)
 static void lend(const row *row)
 {
     size_t digits = strlen(row->text);
-    if (row->call == TO_SDDL || row->call == LENGTH) {
+    if (row->call == TO_SDDL || row->call == LENGTH || (row->call >= WHOLE_TEXT && row->call <= ACE)) {
         lent.length = bytes_of(row->text, lent.bytes);
     } else if (row->call == SID_TEXT || row->call == FULL_TEXT) {
         lent.length = (size_t)hudarin_sid_text_to_bytes(row->text, digits, lent.bytes, sizeof lent.bytes).length;

@@ -1,5 +1,6 @@
 """How the objects of hudarin.py behave in Python: truth, copies, pickles and a second __init__; the parts of a
-descriptor, masks by names, which mistake raises what, SACLs, and who is granted what. The last line is 'N passed, M failed'.
+descriptor, masks by names, which mistake raises what, whole descriptors, and who is granted what. The last line is
+'N passed, M failed'.
 
 The module is that of bindings/python, or where there is none the one that Python finds.
 """
@@ -20,6 +21,10 @@ import hudarin  # noqa: E402
 from hudarin import (  # noqa: E402
     FILES,
     FLAGS,
+    OF_DACL,
+    OF_GROUP,
+    OF_OWNER,
+    OF_SACL,
     Access,
     Change,
     Comparison,
@@ -35,6 +40,7 @@ from hudarin import (  # noqa: E402
     Token,
     Verdict,
     View,
+    WholeDescriptor,
     mask,
     mask_names,
 )
@@ -44,6 +50,11 @@ USER = Sid.from_text("S-1-5-21-1-2-3-1001")
 USERS = Sid.from_text("BU")
 READERS = Descriptor.from_sddl("O:BAG:SYD:(A;;FR;;;BU)")
 ROOT = Descriptor.from_sddl("O:SYG:SYD:(A;OICI;FR;;;BU)")
+CLASSES = ("bf967a86-0de6-11d0-a285-00aa003049e2", "bf967aba-0de6-11d0-a285-00aa003049e2")
+ENTRIES = ["(A;;FA;;;WD)", f"(OA;CI;0x10;{CLASSES[0]};{CLASSES[1]};AU)", "(XA;;FX;;;BU;(a))", "(AU;SA;FA;;;WD)"]
+WHOLE = WholeDescriptor.from_sddl("O:BAG:SYD:" + "".join(ENTRIES[:3]) + "S:AI" + ENTRIES[3])
+NONE = WholeDescriptor.from_sddl("")
+EMPTY_SACL = WholeDescriptor.from_sddl("S:")
 
 
 def refused(call: Callable[[], Any]) -> Optional[Tuple[Any, ...]]:
@@ -251,17 +262,13 @@ def one_exception() -> None:
         for text in ("\ud800", "\udcff", "\udfff"):
             gives(f"{name}, {text!a}", ("utf8", 0, None, 0, None), lambda: refused(lambda: call(text)))
     written = bytes(READERS)
-    unsure: List[Any] = ["no", 1, 0, None]
-    for leaves in unsure:
-        raises(f"leaves_sacl={leaves!r}", TypeError, lambda: Descriptor(written, leaves))
-        raises(f"from_sddl, leaves_sacl={leaves!r}", TypeError, lambda: Descriptor.from_sddl("D:", None, leaves))
-        raises(f"from_blob, leaves_sacl={leaves!r}", TypeError, lambda: Descriptor.from_blob(written, 0, leaves))
     groups: List[Any] = [(), (USERS,), (USERS, 0x4, 0x4)]
     for group in groups:
         raises(f"the group {group}", TypeError, lambda: Token(USER, [group]))
     places: List[Tuple[Any, Any]] = [(-1, ValueError), (1 << 64, ValueError), ("0", TypeError), (True, TypeError)]
     for place, kind in places:
-        raises(f"the place {place!r}", kind, lambda: Descriptor.from_blob(written, place))
+        raises(f"the place {place!r}", kind, lambda: WholeDescriptor.from_blob(written, place))
+        raises(f"the parts {place!r}", kind, lambda: WHOLE.with_parts(READERS, place))
     with Token(USER, [USERS]) as token, Store(ROOT) as store, store.publish() as view:
         finds: List[Tuple[str, Callable[[Any], Any]]] = [
             ("check", lambda path: view.check(path, token, "FR")),
@@ -303,8 +310,8 @@ def one_exception() -> None:
     raises("a judge of no store", TypeError, lambda: hudarin.Judge(READERS))  # type: ignore[arg-type]
 
 
-def sacls() -> None:
-    """A SACL is refused, or left out by one keyword."""
+def whole() -> None:
+    """Whole descriptors: their texts, their parts, and their plain parts."""
     # Behind the header, as Windows writes it: an empty SACL, and the rest of READERS.
     written = bytes(READERS)
     head, rest = bytearray(written[:20]), written[20:]
@@ -314,12 +321,57 @@ def sacls() -> None:
     with_sacl = bytes(head) + b"\x02\x00\x08\x00\x00\x00\x00\x00" + rest
     wire = ("wire", 4, "HasSacl", 0, None)
     gives("a SACL", wire, lambda: refused(lambda: Descriptor(with_sacl)))
-    gives("a SACL, not left out", wire, lambda: refused(lambda: Descriptor(with_sacl, leaves_sacl=False)))
-    gives("a SACL, left out", READERS, lambda: Descriptor(with_sacl, leaves_sacl=True))
-    gives("no SACL, left out", READERS, lambda: Descriptor(written, leaves_sacl=True))
-    gives("more after it", READERS, lambda: Descriptor(with_sacl + b"more", leaves_sacl=True))
-    gives("out of a blob", (READERS, 1), lambda: Descriptor.from_blob(with_sacl, 0, leaves_sacl=True))
-    gives("out of a blob, refused", wire, lambda: refused(lambda: Descriptor.from_blob(with_sacl, 0)))
+    gives("a SACL, left out", (READERS, 1), lambda: WholeDescriptor(with_sacl).plain())
+    gives("no SACL", (READERS, 0), lambda: WholeDescriptor(READERS).plain())
+    gives("more after it", str(READERS) + "S:", lambda: str(WholeDescriptor(with_sacl + b"more")))
+    gives("a text", str(WHOLE), lambda: str(WholeDescriptor.from_sddl(str(WHOLE))))
+    gives("equal", True, lambda: WHOLE == WholeDescriptor(bytes(WHOLE)) == pickle.loads(pickle.dumps(WHOLE)))
+    gives("of another type", False, lambda: WholeDescriptor(READERS) == READERS)
+    gives("as it is shown", WHOLE, lambda: eval(repr(WHOLE), {"WholeDescriptor": WholeDescriptor}))
+    gives("owner and group", ("BA", "SY"), lambda: (str(WHOLE.owner), str(WHOLE.group)))
+    gives("no owner, no group, no list", 4 * [None], lambda: [NONE.owner, NONE.group, NONE.dacl, NONE.sacl])
+    gives("a null SACL", None, lambda: WholeDescriptor.from_sddl("S:NO_ACCESS_CONTROL").sacl)
+    wholes_entries()
+    wholes_refusals()
+
+
+def wholes_entries() -> None:
+    """The entries of whole descriptors."""
+    given = [*(WHOLE.dacl or ()), *(WHOLE.sacl or ())]
+    gives("their texts", ENTRIES, lambda: [entry.text for entry in given])
+    gives("their types", [0x00, 0x05, 0x09, 0x02], lambda: [entry.type for entry in given])
+    gives("their SIDs", ["WD", "AU", "BU", "WD"], lambda: [str(entry.sid) for entry in given])
+    gives("their masks", [0x1F01FF, 0x10, 0x1200A0, 0x1F01FF], lambda: [entry.mask for entry in given])
+    gives("their flags", [0, 2, 0, 0x40], lambda: [entry.flags for entry in given])
+    gives("object types", CLASSES, lambda: (str(given[1].object_type), str(given[1].inherited_object_type)))
+    gives("no object types", (None, None), lambda: (given[0].object_type, given[0].inherited_object_type))
+    gives("a condition", b"artx", lambda: given[2].data[:4])
+    gives("the list's bytes", True, lambda: b"".join(bytes(entry) for entry in given[:3]) in bytes(WHOLE))
+    opaque = bytearray(bytes(WholeDescriptor.from_sddl("D:(A;;FA;;;WD)")))
+    opaque[28] = 4
+    entry = (WholeDescriptor(opaque).dacl or ())[0]
+    gives("no layout", (4, 0, None, 16, None), lambda: (entry.type, entry.mask, entry.sid, len(entry.data), entry.text))
+    gives("its bytes", bytes(opaque[28:]), lambda: bytes(entry))
+
+
+def wholes_refusals() -> None:
+    """What has no text, what isn't plain, and what is put together."""
+    bits = bytearray(bytes(WHOLE))
+    bits[1], bits[2] = 7, bits[2] | 1
+    has_none = ("no text", 1, "ResourceManager", 0, None)
+    gives("bits without a text", has_none, lambda: refused(lambda: str(WholeDescriptor(bits))))
+    gives("bits left out", (str(WHOLE), 6), lambda: WholeDescriptor(bits).without_bits())
+    odd = ("not plain", 1, "ObjectAce", 1, "DACL")
+    gives("an entry that isn't plain", odd, lambda: refused(WHOLE.plain))
+    opaque = bytearray(bytes(WholeDescriptor.from_sddl("S:(AU;;FA;;;WD)")))
+    opaque[28] = 0x10
+    gives("no text", ("no text", 4, "Opaque", 0, "SACL"), lambda: refused(lambda: str(WholeDescriptor(opaque))))
+    gives("a fault of bytes", ("wire", 1, "Short", 0, None), lambda: refused(lambda: WholeDescriptor(b"")))
+    joined = str(READERS) + str(WHOLE)[str(WHOLE).index("S:AI") :]
+    gives("parts of another", joined, lambda: str(WHOLE.with_parts(READERS, OF_OWNER | OF_GROUP | OF_DACL)))
+    audited = WholeDescriptor(READERS).with_parts(EMPTY_SACL, OF_SACL)
+    gives("a SACL of another", str(READERS) + "S:", lambda: str(audited))
+    raises("parts of a text", TypeError, lambda: WHOLE.with_parts("D:", OF_DACL))  # type: ignore[arg-type]
 
 
 def analysis() -> None:
@@ -423,7 +475,7 @@ def _user(change: Change) -> Tuple[bool, str]:
 
 
 def main() -> int:
-    for test in (truth, copies, refusals, pool, again, parts, names, one_exception, sacls, analysis, findings, reviews):
+    for test in (truth, copies, refusals, pool, again, parts, names, one_exception, whole, analysis, findings, reviews):
         test()
     gives("all names of the module", [], lambda: [name for name in hudarin.__all__ if not hasattr(hudarin, name)])
     gives("the mapping of files", FILES, lambda: (mask("FR"), mask("FW"), mask("FX"), mask("FA")))

@@ -1,5 +1,5 @@
-/* The parts of kept descriptors, whose bytes and flags are worked by hand from [MS-DTYP] 2.4; SIDs in full; texts whose
- * SACL is left out; and the names of statuses and faults, by docs/FORMATS.md and docs/TREE.md. */
+/* The parts of kept descriptors, whose bytes and flags are worked by hand from [MS-DTYP] 2.4; SIDs in full; and the names
+ * of statuses and faults, by docs/FORMATS.md and docs/TREE.md. */
 #include "tally.h"
 
 #define USER 1, 5, 0, 0, 0, 0, 0, 5, 21, 0, 0, 0, 1, 0, 0, 0, 2, 0, 0, 0, 3, 0, 0, 0, 0xe9, 3, 0, 0
@@ -182,44 +182,6 @@ static void mask_texts(void)
     WRITES(hudarin_mask_to_text(0, room, length), "0x0", 3);
 }
 
-/* That the text is written as the other one, and that this is left out of it. */
-static void trims(const unsigned char *domain, size_t domain_length, const char *given, const char *same,
-                  uint32_t left_out)
-{
-    unsigned char one[200], other[200];
-    hudarin_trimmed trimmed = hudarin_sddl_trim(domain, domain_length, given, strlen(given), one, sizeof one);
-    hudarin_written plain = hudarin_sddl_to_bytes(same, strlen(same), other, sizeof other);
-    HOLDS(trimmed.written.status == HUDARIN_OK && plain.status == HUDARIN_OK && trimmed.left_out == left_out);
-    HOLDS(trimmed.written.length == plain.length && memcmp(one, other, (size_t)plain.length) == 0);
-    trimmed = hudarin_sddl_trim(domain, domain_length, given, strlen(given), NULL, 0);
-    HOLDS(trimmed.written.status == HUDARIN_ROOM && trimmed.written.length == plain.length);
-    HOLDS(trimmed.left_out == left_out);
-}
-
-static void is_not_trimmed(size_t domain_length, const char *given, uint32_t status, uint32_t fault, uint64_t place)
-{
-    unsigned char room[200];
-    hudarin_trimmed trimmed = hudarin_sddl_trim(user, domain_length, given, strlen(given), room, sizeof room);
-    HOLDS(trimmed.written.status == status && trimmed.written.fault == fault && trimmed.written.place == place);
-    HOLDS(trimmed.written.length == 0 && trimmed.left_out == 0);
-}
-
-static void without_sacl(void)
-{
-    unsigned char domain[24];
-    memcpy(domain, user, sizeof domain);
-    domain[1] = 4;
-    trims(NULL, 0, "O:BAD:(A;;FA;;;WD)S:AI(AU;SAFA;FA;;;WD)(ML;;NW;;;LW)", "O:BAD:(A;;FA;;;WD)", HUDARIN_LEFT_OUT_SACL);
-    trims(NULL, 0, "O:BAD:(A;;FA;;;WD)", "O:BAD:(A;;FA;;;WD)", 0);
-    trims(NULL, 0, "S:NO_ACCESS_CONTROL", "", HUDARIN_LEFT_OUT_SACL);
-    trims(domain, sizeof domain, "O:DAS:(AU;SA;FA;;;DU)", "O:S-1-5-21-1-2-3-512", HUDARIN_LEFT_OUT_SACL);
-    is_not_trimmed(0, "O:DA", HUDARIN_TEXT, HUDARIN_TEXT_DOMAIN_ALIAS, 2);
-    is_not_trimmed(0, "S:(A;;FA;;;WD)", HUDARIN_TEXT, HUDARIN_TEXT_ENTRY_KIND, 3);
-    is_not_trimmed(0, "S:\xff", HUDARIN_UTF8, 0, 2);
-    is_not_trimmed(sizeof user, "\xff", HUDARIN_DOMAIN, 0, 0);
-    is_not_trimmed(1, "", HUDARIN_SID, HUDARIN_SID_SHORT, 0);
-}
-
 /* The names of the faults of each status, in the order of their numbers. */
 static const struct {
     uint32_t status;
@@ -236,6 +198,8 @@ static const struct {
       { "NoParent", "ParentIsObject", "Exists", "NoNode", "NotEmpty", "IsRoot", "InheritedEntry", "NotCanonical",
         "AclTooLarge", "TooDeep", "NodesFull", "JournalFull", "IntoItself" } },
     { HUDARIN_LIMITS, { "NoNodes", "TooManyNodes", "TooManyEdits" } },
+    { HUDARIN_NO_TEXT, { "ResourceManager", "Control", "Keywords", "Opaque", "Kind", "Data" } },
+    { HUDARIN_NOT_PLAIN, { "ObjectAce", "ConditionalAce", "SystemAce", "OpaqueAce" } },
 };
 
 static void names(void)
@@ -256,7 +220,7 @@ static void names(void)
     WRITES(hudarin_status_text(HUDARIN_MEMORY, room, length), "out of memory", 13);
     WRITES(hudarin_status_text(HUDARIN_REFUSED, room, length), "the tree refuses the edit", 25);
     /* Each status has a text of its own, and no other number has one. */
-    for (status = 0; status <= HUDARIN_LIMITS; status++) {
+    for (status = 0; status <= HUDARIN_NOT_PLAIN; status++) {
         hudarin_written answer = hudarin_status_text(status, one, sizeof one);
         HOLDS(answer.status == HUDARIN_OK && answer.length > 0);
         for (before = 0; before < status; before++) {
@@ -264,7 +228,7 @@ static void names(void)
             HOLDS(earlier.length != answer.length || memcmp(one, other, (size_t)answer.length) != 0);
         }
     }
-    HOLDS(is_unwritten(hudarin_status_text(HUDARIN_LIMITS + 1, one, sizeof one), HUDARIN_OK));
+    HOLDS(is_unwritten(hudarin_status_text(HUDARIN_NOT_PLAIN + 1, one, sizeof one), HUDARIN_OK));
     HOLDS(is_unwritten(hudarin_status_text(UINT32_MAX, one, sizeof one), HUDARIN_OK));
 }
 
@@ -281,7 +245,6 @@ int main(void)
     handles();
     full_texts();
     mask_texts();
-    without_sacl();
     names();
     return close_tally();
 }

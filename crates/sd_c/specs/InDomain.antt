@@ -1,5 +1,5 @@
 -- The answers of the calls that parse the aliases of a domain's accounts and groups ([MS-DTYP] 2.4.2.4).
-use Rattle.std.specs.Prelude.{◌≡◌, ◌⊎◌, ℕ, List, Some, Ok, Err}
+use Rattle.std.specs.Prelude.{◌≡◌, ◌⊎◌, ℕ, List, length, Option, Some, None, Ok, Err}
 use Rattle.sd_sid.specs.Sid.{SidValue}
 use Rattle.sd_sid.specs.SidBytes.{sid_reading, bytes_of_sid}
 use Rattle.sd_acl.specs.Descriptor.{DescriptorValue}
@@ -18,6 +18,11 @@ use Rattle.sd_c.specs.Written.{RefusesText}
 -- the domain's SID is at the front of the bytes
 abbrev pub IsDomainOf : List ℕ → Domain → Type 0
 IsDomainOf bytes domain = (n : ℕ) × (sid_reading bytes ≡ Ok (domain_sid domain, n))
+
+-- the domain of an argument that may be left out: without bytes there is none
+abbrev pub IsDomainArgument : List ℕ → Option Domain → Type 0
+IsDomainArgument bytes None = length bytes ≡ 0
+IsDomainArgument bytes (Some domain) = IsDomainOf bytes domain
 
 -- a SID that is no domain's is there
 abbrev pub IsOfNoDomain : List ℕ → Type 0

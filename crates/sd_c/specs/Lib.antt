@@ -11,12 +11,14 @@ pub mod Kept
 pub mod Publishing
 pub mod Views
 pub mod Nodes
-pub mod Trim
 pub mod OverBytes
 pub mod Explaining
 pub mod Meaning
 pub mod Entries
 pub mod Lines
-pub mod WithoutSacl
+pub mod Whole
+pub mod Plain
+pub mod WithParts
+pub mod WholeParts
 pub mod Analysis
 pub mod Review

@@ -17,6 +17,11 @@ use Rattle.sd_edit.specs.declared.limits.LimitsError.{LimitsError}
 use Rattle.sd_edit.specs.declared.limits.LimitsError.TheVariants as limits
 use Rattle.sd_edit.specs.declared.refusal.EditRefusal.{EditRefusal}
 use Rattle.sd_edit.specs.declared.refusal.EditRefusal.TheVariants as refusals
+use Rattle.sd_whole.specs.Plain.{odd_name, odd_number}
+use Rattle.sd_whole.specs.declared.plain.OddKind.{OddKind}
+use Rattle.sd_whole.specs.declared.plain.OddKind.TheVariants as odd
+use Rattle.sd_whole_text.specs.NoText.{no_text_name, no_text_number}
+use Rattle.sd_whole_text.specs.declared.no_text.NoText.{NoText}
 
 -- what a status means; nothing of a number that is no status
 abbrev pub status_text : ℕ → List ℕ
@@ -41,6 +46,8 @@ status_text n =
     else if n == 17 then codes "the SID is no domain's"
     else if n == 18 then codes "there is no such part"
     else if n == 19 then codes "a limit of the store is out of range"
+    else if n == 20 then codes "a part of the descriptor has no text"
+    else if n == 21 then codes "an entry of the DACL isn't plain"
     else []
 
 -- ---- the fault with a number
@@ -110,6 +117,24 @@ limits_fault n =
     else if n == 3 then Some limits.TooManyEdits
     else None
 
+abbrev pub no_text_fault_name : ℕ → List ℕ
+no_text_fault_name n =
+    if n == 1 then codes "ResourceManager"
+    else if n == 2 then codes "Control"
+    else if n == 3 then codes "Keywords"
+    else if n == 4 then codes "Opaque"
+    else if n == 5 then codes "Kind"
+    else if n == 6 then codes "Data"
+    else []
+
+abbrev pub odd_kind : ℕ → Option OddKind
+odd_kind n =
+    if n == 1 then Some odd.ObjectAce
+    else if n == 2 then Some odd.ConditionalAce
+    else if n == 3 then Some odd.SystemAce
+    else if n == 4 then Some odd.OpaqueAce
+    else None
+
 -- ---- its name
 
 -- nothing where there is no such fault
@@ -125,6 +150,8 @@ fault_name status n =
     else if status == 13 then path_fault_name n
     else if status == 15 then name_or_nothing refusal_name (refusal_of n)
     else if status == 19 then name_or_nothing limits_error_name (limits_fault n)
+    else if status == 20 then no_text_fault_name n
+    else if status == 21 then name_or_nothing odd_name (odd_kind n)
     else []
 
 -- each fault that a call answers has its name at its number. Bytes have no authority of 2^48, and want of memory is a
@@ -141,3 +168,5 @@ FaultsHaveNames =
     × (fault_name 13 (path_error_number paths.TooManyNames) ≡ codes "TooManyNames")
     × ((r : EditRefusal) → fault_name 15 (refusal_number r) ≡ refusal_name r)
     × ((l : LimitsError) → fault_name 19 (limits_error_number l) ≡ limits_error_name l)
+    × ((why : NoText) → fault_name 20 (no_text_number why) ≡ no_text_name why)
+    × ((k : OddKind) → fault_name 21 (odd_number k) ≡ odd_name k)

@@ -1,5 +1,5 @@
 -- The answers of the calls that write into the caller's buffer.
-use Rattle.std.specs.Prelude.{◌≡◌, ◌⊎◌, ℕ, nat_lt, true, List, ◌++◌, length, drop, Ok, Err, if◌then◌else◌}
+use Rattle.std.specs.Prelude.{◌≡◌, ◌⊎◌, ℕ, ◌-◌, nat_lt, true, List, ◌++◌, length, drop, Ok, Err, if◌then◌else◌}
 use Rattle.std.specs.Str.{IsUtf8, IsValidUpTo}
 use Rattle.sd_sid.specs.Sid.{SidValue, sid_error_number}
 use Rattle.sd_sid.specs.SidBytes.{sid_reading, bytes_of_sid}
@@ -19,7 +19,12 @@ use Rattle.sd_text.specs.declared.fault.TextError.TheVariants as errors
 use Rattle.sd_c.specs.declared.call_answer.Written.{Written}
 use Rattle.sd_c.specs.declared.call_answer.MaskAnswer.{MaskAnswer}
 use Rattle.sd_c.specs.declared.refusal.Refusal.{Refusal}
-use Rattle.sd_c.specs.declared.refusal.Refusal.TheVariants.{Memory, Utf8, Text, Wire, Sid, NoDomain}
+use Rattle.sd_whole.specs.Plain.{odd_number}
+use Rattle.sd_whole_text.specs.NoText.{no_text_number}
+use Rattle.sd_whole_text.specs.declared.no_text.NoText.{NoText as Reason}
+use Rattle.sd_whole_text.specs.declared.no_text.NoText.TheVariants as reasons
+use Rattle.sd_c.specs.declared.refusal.Refusal.TheVariants.{Memory, Utf8, Text, Wire, Sid, NoDomain, Lacking}
+use Rattle.sd_c.specs.declared.refusal.Refusal.TheVariants.{NoText, NotPlain}
 
 -- ---- the answer and the buffer
 
@@ -37,9 +42,18 @@ written bytes room =
 abbrev pub room_with : List ℕ → List ℕ → List ℕ
 room_with bytes room = if nat_lt (length room) (length bytes) then room else bytes ++ drop (length bytes) room
 
--- nothing is written: why, the fault's number, and its offset in a text
+-- nothing is written: why, the fault's number, and its offset in a text or the index of an entry
 abbrev pub not_written : ℕ → ℕ → ℕ → Written
 not_written status fault place = record { status = status; fault = fault; place = place; length = 0 }
+
+-- the index of the entry that has no text, which the reason counts from 1
+abbrev pub index_of : Reason → ℕ
+index_of reasons.ResourceManager = 0
+index_of reasons.Control = 0
+index_of (reasons.Keywords acl) = 0
+index_of (reasons.Opaque acl entry) = entry - 1
+index_of (reasons.Kind acl entry) = entry - 1
+index_of (reasons.Data acl entry) = entry - 1
 
 abbrev pub refused : Refusal → Written
 refused Memory = not_written 1 0 0
@@ -48,6 +62,9 @@ refused (Text fault place) = not_written 4 (number_of fault) place
 refused (Wire fault) = not_written 5 (wire_fault_number fault) 0
 refused (Sid fault) = not_written 6 (sid_error_number fault) 0
 refused NoDomain = not_written 17 0 0
+refused Lacking = not_written 18 0 0
+refused (NoText why) = not_written 20 (no_text_number why) (index_of why)
+refused (NotPlain odd) = not_written 21 (odd_number odd.kind) (odd.entry - 1)
 
 -- the call writes these bytes, or returns that the buffer is too small for them
 abbrev pub Writes : List ℕ → List ℕ → List ℕ → Written → Type 0

@@ -3,12 +3,13 @@
 ghost use Rattle.std.specs.Prelude.{◌≡◌};
 ghost use Rattle.sd_c.specs.CallAnswer.{given, verdict_given, unread, not_read, unwritten, why_not};
 ghost use Rattle.sd_c.specs.Length.{length_told};
-ghost use Rattle.sd_c.specs.Written.{Writes, mask_given, no_mask, not_written, refused};
+ghost use Rattle.sd_c.specs.Written.{Writes, index_of, mask_given, no_mask, not_written, refused};
 
 use crate::refusal::Refusal;
 use crate::stop::{NotRead, Stop};
 use sd_check::Verdict;
 use sd_sid::Mask;
+use sd_whole_text::NoText;
 
 /// Success.
 pub const OK: u32 = 0;
@@ -50,6 +51,10 @@ pub const DOMAIN: u32 = 17;
 pub const NO_PART: u32 = 18;
 /// Numbers are no limits of a store; the fault is one of those of `LimitsError`.
 pub const LIMITS: u32 = 19;
+/// A part of a descriptor has no text; the fault is one of those of `NoText`.
+pub const NO_TEXT: u32 = 20;
+/// An entry of a DACL isn't plain; the fault is one of those of `OddKind`.
+pub const NOT_PLAIN: u32 = 21;
 
 /// The answer of a check: a verdict and its mask, or which argument is invalid.
 #[repr(C)]
@@ -149,7 +154,7 @@ pub struct Written {
     pub status: u32,
     /// The fault's number, 0 where there is none.
     pub fault: u32,
-    /// The byte offset of a fault in a text.
+    /// The byte offset of a fault in a text, or the index of an entry.
     pub place: u64,
     /// The number of bytes that are written, or required where the buffer is too small.
     pub length: u64,
@@ -217,6 +222,27 @@ pub(crate) fn refused(why: Refusal) -> Written
         Refusal::Wire(fault) => not_written(WIRE, fault.number(), 0),
         Refusal::Sid(fault) => not_written(SID, fault.number(), 0),
         Refusal::NoDomain => not_written(DOMAIN, 0, 0),
+        Refusal::Lacking => not_written(NO_PART, 0, 0),
+        Refusal::NoText(why) => not_written(NO_TEXT, why.number(), index_of(why)),
+        Refusal::NotPlain(odd) => {
+            not_written(
+                NOT_PLAIN,
+                odd.kind.number(),
+                odd.entry.saturating_sub(1) as u64,
+            )
+        }
+    }
+}
+
+/// The index, from 0, of the entry that has no text, which the reason counts from 1; else 0.
+fn index_of(why: NoText) -> u64
+    ensures { result ≡ index_of why }
+{
+    match why {
+        NoText::ResourceManager | NoText::Control | NoText::Keywords(_) => 0,
+        NoText::Opaque(_, entry) | NoText::Kind(_, entry) | NoText::Data(_, entry) => {
+            entry.saturating_sub(1) as u64
+        }
     }
 }
 

@@ -1,10 +1,10 @@
 //! The calls that parse the aliases of a domain's accounts and groups ([MS-DTYP] 2.4.2.4).
 
-ghost use Rattle.std.specs.Prelude.{IfErr, IfOk};
+ghost use Rattle.std.specs.Prelude.{◌<◌, IfErr, IfOk, length};
 ghost use Rattle.sd_text.specs.Sddl.{sddl_in};
 ghost use Rattle.sd_text.specs.Sid.{sid_text_in};
 ghost use Rattle.sd_c.specs.Edits.{IsSid};
-ghost use Rattle.sd_c.specs.InDomain.{IsDomainOf, IsFormOfIn, IsSidOfIn, RefusesDomain, RefusesIn};
+ghost use Rattle.sd_c.specs.InDomain.{IsDomainArgument, IsDomainOf, IsFormOfIn, IsSidOfIn, RefusesDomain, RefusesIn};
 ghost use Rattle.sd_c.specs.Written.{Answers};
 
 use crate::call_answer::{Written, refused, write};
@@ -63,6 +63,18 @@ pub(crate) fn domain_of(bytes: &[u8]) -> Result<Domain, Refusal>
         Some(domain) => Ok(domain),
         None => Err(Refusal::NoDomain),
     }
+}
+
+/// The domain whose SID is at the front of the bytes; none without bytes.
+pub(crate) fn domain_argument(bytes: &[u8]) -> Result<Option<Domain>, Refusal>
+    ensures ok { IfOk result (λ domain. IsDomainArgument bytes.now domain) }
+    ensures err { IfErr result (λ why. (0 < length bytes.now) × RefusesDomain bytes.now why) }
+{
+    if bytes.is_empty() {
+        return Ok(None);
+    }
+    let domain = domain_of(bytes)?;
+    Ok(Some(domain))
 }
 
 /// The SID at the front of the bytes.

@@ -27,6 +27,7 @@ mod meaning;
 mod nodes;
 mod not_done;
 mod over_bytes;
+mod plain;
 mod refusal;
 mod request;
 mod review;
@@ -34,10 +35,11 @@ mod sharing;
 mod stop;
 mod stores;
 mod text;
-mod trim;
 mod version;
 mod views;
-mod without_sacl;
+mod whole;
+mod whole_parts;
+mod with_parts;
 
 pub use analysis::{CompareAnswer, hudarin_compare, hudarin_lint, hudarin_who};
 pub use bytes::{hudarin_bytes_to_sddl, hudarin_sid_bytes_to_full_text, hudarin_sid_bytes_to_text};
@@ -59,6 +61,7 @@ pub use meaning::{faults_have_names, hudarin_fault_name, hudarin_status_text};
 pub use nodes::{NodeAnswer, hudarin_view_node, hudarin_view_own, own_forms_come_back};
 pub use not_done::{NotDone, PathArgument};
 pub use over_bytes::hudarin_check_bytes;
+pub use plain::{Trimmed, hudarin_whole_plain, hudarin_whole_to_sddl};
 pub use review::{ReviewAnswer, hudarin_store_review};
 pub use sharing::hudarin_share;
 pub use stores::{
@@ -69,7 +72,10 @@ pub use text::{
     hudarin_mask_from_text, hudarin_mask_to_text, hudarin_sddl_canonical, hudarin_sddl_to_bytes,
     hudarin_sid_text_to_bytes,
 };
-pub use trim::{Trimmed, hudarin_descriptor_trim};
 pub use version::{Version, hudarin_version};
 pub use views::{ViewAnswer, hudarin_journal_length, hudarin_view_check, hudarin_view_descriptor};
-pub use without_sacl::hudarin_sddl_trim;
+pub use whole::{hudarin_whole_at, hudarin_whole_from_sddl};
+pub use whole_parts::{
+    WholeEntry, WholeListAnswer, hudarin_whole_entry, hudarin_whole_list, hudarin_whole_trustee,
+};
+pub use with_parts::hudarin_whole_with_parts;

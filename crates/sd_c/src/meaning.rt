@@ -1,17 +1,19 @@
 //! What the statuses and faults of an answer mean, in words.
 
 ghost use Rattle.std.specs.Prelude.{◌≡◌};
-ghost use Rattle.sd_c.specs.Meaning.{FaultsHaveNames, fault_name, limits_fault, path_fault_name, refusal_of, sid_fault};
-ghost use Rattle.sd_c.specs.Meaning.{status_text, text_fault, wire_fault};
+ghost use Rattle.sd_c.specs.Meaning.{FaultsHaveNames, fault_name, limits_fault, no_text_fault_name, odd_kind};
+ghost use Rattle.sd_c.specs.Meaning.{path_fault_name, refusal_of, sid_fault, status_text, text_fault, wire_fault};
 ghost use Rattle.sd_c.specs.Written.{Writes};
 
 use crate::call_answer::{
-    BEHIND_GROUPS, DOMAIN, EDIT, HANDLE, LIMITS, MAPPING, MEMORY, NO_NODE, NO_PART, OK, PARTS,
-    PATH, PRIVILEGES, REFUSED, ROOM, SID, STATE, TEXT, UTF8, WIRE, Written, write,
+    BEHIND_GROUPS, DOMAIN, EDIT, HANDLE, LIMITS, MAPPING, MEMORY, NO_NODE, NO_PART, NO_TEXT,
+    NOT_PLAIN, OK, PARTS, PATH, PRIVILEGES, REFUSED, ROOM, SID, STATE, TEXT, UTF8, WIRE, Written,
+    write,
 };
 use sd_sid::SidError;
 use sd_text::TextFault;
 use sd_tree::{EditRefusal, LimitsError};
+use sd_whole::OddKind;
 use sd_wire::WireFault;
 
 /// Writes what a status means into the buffer; of a number that is no status nothing. Takes no memory.
@@ -59,6 +61,8 @@ fn status_text(status: u32) -> &'static str
         DOMAIN => "the SID is no domain's",
         NO_PART => "there is no such part",
         LIMITS => "a limit of the store is out of range",
+        NO_TEXT => "a part of the descriptor has no text",
+        NOT_PLAIN => "an entry of the DACL isn't plain",
         _ => "",
     }
 }
@@ -86,6 +90,11 @@ fn fault_name(status: u32, fault: u32) -> &'static str
         },
         LIMITS => match limits_fault(fault) {
             Some(fault) => fault.name(),
+            None => "",
+        },
+        NO_TEXT => no_text_fault_name(fault),
+        NOT_PLAIN => match odd_kind(fault) {
+            Some(kind) => kind.name(),
             None => "",
         },
         _ => "",
@@ -146,6 +155,32 @@ fn path_fault_name(number: u32) -> &'static str
         2 => "NameTooLong",
         3 => "TooManyNames",
         _ => "",
+    }
+}
+
+fn no_text_fault_name(number: u32) -> &'static str
+    ensures { result.now ≡ no_text_fault_name number }
+{
+    match number {
+        1 => "ResourceManager",
+        2 => "Control",
+        3 => "Keywords",
+        4 => "Opaque",
+        5 => "Kind",
+        6 => "Data",
+        _ => "",
+    }
+}
+
+fn odd_kind(number: u32) -> Option<OddKind>
+    ensures { result ≡ odd_kind number }
+{
+    match number {
+        1 => Some(OddKind::ObjectAce),
+        2 => Some(OddKind::ConditionalAce),
+        3 => Some(OddKind::SystemAce),
+        4 => Some(OddKind::OpaqueAce),
+        _ => None,
     }
 }
 

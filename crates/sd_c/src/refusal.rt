@@ -5,6 +5,8 @@ ghost use Rattle.sd_c.specs.declared.refusal.Refusal.TheVariants.{Memory};
 
 use sd_sid::SidError;
 use sd_text::TextFault;
+use sd_whole::OddEntry;
+use sd_whole_text::NoText;
 use sd_wire::WireFault;
 use std::alloc::AllocError;
 
@@ -23,6 +25,12 @@ pub enum Refusal {
     Sid(SidError),
     /// The SID at their front is no domain's.
     NoDomain,
+    /// The descriptor doesn't have the part.
+    Lacking,
+    /// This part of the descriptor has no text.
+    NoText(NoText),
+    /// This entry of the DACL is no allow and no deny of a plain list.
+    NotPlain(OddEntry),
 }
 
 impl From<AllocError> for Refusal {
