@@ -6,9 +6,9 @@
     >>> bool(verdict), str(verdict)
     (True, 'granted 0x120089')
 
-A ``Sid`` and a ``Descriptor`` are values: they never change, and are compared, copied and pickled by their bytes. A
-``Token``, a ``KeptDescriptor``, a ``Store`` and a ``View`` hold memory of the library until they are closed, and can't
-be copied. Any number of threads may use this module.
+A ``Sid``, a ``Descriptor`` and a ``WholeDescriptor`` are values: they never change, and are compared, copied and
+pickled by their bytes. A ``Token``, a ``KeptDescriptor``, a ``Store`` and a ``View`` hold memory of the library until
+they are closed, and can't be copied. Any number of threads may use this module.
 
 A value of the wrong type is a TypeError. A number out of range is a ValueError. What the library rejects is a
 ``Refused``, which is a ValueError too. Out of memory is a MemoryError.
@@ -22,7 +22,9 @@ import ctypes
 import functools
 import itertools
 import os
+import struct
 import threading
+import uuid
 from typing import Any, Callable, ContextManager, Dict, Iterable, Iterator, List, NamedTuple, NoReturn, Optional
 from typing import SupportsBytes, Tuple, Type, TypeVar, Union, cast
 
@@ -51,6 +53,10 @@ __all__ = [
     "KeptDescriptor",
     "Mask",
     "Node",
+    "OF_DACL",
+    "OF_GROUP",
+    "OF_OWNER",
+    "OF_SACL",
     "PROCESSES",
     "Part",
     "Refused",
@@ -65,6 +71,8 @@ __all__ = [
     "VERDICTS",
     "Verdict",
     "View",
+    "WholeDescriptor",
+    "WholeEntry",
     "mask",
     "mask_names",
 ]
@@ -95,6 +103,8 @@ STATUSES = {
     17: "domain",
     18: "no part",
     19: "limits",
+    20: "no text",
+    21: "not plain",
 }
 VERDICTS = {1: "granted", 2: "denied", 3: "reserved", 4: "empty"}
 ARGUMENTS = {
@@ -140,12 +150,16 @@ KEYS = (0x20019, 0x20006, 0x20019, 0xF003F)
 SERVICES = (0x2008D, 0x20002, 0x20170, 0xF01FF)
 PROCESSES = (0x20410, 0x20BEA, 0x121001, 0x1FFFFF)
 
+#: The parts of a whole descriptor, joined by |.
+OF_OWNER, OF_GROUP, OF_DACL, OF_SACL = 0x1, 0x2, 0x4, 0x8
+
 _MAXIMUM_ALLOWED = 0x02000000
 _MEMORY, _ROOM, _TEXT, _HANDLE, _NO_NODE, _NO_PART = 1, 2, 4, 11, 16, 18
-_WITH_FAULTS = (_TEXT, 5, 6, 13, 15, 19)
+_WITH_FAULTS = (_TEXT, 5, 6, 13, 15, 19, 20, 21)
 _CONTAINER = 1
-_DESCRIPTOR_BYTES = 65688
 _LIST, _ALLOW, _PROTECTED = 3, 1, 0x1000
+_LISTS = {1: "DACL", 2: "SACL"}
+_OBJECT_TYPES = (0x05, 0x06, 0x07, 0x08, 0x0B, 0x0C, 0x0F)
 _BY_THE_LIST = 2
 _NO_PASS, _NO_ENTRY = 0, 3
 _OF_SID, _OF_TEXT = 3, 4
@@ -195,7 +209,31 @@ class _Written(ctypes.Structure):
 
 
 class _Trimmed(ctypes.Structure):
-    _fields_ = [("written", _Written), ("left_out", _U32)]
+    _fields_ = [("written", _Written), ("left_out", _U32), ("list", _U32)]
+
+
+class _WholeList(ctypes.Structure):
+    _fields_ = [
+        ("status", _U32),
+        ("fault", _U32),
+        ("kind", _U32),
+        ("revision", _U32),
+        ("control", _U32),
+        ("entries", _U64),
+    ]
+
+
+class _WholeEntry(ctypes.Structure):
+    _fields_ = [
+        ("written", _Written),
+        ("type", _U32),
+        ("flags", _U32),
+        ("mask", _U32),
+        ("object_types", _U32),
+        ("object_type", ctypes.c_ubyte * 16),
+        ("inherited_object_type", ctypes.c_ubyte * 16),
+        ("sid_length", _U64),
+    ]
 
 
 class _NodeAnswer(ctypes.Structure):
@@ -287,9 +325,15 @@ def _load() -> ctypes.CDLL:
         "sid_bytes_to_full_text": (given + buffer, _Written),
         "sddl_to_bytes_in": (given * 2 + buffer, _Written),
         "sid_text_to_bytes_in": (given * 2 + buffer, _Written),
-        "sddl_trim": (given * 2 + buffer, _Trimmed),
         "descriptor_length": (given, _Written),
-        "descriptor_trim": (given + [_U64, _U32] + buffer, _Trimmed),
+        "whole_from_sddl": (given * 2 + buffer, _Written),
+        "whole_to_sddl": (given + [_U32] + buffer, _Trimmed),
+        "whole_at": (given + [_U64] + buffer, _Written),
+        "whole_plain": (given + buffer, _Trimmed),
+        "whole_with_parts": (given * 2 + [_U32] + buffer, _Written),
+        "whole_trustee": (given + [_U32] + buffer, _Written),
+        "whole_list": (given + [_U32], _WholeList),
+        "whole_entry": (given + [_U32, _U64] + buffer, _WholeEntry),
         "mask_from_text": (given, _Mask),
         "mask_to_text": ([_U32] + buffer, _Written),
         "check": (given + token + request, _Verdict),
@@ -360,8 +404,8 @@ def _fault_names(status: int) -> Iterator[str]:
 
 
 #: The names of faults, by status and in the order of their numbers, which count from 1: of a text (SDDL, a SID or a
-#: mask), of a descriptor's bytes, of a SID's bytes, of a path, of an edit that the tree refuses, and of the limits of a
-#: store.
+#: mask), of a descriptor's bytes, of a SID's bytes, of a path, of an edit that the tree refuses, of the limits of a
+#: store, of what has no text, and of an entry that isn't plain.
 FAULTS = {STATUSES[status]: tuple(_fault_names(status)) for status in _WITH_FAULTS}
 
 
@@ -374,9 +418,10 @@ class Refused(ValueError):
     fault: int
     #: The fault's name in ``FAULTS``, or None.
     name: Optional[str]
-    #: Of a text the offset of the fault in bytes, of groups and restricting SIDs the index; otherwise 0.
+    #: Of a text the offset of the fault in bytes, of groups, restricting SIDs and entries the index; otherwise 0.
     place: int
-    #: The name of the argument in ``ARGUMENTS``, or None.
+    #: The name of the argument in ``ARGUMENTS``, or None. Of what has no text or isn't plain its list, "DACL" or
+    #: "SACL".
     argument: Optional[str]
 
     def __init__(
@@ -489,7 +534,7 @@ def _filled(
         if written.status == 0:
             return buffer.raw[: written.length], answer
         if written.status != _ROOM:
-            named = ARGUMENTS.get(getattr(answer, "argument", 0))
+            named = ARGUMENTS.get(getattr(answer, "argument", 0)) or _LISTS.get(getattr(answer, "list", 0))
             _refuse(written, kind, argument(written) if argument else named)
         buffer = (ctypes.c_char * written.length)()
 
@@ -974,37 +1019,20 @@ def _finding(lines: _Lines, index: int) -> Finding:
 
 class Descriptor(_Bytes):
     """A security descriptor: ``Descriptor(data)`` is the one at the front of the bytes, which are in self-relative
-    form. It keeps them up to the end of its last part. A SACL is ``Refused``, unless ``leaves_sacl`` is True: then
-    it is left out, and the bytes are those that ``from_sddl`` makes."""
+    form. It keeps them up to the end of its last part. A SACL, and entries of other types than allow and deny, are
+    ``Refused``: a ``WholeDescriptor`` has them, and ``plain`` leaves its SACL out."""
 
     __slots__ = ()
 
-    def __new__(cls, data: Data, leaves_sacl: bool = False) -> "Descriptor":
+    def __new__(cls, data: Data) -> "Descriptor":
         given = _data(data)
-        if _of_type(leaves_sacl, bool, "leaves_sacl"):
-            return cls.from_blob(given, 0, True)[0]
         return cls._of(given[: _checked(_library.hudarin_descriptor_length(given, len(given))).length])
 
     @classmethod
-    def from_sddl(cls, text: str, domain: Optional[Sid] = None, leaves_sacl: bool = False) -> "Descriptor":
+    def from_sddl(cls, text: str, domain: Optional[Sid] = None) -> "Descriptor":
         """The descriptor that the SDDL text spells. With a ``domain`` the aliases of a domain's accounts and groups, as
-        "DA", are SIDs of that domain. A SACL is ``Refused``, unless ``leaves_sacl`` is True: then it is left out."""
-        if not _of_type(leaves_sacl, bool, "leaves_sacl"):
-            return cls._of(_spelled("hudarin_sddl_to_bytes", text, domain, "sddl"))
-        given, sid = _text(text), b"" if domain is None else bytes(_of_type(domain, Sid, "domain"))
-        trim = _library.hudarin_sddl_trim
-        return cls._of(_filled(lambda *buffer: trim(sid, len(sid), given, len(given), *buffer))[0])
-
-    @classmethod
-    def from_blob(cls, data: Data, place: int, leaves_sacl: bool = False) -> Tuple["Descriptor", int]:
-        """The descriptor whose header is at the offset ``place`` of a blob, where its own offsets count from the blob's
-        front, as in Samba's security.NTACL; and what is left out of it: 1 for a SACL, 2 for the resource manager's
-        byte, 3 for both. A SACL is ``Refused``, unless ``leaves_sacl`` is True."""
-        given, buffer = _data(data), ctypes.create_string_buffer(_DESCRIPTOR_BYTES)
-        leave = 1 if _of_type(leaves_sacl, bool, "leaves_sacl") else 0
-        at = _number(place, "place", 64)
-        trimmed = _library.hudarin_descriptor_trim(given, len(given), at, leave, buffer, len(buffer))
-        return cls._of(buffer.raw[: _checked(trimmed.written).length]), trimmed.left_out
+        "DA", are SIDs of that domain."""
+        return cls._of(_spelled("hudarin_sddl_to_bytes", text, domain, "sddl"))
 
     def __str__(self) -> str:
         """The canonical SDDL text."""
@@ -1127,6 +1155,155 @@ def _unnamed(*descriptors: Descriptor) -> Sid:
     named = {sid for one in descriptors for sid in (one.owner, *(entry.sid for entry in one.entries or ()))}
     numbered = (Sid.from_text(f"S-1-0-{number}") for number in itertools.count())
     return next(sid for sid in numbered if sid not in named)
+
+
+class WholeEntry(NamedTuple):
+    """An entry of a whole descriptor's list, of any type."""
+
+    #: AceType ([MS-DTYP] 2.4.4.1): 0 an allow, 1 a deny, 2 an audit, and so on.
+    type: int
+    #: The numbers of ``FLAGS``, joined by |, and bits without a name.
+    flags: int
+    #: 0 where the entry doesn't have the layout of its type, as then ``sid`` is None.
+    mask: int
+    #: The type of objects that the entry is for, and that of the children that inherit it, or None.
+    object_type: Optional[uuid.UUID]
+    inherited_object_type: Optional[uuid.UUID]
+    sid: Optional[Sid]
+    #: What follows the SID, as a condition or a claim; without a SID all that follows the entry's header.
+    data: bytes
+
+    @property
+    def text(self) -> Optional[str]:
+        """The entry in SDDL, or None if it has no text."""
+        entry = bytes(self)
+        # A header and a DACL that has just this entry.
+        alone = struct.pack("<BBHIIIIBBHHH", 1, 0, 0x8004, 0, 0, 0, 20, 4, 0, 8 + len(entry), 1, 0) + entry
+        try:
+            return str(WholeDescriptor(alone))[2:]
+        except Refused:
+            return None
+
+    def __bytes__(self) -> bytes:
+        """The entry as it is in a list."""
+        types = [kind for kind in (self.object_type, self.inherited_object_type) if kind is not None]
+        word = (self.object_type is not None) + 2 * (self.inherited_object_type is not None)
+        body = b"" if self.sid is None else struct.pack("<I", self.mask)
+        if self.sid is not None and self.type in _OBJECT_TYPES:
+            body += struct.pack("<I", word) + b"".join(kind.bytes_le for kind in types)
+        body += (b"" if self.sid is None else bytes(self.sid)) + self.data
+        return struct.pack("<BBH", self.type, self.flags, 4 + len(body)) + body
+
+
+class WholeDescriptor(_Bytes):
+    """A security descriptor with all that Windows writes: a SACL, entries of every type in both lists, every control
+    bit. ``WholeDescriptor(data)`` is the one at the front of the bytes, which are in self-relative form; its own bytes
+    are the one written form."""
+
+    __slots__ = ()
+
+    def __new__(cls, data: Data) -> "WholeDescriptor":
+        return cls.from_blob(data, 0)
+
+    @classmethod
+    def from_sddl(cls, text: str, domain: Optional[Sid] = None) -> "WholeDescriptor":
+        """The descriptor that the SDDL text spells. With a ``domain`` the aliases of a domain's accounts and groups, as
+        "DA", are SIDs of that domain."""
+        given, sid = _text(text), b"" if domain is None else bytes(_of_type(domain, Sid, "domain"))
+        call = _library.hudarin_whole_from_sddl
+        return cls._of(_filled(lambda *buffer: call(sid, len(sid), given, len(given), *buffer))[0])
+
+    @classmethod
+    def from_blob(cls, data: Data, place: int) -> "WholeDescriptor":
+        """The descriptor whose header is at the offset ``place`` of a blob, where its own offsets count from the blob's
+        front, as in Samba's security.NTACL."""
+        given, at = _data(data), _number(place, "place", 64)
+        return cls._of(_filled(lambda *buffer: _library.hudarin_whole_at(given, len(given), at, *buffer))[0])
+
+    def __str__(self) -> str:
+        """The SDDL text. What has none is ``Refused``."""
+        return self._printed(0)[0]
+
+    def without_bits(self) -> Tuple[str, int]:
+        """The SDDL text without what of the header has none, and what that is: 2 for the resource manager's byte, 4 for
+        control bits, 6 for both."""
+        return self._printed(1)
+
+    def _printed(self, leaves_bits: int) -> Tuple[str, int]:
+        given, call = self._bytes, _library.hudarin_whole_to_sddl
+        text, answer = _filled(lambda *buffer: call(given, len(given), leaves_bits, *buffer))
+        return text.decode(), answer.left_out
+
+    def __repr__(self) -> str:
+        return f"WholeDescriptor(bytes.fromhex({self._bytes.hex()!r}))"
+
+    def __eq__(self, other: object) -> bool:
+        return isinstance(other, WholeDescriptor) and self._bytes == other._bytes
+
+    __hash__ = _Bytes.__hash__
+
+    @property
+    def owner(self) -> Optional[Sid]:
+        """The owner, or None."""
+        return self._trustee(OF_OWNER)
+
+    @property
+    def group(self) -> Optional[Sid]:
+        """The group, or None."""
+        return self._trustee(OF_GROUP)
+
+    @property
+    def dacl(self) -> Optional[Tuple[WholeEntry, ...]]:
+        """The entries of the DACL in their order. None if there is no list, but an absent or a null DACL."""
+        return self._entries(1)
+
+    @property
+    def sacl(self) -> Optional[Tuple[WholeEntry, ...]]:
+        """The entries of the SACL in their order. None if there is no list, but an absent or a null SACL."""
+        return self._entries(2)
+
+    def plain(self) -> Tuple[Descriptor, int]:
+        """The descriptor that has the owner, the group and the DACL, and what is left out: joined by | 1 for a SACL, 2
+        for the resource manager's byte, 4 for control bits that speak of something else. An entry of the DACL that is
+        no allow and no deny is ``Refused``."""
+        data, answer = _filled(lambda *buffer: _library.hudarin_whole_plain(self._bytes, len(self._bytes), *buffer))
+        return Descriptor._of(data), answer.left_out
+
+    def with_parts(self, other: Union["WholeDescriptor", Descriptor], parts: int) -> "WholeDescriptor":
+        """The descriptor with these parts of another, ``OF_OWNER`` and so on, joined by |, each with the control bits
+        that speak of it."""
+        if not isinstance(other, (WholeDescriptor, Descriptor)):
+            raise TypeError(f"expected a WholeDescriptor or a Descriptor, not {other!r}")
+        one, two, number = self._bytes, bytes(other), _number(parts, "parts")
+        call = _library.hudarin_whole_with_parts
+        return WholeDescriptor._of(_filled(lambda *buffer: call(one, len(one), two, len(two), number, *buffer))[0])
+
+    def _trustee(self, part: int) -> Optional[Sid]:
+        buffer = _Buffer()
+        answer = _library.hudarin_whole_trustee(self._bytes, len(self._bytes), part, buffer, len(buffer))
+        if answer.status == _NO_PART:
+            return None
+        return Sid._of(buffer.raw[: _checked(answer).length])
+
+    def _entries(self, number: int) -> Optional[Tuple[WholeEntry, ...]]:
+        answer = _checked(_library.hudarin_whole_list(self._bytes, len(self._bytes), number))
+        if answer.kind != _LIST:
+            return None
+        return tuple(self._entry_at(number, index) for index in range(answer.entries))
+
+    def _entry_at(self, number: int, index: int) -> WholeEntry:
+        given, call = self._bytes, _library.hudarin_whole_entry
+        data, answer = _filled(lambda *buffer: call(given, len(given), number, index, *buffer))
+        length, types = answer.sid_length, answer.object_types
+        return WholeEntry(
+            answer.type,
+            answer.flags,
+            answer.mask,
+            uuid.UUID(bytes_le=bytes(answer.object_type)) if types & 1 else None,
+            uuid.UUID(bytes_le=bytes(answer.inherited_object_type)) if types & 2 else None,
+            Sid._of(data[:length]) if length else None,
+            data[length:],
+        )
 
 
 def _entry_texts(text: str) -> Tuple[str, ...]:
