@@ -5,15 +5,10 @@ import enum
 import struct
 from dataclasses import dataclass
 
-from hudarin import Descriptor
+from hudarin import OF_DACL, OF_GROUP, OF_OWNER, Descriptor, WholeDescriptor
 
-#: The revision, the resource manager's byte, the control bits, and the offsets of owner, group, SACL and DACL.
-_HEADER = struct.Struct("<BBHIIII")
-#: The bits that say that owner and group are defaults.
-_OWNER_DEFAULTED, _GROUP_DEFAULTED = 0x1, 0x2
-#: The bits of the DACL: present, defaulted, and those of inheritance.
-_DACL_PRESENT, _SACL_PRESENT = 0x4, 0x10
-_OF_DACL = _DACL_PRESENT | 0x8 | 0x100 | 0x400 | 0x1000
+#: The offsets of owner, group, SACL and DACL in a header, and where they begin.
+_OFFSETS, _OFFSETS_AT = struct.Struct("<4I"), 4
 
 
 class Attribute(enum.Enum):
@@ -54,74 +49,27 @@ class Kept:
 
 def kept_in(attribute: Attribute, blob: bytes) -> Kept:
     """The descriptor that the attribute holds. A ValueError says why there is none."""
-    descriptor, left_out = Descriptor.from_blob(blob, attribute.place_in(blob), leaves_sacl=True)
+    descriptor, left_out = _whole_in(attribute, blob).plain()
     return Kept(str(descriptor), bool(left_out & 1))
 
 
-@dataclass(frozen=True, slots=True)
-class _Split:
-    manager: int
-    control: int
-    owner: bytes
-    group: bytes
-    sacl: bytes
-    dacl: bytes
-
-
-def _split(blob: bytes, place: int = 0) -> _Split:
-    """The parts of a descriptor that the library accepts, without the SACL, whose bounds are tested here."""
-    _, manager, control, owner, group, sacl, dacl = _HEADER.unpack_from(blob, place)
-    return _Split(
-        manager,
-        control,
-        _sid_at(blob, owner),
-        _sid_at(blob, group),
-        _acl_at(blob, sacl if control & _SACL_PRESENT else 0),
-        _acl_at(blob, dacl if control & _DACL_PRESENT else 0),
-    )
-
-
-def _sid_at(blob: bytes, offset: int) -> bytes:
-    return blob[offset : offset + 8 + 4 * blob[offset + 1]] if offset else b""
-
-
-def _acl_at(blob: bytes, offset: int) -> bytes:
-    if offset == 0:
-        return b""
-    if offset + 8 > len(blob):
-        raise ValueError("a list is cut off")
-    (size,) = struct.unpack_from("<H", blob, offset + 2)
-    if size < 8 or offset + size > len(blob):
-        raise ValueError("a list is cut off")
-    return blob[offset : offset + size]
+def _whole_in(attribute: Attribute, blob: bytes) -> WholeDescriptor:
+    return WholeDescriptor.from_blob(blob, attribute.place_in(blob))
 
 
 def replaced(attribute: Attribute, blob: bytes, before: str, after: str) -> bytes:
     """The attribute with the parts of the descriptor that differ between two texts, before and after a change. All else
     stays, as the SACL and what Samba keeps beside the descriptor. The texts are canonical SDDL; a ValueError says why
     the attribute has no descriptor."""
-    place = attribute.place_in(blob)
+    place, has = attribute.place_in(blob), _whole_in(attribute, blob)
     kept_in(attribute, blob)
-    has, old, new = _split(blob, place), _split_text(before), _split_text(after)
-    control, owner, group, dacl = has.control, has.owner, has.group, has.dacl
-    if old.owner != new.owner:
-        owner, control = new.owner, control & ~_OWNER_DEFAULTED
-    if old.group != new.group:
-        group, control = new.group, control & ~_GROUP_DEFAULTED
-    if (old.dacl, old.control & _OF_DACL) != (new.dacl, new.control & _OF_DACL):
-        dacl, control = new.dacl, control & ~_OF_DACL | new.control & _OF_DACL
-    return blob[:place] + _joined(_Split(has.manager, control, owner, group, has.sacl, dacl), place)
+    old, new = (WholeDescriptor(Descriptor.from_sddl(text)) for text in (before, after))
+    changed = sum(part for part in (OF_OWNER, OF_GROUP, OF_DACL) if old.with_parts(new, part) != old)
+    return blob[:place] + _counted_from(place, bytes(has.with_parts(new, changed)))
 
 
-def _split_text(text: str) -> _Split:
-    return _split(bytes(Descriptor.from_sddl(text)))
-
-
-def _joined(parts: _Split, place: int) -> bytes:
-    """The descriptor, whose offsets count from `place` bytes before it. Each part's size is a multiple of 4, but for a
-    SACL's that the library doesn't judge."""
-    body, offsets = b"", []
-    for part in (parts.owner, parts.group, parts.sacl, parts.dacl):
-        offsets.append(place + _HEADER.size + len(body) if part else 0)
-        body += part + bytes(-len(part) % 4)
-    return _HEADER.pack(1, parts.manager, parts.control, *offsets) + body
+def _counted_from(place: int, descriptor: bytes) -> bytes:
+    """The descriptor, whose offsets count from `place` bytes before it."""
+    offsets = (offset + place if offset else 0 for offset in _OFFSETS.unpack_from(descriptor, _OFFSETS_AT))
+    behind = _OFFSETS_AT + _OFFSETS.size
+    return descriptor[:_OFFSETS_AT] + _OFFSETS.pack(*offsets) + descriptor[behind:]

@@ -111,7 +111,8 @@ class Texts(Case):
         script = self.script(status=1, says="2 skipped, 0 differing, 1 SACL dropped")
         self.assertNotIn("/a", script)
         self.assertIn("import object /c O:BAG:SYD:(A;ID;FA;;;BA)\n", script)
-        self.assertRegex(self.rows[0], r"^skipped\t/a\tits descriptor isn't supported: .*\t1$")
+        why = "its descriptor isn't supported: DACL not plain 2 ConditionalAce at 0"
+        self.assertEqual(self.rows[0], f"skipped\t/a\t{why}\t1")
 
     def test_a_null_list_with_flags(self) -> None:
         """AI, AR and P of it are dropped, and what is below it is read too."""
