@@ -6,5 +6,4 @@ pub mod Who
 pub mod Compare
 pub mod Descendants
 pub mod Lint
-pub mod Descriptor
 pub mod Parts

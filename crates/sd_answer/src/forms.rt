@@ -166,4 +166,6 @@ pub const FAULT: LineForm = ("fault", "fault {of}");
 
 pub const FAULT_NAMED: LineForm = ("fault", "fault {of} {number} {name}");
 
+pub const FAULT_ENTRY: LineForm = ("fault", "fault {of} {entry} {name}");
+
 pub const FAULT_AT: LineForm = ("fault", "fault {of} {number} {name} at {at}");

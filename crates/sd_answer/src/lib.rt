@@ -13,7 +13,6 @@
 
 mod compare;
 mod descendants;
-mod descriptor;
 mod forms;
 mod lines;
 mod lint;
@@ -25,7 +24,6 @@ mod word;
 
 pub use compare::push_gains_and_losses;
 pub use descendants::{push_descendants, push_descendants_who, push_inheritance};
-pub use descriptor::read_sddl_argument;
 pub use forms::{
     ADD_CONTAINER, ADD_OBJECT, CLEAN, CONTAINER, DENIED_ALL, EMPTY, EMPTY_DACL, FAULT_AT,
     FAULT_NAMED, FOUND, GONE, GRANTED_BY, LEARNED, MOVED, NEW_NODE, NO_NODE, NO_NOTICE, NO_READER,
@@ -36,7 +34,7 @@ pub use forms::{
 pub use lines::push_made;
 pub use lint::{first_misplaced, lint_lines};
 pub use parts::{dacl_ref, descriptor_ref, entries_in};
-pub use verdict_lines::{fault_line, sddl_fault_line, verdict_line};
+pub use verdict_lines::{entry_fault_line, fault_line, sddl_fault_line, verdict_line};
 pub use who::{rights_asked, who_lines};
 pub use why::why_lines;
 pub use word::{TokenError, read_base, read_token};

@@ -1,8 +1,8 @@
 //! The lines of verdicts and of invalid arguments.
 ghost use Rattle.std.specs.Prelude.{◌≡◌, IfOk};
-ghost use Rattle.sd_answer.specs.VerdictLines.{fault_line, sddl_fault_line, verdict_line};
+ghost use Rattle.sd_answer.specs.VerdictLines.{entry_fault_line, fault_line, sddl_fault_line, verdict_line};
 
-use crate::forms::{DENIED, EMPTY, FAULT, FAULT_AT, GRANTED, RESERVED};
+use crate::forms::{DENIED, EMPTY, FAULT, FAULT_AT, FAULT_ENTRY, GRANTED, RESERVED};
 use sd_check::Verdict;
 use sd_line::{Line, Value};
 use sd_text::TextFault;
@@ -39,4 +39,15 @@ pub fn sddl_fault_line(alloc: Global, fault: TextFault, place: u64) -> Result<Li
     let name = Value::word(alloc, fault.name())?;
     let at = Value::Number(place);
     Line::new(alloc, FAULT_AT, vec![in alloc; of, number, name, at]?)
+}
+
+/// The line of a descriptor's entry that a question doesn't take: its number, from 1 on, and what it is, as
+/// `fault entry 3 ConditionalAce`.
+pub fn entry_fault_line(alloc: Global, entry: u64, name: &str) -> Result<Line, AllocError>
+    ensures { IfOk result (λ line. line ≡ entry_fault_line entry name.now) }
+{
+    let of = Value::word(alloc, "entry")?;
+    let entry = Value::Number(entry);
+    let name = Value::word(alloc, name)?;
+    Line::new(alloc, FAULT_ENTRY, vec![in alloc; of, entry, name]?)
 }

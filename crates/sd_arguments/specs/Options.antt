@@ -24,7 +24,6 @@ use Rattle.sd_usage.specs.declared.row.OptionName.{OptionName}
 use Rattle.sd_usage.specs.declared.row.OptionName.TheVariants.{Aliases, Base64, Below, Caret, Color, Concern, Domain}
 use Rattle.sd_usage.specs.declared.row.OptionName.TheVariants.{Edits, Json, Logon, Loose, Mapping, Names, Nodes, Object}
 use Rattle.sd_usage.specs.declared.row.OptionName.TheVariants.{Percent, RequireDacl, Risks, Whole, WithoutBits}
-use Rattle.sd_usage.specs.declared.row.OptionName.TheVariants.{WithoutSacl}
 use Rattle.sd_usage.specs.declared.row.ProgramOption.{ProgramOption}
 use Rattle.sd_usage.specs.declared.row.TheConstants.{OPTION_COUNT}
 use Rattle.sd_commands.specs.Concern.{GivesConcern, GivesNoConcern, sids_of}
@@ -138,7 +137,6 @@ pub record AreSettings (options : OptionsValue) (settings : Settings) : Type 0 w
   pub mapping : GivesMapping (given options Mapping) settings.mapping
   pub kind : settings.kind ≡ kind_given (given options Mapping)
   pub logon : GivesLogon (given options Logon) settings.logon
-  pub without_sacl : settings.without_sacl ≡ has options WithoutSacl
   pub whole : settings.whole ≡ has options Whole
   pub without_bits : settings.without_bits ≡ has options WithoutBits
   pub require_dacl : settings.require_dacl ≡ has options RequireDacl
@@ -208,7 +206,7 @@ pub record AreScriptOptions (options : OptionsValue) (script_options : ScriptOpt
   pub spelling : script_options.notation.spelling ≡ spelling_of options
   pub domain : GivesDomain (given options Domain) script_options.notation.aliases.domain
   pub later : script_options.notation.aliases.later ≡ has options Aliases
-  pub without_sacl : script_options.notation.without_sacl ≡ has options WithoutSacl
+  pub whole : script_options.notation.whole ≡ has options Whole
   pub output : script_options.notation.output ≡ output_of options
 
 -- in this manner, or this value that isn't read: a limit's only where the others' are

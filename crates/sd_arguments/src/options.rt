@@ -122,7 +122,6 @@ impl<'a> Options<'a> {
             mapping,
             kind: kind_given(given),
             logon,
-            without_sacl: self.has(OptionName::WithoutSacl),
             whole: self.has(OptionName::Whole),
             without_bits: self.has(OptionName::WithoutBits),
             require_dacl: self.has(OptionName::RequireDacl),
@@ -196,7 +195,7 @@ impl<'a> Options<'a> {
             notation: Notation {
                 spelling: settings.spelling,
                 aliases: settings.aliases,
-                without_sacl: settings.without_sacl,
+                whole: settings.whole,
                 output: self.output(),
                 paths: if self.has(OptionName::Percent) {
                     PathSpelling::Percent

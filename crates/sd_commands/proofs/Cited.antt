@@ -6,7 +6,6 @@ pub use Rattle.sd_acl.specs.Descriptor.{descriptor_of}
 pub use Rattle.sd_acl.specs.declared.ace.Ace.{Ace}
 pub use Rattle.sd_acl.specs.declared.ace.AceKind.{AceKind}
 pub use Rattle.sd_analysis.proofs.Effects.{same_verdicts}
-pub use Rattle.sd_analysis.specs.declared.descendants.Descendant.{Descendant}
 pub use Rattle.sd_answer.specs.Lint.{is_misplaced}
 pub use Rattle.sd_check.specs.Check.{applies, applies_again, decides, first, in_each_pass, is_allowed_by, is_granted, is_implied, is_limit, is_owner}
 pub use Rattle.sd_check.specs.Token.{TokenValue}
@@ -50,7 +49,7 @@ pub use Rattle.std.proofs.lemmas.Str.{Chars-Drains, IsCharBoundary-end, encodes-
 pub use Rattle.std.proofs.lemmas.Str.Pattern.{split_once_first}
 pub use Rattle.std.specs.Fmt.{decimal}
 pub use Rattle.std.specs.List.{after_first, before_first, flat_map, list_any, position_or_len, slice_split}
-pub use Rattle.std.specs.Option.{unwrap_or}
+pub use Rattle.std.specs.Option.{option_map_or, unwrap_or}
 pub use Rattle.std.specs.Prelude.{IfNone, IfOk, bit_and, if◌then◌else◌, nat_lt, ◌||◌}
 pub use Rattle.std.specs.Result.{result_ok}
 pub use Rattle.std.specs.Str.{chars}

@@ -1,6 +1,6 @@
--- Bytes as a text spells them, and a SACL in them that is passed over.
-use Rattle.std.specs.Prelude.{◌≡◌, ℕ, ◌+◌, ◌==◌, ◌&&◌, ◌||◌, nat_le, not, Bool, List, [], ◌∷◌, ◌++◌, length}
-use Rattle.std.specs.Prelude.{drop, filter, Option, Some, None, slice_index, slice_set, bit_and, Result}
+-- Bytes as a text spells them.
+use Rattle.std.specs.Prelude.{◌≡◌, ℕ, ◌+◌, ◌==◌, ◌&&◌, ◌||◌, not, Bool, List, [], ◌∷◌, ◌++◌, length}
+use Rattle.std.specs.Prelude.{drop, filter, Option, Some, None, Result}
 use Rattle.std.specs.Prelude.{Ok, Err, if◌then◌else◌, codes}
 use Rattle.std.specs.List.{slice_split}
 use Rattle.std.specs.Result.{result_map_both}
@@ -98,17 +98,3 @@ abbrev pub form_name : ByteForm → List ℕ
 form_name Hex = codes "hex"
 form_name Loose = codes "hex"
 form_name Base64 = codes "base64"
-
--- ---- a SACL
-
--- the header of a descriptor tells of a SACL: SP is set, and OffsetSacl isn't 0 ([MS-DTYP] 2.4.6)
-abbrev pub has_sacl : List ℕ → Bool
-has_sacl bytes =
-    nat_le 20 (length bytes)
-    && not (bit_and (slice_index bytes 2) 0x10 == 0)
-    && not (slice_index bytes 12 == 0 && slice_index bytes 13 == 0 && slice_index bytes 14 == 0
-    && slice_index bytes 15 == 0)
-
--- the bytes with their SACL left out: control bit SP is cleared ([MS-DTYP] 2.4.6)
-abbrev pub without_sacl : List ℕ → List ℕ
-without_sacl bytes = if has_sacl bytes then slice_set bytes 2 (bit_and (slice_index bytes 2) 0xEF) else bytes

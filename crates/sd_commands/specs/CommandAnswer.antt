@@ -19,7 +19,7 @@ use Rattle.sd_check.specs.Check.{verdict, dacl_entries}
 use Rattle.sd_check.specs.Token.{TokenValue}
 use Rattle.sd_line.specs.Line.{LineOf, form, line_of, text_line}
 use Rattle.sd_line.specs.declared.line.Value.TheVariants as values
-use Rattle.sd_answer.specs.VerdictLines.{verdict_line, fault_line, sddl_fault_line}
+use Rattle.sd_answer.specs.VerdictLines.{verdict_line, entry_fault_line, fault_line, sddl_fault_line}
 use Rattle.sd_answer.specs.declared.forms.TheConstants.{CLEAN, SAME}
 use Rattle.sd_analysis.specs.Compare.{AreGains}
 use Rattle.sd_analysis.specs.Descendants.{AreDescendantChanges}
@@ -29,7 +29,6 @@ use Rattle.sd_analysis.specs.declared.who_has.Access.{Access}
 use Rattle.sd_check.specs.declared.token.GroupState.{GroupState}
 use Rattle.sd_answer.specs.Compare.{gains_and_losses}
 use Rattle.sd_answer.specs.Descendants.{descendants_lines, inheritance_lines}
-use Rattle.sd_answer.specs.Descriptor.{IsRead, IsUnreadAt}
 use Rattle.sd_answer.specs.Lint.{AreFindings}
 use Rattle.sd_line.specs.Mask.{IsMaskErrorIn, IsMaskIn}
 use Rattle.sd_answer.specs.Parts.{entries_in, parts_in}
@@ -59,7 +58,14 @@ use Rattle.sd_commands.specs.declared.verdict.Form.TheVariants.{Short, Explained
 use Rattle.sd_commands.specs.Answer.{value_line, AnswerValue, answer_of, IsAnswer, AreDone, IsDone, IsFault}
 use Rattle.sd_commands.specs.Answer.{IsFaultOf, Noting, IsMissingDacl, descriptor_line}
 use Rattle.sd_commands.specs.FromBinary.{AnswersFromBinary}
-use Rattle.sd_commands.specs.Whole.{AnswersWholeText, takes_whole}
+use Rattle.sd_commands.specs.Whole.{takes_whole, told_odd}
+use Rattle.sd_commands.specs.WholeText.{AnswersOfWhole, AnswersWholeText}
+use Rattle.sd_whole.specs.Plain.{odd_name}
+use Rattle.sd_whole.specs.declared.descriptor.WholeDescriptor.{WholeDescriptor}
+use Rattle.sd_whole.specs.declared.plain.OddEntry.{OddEntry}
+use Rattle.sd_show.specs.Diff.{changes}
+use Rattle.sd_show.specs.Show.{shown}
+use Rattle.sd_whole_parse.specs.Part.{IsOddPart, IsPart, IsPartFault}
 
 -- what is answered of the mask that a text is, or its first fault
 abbrev pub AnswersOfMask : Settings → List ℕ → (ℕ → AnswerValue → Type 0) → AnswerValue → Type 0
@@ -96,26 +102,33 @@ abbrev pub NotingObject : Bool → (AnswerValue → Type 0) → AnswerValue → 
 NotingObject left_out Answers answer =
     (inner : AnswerValue) × IsObjectNoted left_out inner answer × Answers inner
 
--- the argument of this name isn't taken: the answer is the first fault of its text, or that its descriptor lacks a list
+-- the argument of this name has an entry that no question takes
+abbrev pub IsEntryFault : List ℕ → OddEntry → AnswerValue → Type 0
+IsEntryFault argument odd =
+    IsFault (entry_fault_line odd.entry (odd_name odd.kind)) (told_line argument (told_odd odd))
+
+-- the argument of this name isn't taken: the answer is the first fault of its text, an entry that no question takes, or
+-- that its descriptor lacks a list
 abbrev pub IsRefusedArgument : List ℕ → Settings → List ℕ → AnswerValue → Type 0
 IsRefusedArgument argument settings written answer =
-    ((fault : TextFault) × (place : ℕ) × IsUnreadAt settings.aliases settings.without_sacl written fault place
+    ((fault : TextFault) × (place : ℕ) × IsPartFault settings.aliases settings.whole written fault place
     × IsFault (sddl_fault_line fault place)
     (told_line argument (sddl_fault_text settings.points written fault place)) answer)
+    ⊎ ((odd : OddEntry) × IsOddPart settings.aliases settings.whole written odd × IsEntryFault argument odd answer)
     ⊎ ((d : DescriptorValue) × (left_out : Bool) × (missing : List ℕ)
-    × IsRead settings.aliases settings.without_sacl written d left_out
+    × IsPart settings.aliases settings.whole written d left_out
     × (missing_dacl settings.require_dacl d.dacl ≡ Some missing)
     × Noting argument left_out (IsMissingDacl argument missing) answer)
 
 -- the argument is this descriptor, and it is taken
 abbrev pub IsTaken : Settings → List ℕ → DescriptorValue → Bool → Type 0
-IsTaken settings written d left_out = IsRead settings.aliases settings.without_sacl written d left_out
+IsTaken settings written d left_out = IsPart settings.aliases settings.whole written d left_out
     × (missing_dacl settings.require_dacl d.dacl ≡ None)
 
 -- what the argument of this name is
 abbrev pub IsGiven : List ℕ → Settings → List ℕ → Given → Type 0
-IsGiven argument settings written (givens.Descriptor read) =
-    IsTaken settings written (descriptor_of read.descriptor) read.left_out
+IsGiven argument settings written (givens.Descriptor part) =
+    IsTaken settings written (descriptor_of part.descriptor) part.left_out
 IsGiven argument settings written (givens.Refused answer) = IsRefusedArgument argument settings written
     (answer_of answer)
 
@@ -264,6 +277,23 @@ abbrev pub AnswersFindings : Settings → DescriptorValue → List (SidValue × 
 AnswersFindings settings d base =
     NotingObject (leaves_out settings.object d) (PrintsFindings settings (looked_at settings.object d) base)
 
+-- ---- whole descriptors in words
+
+-- all that the descriptor has
+abbrev pub AnswersShow : Settings → List ℕ → AnswerValue → Type 0
+AnswersShow settings text = AnswersOfWhole (codes "SDDL") settings text (λ d. AreDone (shown d))
+
+-- what differs, or that nothing does
+abbrev pub PrintsDiff : WholeDescriptor → WholeDescriptor → AnswerValue → Type 0
+PrintsDiff old new = IsFound (line_of (form SAME) []) (changes old new)
+
+abbrev pub AnswersDiffFrom : Settings → WholeDescriptor → List ℕ → AnswerValue → Type 0
+AnswersDiffFrom settings old new =
+    AnswersOfWhole (codes "NEW") settings new (PrintsDiff old)
+
+abbrev pub AnswersDiff : Settings → List ℕ → List ℕ → AnswerValue → Type 0
+AnswersDiff settings old new = AnswersOfWhole (codes "OLD") settings old (λ d. AnswersDiffFrom settings d new)
+
 -- ---- rights
 
 -- the mask's rights by name
@@ -307,5 +337,7 @@ abbrev pub AnswersQuestion : Settings → TextCommand → List ℕ → List (Bor
 AnswersQuestion settings (questions.Descriptor question) text arguments =
     AnswersDescriptor settings question text arguments
 AnswersQuestion settings questions.FromBinary text arguments = AnswersFromBinary settings text
+AnswersQuestion settings questions.Show text arguments = AnswersShow settings text
+AnswersQuestion settings questions.Diff text arguments = AnswersDiff settings text (argument arguments 0)
 AnswersQuestion settings questions.Rights text arguments = AnswersRights settings text
 AnswersQuestion settings questions.Sid text arguments = AnswersSid settings text

@@ -5,12 +5,12 @@ use Rattle.sd_wire.specs.Reading.{descriptor_read}
 use Rattle.sd_wire.specs.declared.fault.WireFault.{WireFault}
 use Rattle.sd_whole.specs.Reading.{whole_read}
 use Rattle.sd_answer.specs.VerdictLines.{fault_line}
-use Rattle.sd_commands.specs.Bytes.{BytesRead, bytes_read, form_name, has_sacl, without_sacl}
+use Rattle.sd_commands.specs.Bytes.{BytesRead, bytes_read, form_name}
 use Rattle.sd_commands.specs.Required.{missing_dacl}
 use Rattle.sd_commands.specs.Pointer.{pointed}
 use Rattle.sd_commands.specs.Diagnostic.{at_byte, told_line, told_wire_fault}
 use Rattle.sd_commands.specs.declared.settings.Settings.{Settings}
-use Rattle.sd_commands.specs.Answer.{wire_fault_line, AnswerValue, IsDone, IsFault, AnswersFit, Noting}
+use Rattle.sd_commands.specs.Answer.{wire_fault_line, AnswerValue, IsDone, IsFault, AnswersFit}
 use Rattle.sd_commands.specs.Answer.{descriptor_line}
 use Rattle.sd_commands.specs.Whole.{AnswersHeader}
 
@@ -32,13 +32,10 @@ AnswersHeld settings bytes = AnswersRead (AnswersPlain settings) bytes (descript
 abbrev pub AnswersWhole : Settings → List ℕ → AnswerValue → Type 0
 AnswersWhole settings bytes = AnswersRead (AnswersHeader settings) bytes (whole_read bytes)
 
--- the descriptor that bytes hold, or their fault: `--whole` takes all that it has, and `--without-sacl` leaves a SACL
--- out
+-- the descriptor that bytes hold, or their fault: `--whole` takes all that it has
 abbrev pub AnswersBytes : Settings → List ℕ → AnswerValue → Type 0
-AnswersBytes settings bytes answer = MatchBool settings.whole (AnswersWhole settings bytes answer)
-    (MatchBool settings.without_sacl
-    (Noting (codes "BYTES") (has_sacl bytes) (AnswersHeld settings (without_sacl bytes)) answer)
-    (AnswersHeld settings bytes answer))
+AnswersBytes settings bytes answer =
+    MatchBool settings.whole (AnswersWhole settings bytes answer) (AnswersHeld settings bytes answer)
 
 -- the descriptor that a text spells in bytes, or a fault: it spells none
 abbrev pub AnswersDecoded : Settings → List ℕ → BytesRead → AnswerValue → Type 0

@@ -16,3 +16,5 @@ pub mod Risks
 pub mod Sort
 pub mod Value
 pub mod Whole
+pub mod WholeSort
+pub mod WholeText

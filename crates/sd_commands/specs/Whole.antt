@@ -1,19 +1,18 @@
 -- What is answered under `--whole` of a descriptor with a SACL and with entries of every type.
-use Rattle.std.specs.Prelude.{◌≡◌, ◌⊎◌, ℕ, ◌-◌, Bool, true, false, ◌&&◌, List, [], ◌∷◌, ◌++◌, length, Result, Ok, Err}
+use Rattle.std.specs.Prelude.{ℕ, Bool, true, false, List, [], ◌∷◌, ◌++◌, Result, Ok, Err}
 use Rattle.std.specs.Prelude.{codes, not, ◌==◌, bit_and, MatchBool}
 use Rattle.std.specs.Fmt.{decimal}
 use Rattle.hex.specs.Hex.{encode_lower}
 use Rattle.sd_text.specs.Canon.{where_set}
-use Rattle.sd_text.specs.declared.fault.TextFault.{TextFault}
 use Rattle.sd_line.specs.Line.{LineOf, form, line_of, text_line}
 use Rattle.sd_line.specs.declared.line.Value.TheVariants as values
 use Rattle.sd_line.specs.Spelling.{right_names_of}
-use Rattle.sd_answer.specs.VerdictLines.{sddl_fault_line}
 use Rattle.sd_answer.specs.declared.forms.TheConstants.{FAULT_NAMED}
 use Rattle.sd_wire.specs.Reading.{is_set}
+use Rattle.sd_whole.specs.Plain.{odd_name, odd_number}
 use Rattle.sd_whole.specs.Writing.{whole_wire_of}
 use Rattle.sd_whole.specs.declared.descriptor.WholeDescriptor.{WholeDescriptor}
-use Rattle.sd_whole_parse.specs.Descriptor.{whole_found}
+use Rattle.sd_whole.specs.declared.plain.OddEntry.{OddEntry}
 use Rattle.sd_whole_text.specs.Descriptor.{whole_text}
 use Rattle.sd_whole_text.specs.NoText.{no_text_name, no_text_number}
 use Rattle.sd_whole_text.specs.declared.no_text.AclKind.{AclKind}
@@ -24,7 +23,7 @@ use Rattle.sd_whole_text.specs.declared.no_text.NoText.TheVariants.{Data}
 use Rattle.sd_usage.specs.declared.row.DescriptorCommand.{DescriptorCommand}
 use Rattle.sd_usage.specs.declared.row.DescriptorCommand.TheVariants as about
 use Rattle.sd_commands.specs.Answer.{AnswerValue, AnswersFit, IsDone, IsFault, IsTold}
-use Rattle.sd_commands.specs.Diagnostic.{sddl_fault_text, told_line}
+use Rattle.sd_commands.specs.Diagnostic.{told_line}
 use Rattle.sd_commands.specs.Required.{missing_dacl}
 use Rattle.sd_commands.specs.declared.settings.Settings.{Settings}
 
@@ -95,7 +94,7 @@ abbrev pub WritesWhole : List ℕ → Settings → WholeDescriptor → AnswerVal
 WritesWhole argument settings d = AnswersFit argument (missing_dacl settings.require_dacl d.dacl)
     (IsDone (text_line (encode_lower (whole_wire_of d))))
 
--- the command takes the text of a whole descriptor: it prints or writes it
+-- the command answers for all that a whole descriptor has: it prints, sorts or writes it
 abbrev pub takes_whole : DescriptorCommand → Bool
 takes_whole about.Verdict = false
 takes_whole about.Why = false
@@ -103,20 +102,11 @@ takes_whole about.Who = false
 takes_whole about.Compare = false
 takes_whole about.Lint = false
 takes_whole about.Print = true
-takes_whole about.Sort = false
+takes_whole about.Sort = true
 takes_whole about.ToBinary = true
 
--- what `tobin` answers, and what `print` does
-abbrev pub AnswersWholeOn : Settings → DescriptorCommand → WholeDescriptor → AnswerValue → Type 0
-AnswersWholeOn settings about.ToBinary = WritesWhole (codes "SDDL") settings
-AnswersWholeOn settings question = PrintsWhole (codes "SDDL") settings
+-- ---- an entry that no question takes
 
--- what is answered of the whole descriptor that a text spells, or its first fault
-abbrev pub AnswersWholeText : Settings → DescriptorCommand → List ℕ → AnswerValue → Type 0
-AnswersWholeText settings question text answer =
-    ((d : WholeDescriptor) × (whole_found settings.aliases text ≡ Ok (d, []))
-    × AnswersWholeOn settings question d answer)
-    ⊎ ((fault : TextFault) × (there : List ℕ) × (place : ℕ)
-    × (whole_found settings.aliases text ≡ Err (fault, there)) × (place ≡ length text - length there)
-    × IsFault (sddl_fault_line fault place)
-    (told_line (codes "SDDL") (sddl_fault_text settings.points text fault place)) answer)
+-- what it is, by number and name, and which one
+abbrev pub told_odd : OddEntry → List ℕ
+told_odd odd = decimal (odd_number odd.kind) ++ codes " " ++ odd_name odd.kind ++ entry_place Dacl odd.entry

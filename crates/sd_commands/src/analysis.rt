@@ -21,15 +21,15 @@ use sd_answer::{
 use sd_check::GroupState;
 use sd_line::{Line, read_mask_in};
 use sd_sid::{Mask, Sid};
-use sd_text::WithoutSacl;
 use sd_usage::DescriptorCommand;
+use sd_whole::PlainPart;
 use std::alloc::AllocError;
 
-impl CommandContext {
+impl CommandContext<'_> {
     /// Whom rights are granted to by a descriptor, where the mask and the base are the arguments; or the fault of the
     /// first from the left that is invalid.
-    pub(crate) fn who(self, descriptor: &Descriptor, arguments: &[&str]) -> Answered
-        ensures { IfOk result (λ answer. AnswersOn self.settings DescriptorCommand.Who arguments.now
+    pub(crate) fn who(&self, descriptor: &Descriptor, arguments: &[&str]) -> Answered
+        ensures { IfOk result (λ answer. AnswersOn self.now.settings.now DescriptorCommand.Who arguments.now
             (descriptor_of descriptor.now) (answer_of answer)) }
     {
         let mask = argument(arguments, 0);
@@ -45,8 +45,13 @@ impl CommandContext {
         }
     }
 
-    fn who_has(self, descriptor: &Descriptor, asked: Mask, groups: &[(Sid, GroupState)]) -> Answered
-        ensures { IfOk result (λ answer. PrintsWho self.settings asked (descriptor_of descriptor.now) groups.now
+    fn who_has(
+        &self,
+        descriptor: &Descriptor,
+        asked: Mask,
+        groups: &[(Sid, GroupState)],
+    ) -> Answered
+        ensures { IfOk result (λ answer. PrintsWho self.now.settings.now asked (descriptor_of descriptor.now) groups.now
             (answer_of answer)) }
     {
         let (owner, dacl) = (descriptor.owner, dacl_ref(&descriptor.dacl));
@@ -68,8 +73,8 @@ impl CommandContext {
         base: &Base<'_>,
         rights: Mask,
     ) -> Result<Vec<Line>, AllocError>
-        ensures { IfOk result (λ lines. AreBelowLines self.now.settings (descriptor_of descriptor.now) base.now rights
-            lines.items) }
+        ensures { IfOk result (λ lines. AreBelowLines self.now.settings.now (descriptor_of descriptor.now) base.now
+            rights lines.items) }
     {
         let mut lines = Vec::new(self.alloc);
         if !self.settings.below {
@@ -82,10 +87,10 @@ impl CommandContext {
     }
 
     /// The answer to words of which the one at the place is the first that is no group.
-    pub(crate) fn group_fault(self, words: &[&str], place: usize) -> Answered
-        requires first { IsFirstNoGroup self.settings.aliases (texts words.now) place }
+    pub(crate) fn group_fault(&self, words: &[&str], place: usize) -> Answered
+        requires first { IsFirstNoGroup self.now.settings.now.aliases (texts words.now) place }
         requires within { place < length words.now }
-        ensures { IfOk result (λ answer. IsGroupFault self.settings words.now (answer_of answer)) }
+        ensures { IfOk result (λ answer. IsGroupFault self.now.settings.now words.now (answer_of answer)) }
     {
         let word = argument(words, place);
         let reason = self.state_reason(word)?;
@@ -94,26 +99,26 @@ impl CommandContext {
 
     /// What tokens gain and lose where the new descriptor takes the place of the old one, where the new one and the
     /// base are the arguments; or the fault of the first from the left that is invalid.
-    pub(crate) fn compare(self, old: Descriptor, arguments: &[&str]) -> Answered
-        ensures { IfOk result (λ answer. AnswersOn self.settings DescriptorCommand.Compare arguments.now
+    pub(crate) fn compare(&self, old: Descriptor, arguments: &[&str]) -> Answered
+        ensures { IfOk result (λ answer. AnswersOn self.now.settings.now DescriptorCommand.Compare arguments.now
             (descriptor_of old) (answer_of answer)) }
     {
-        let read = match self.read_argument("NEW", argument(arguments, 0))? {
-            Given::Descriptor(read) => read,
+        let part = match self.read_argument("NEW", argument(arguments, 0))? {
+            Given::Descriptor(part) => part,
             Given::Refused(answer) => return Ok(answer),
         };
-        let WithoutSacl {
+        let PlainPart {
             descriptor,
             left_out,
-        } = read;
+        } = part;
         let words = items_from(arguments, 1);
         let answer = self.compare_with_base(old, descriptor, words)?;
         Ok(note_left_out_sacl(self.alloc, "NEW", left_out, answer)?)
     }
 
-    fn compare_with_base(self, old: Descriptor, new: Descriptor, words: &[&str]) -> Answered
-        ensures { IfOk result (λ answer. AnswersOfBase self.settings words.now
-            (AnswersComparison self.settings (descriptor_of old) (descriptor_of new)) (answer_of answer)) }
+    fn compare_with_base(&self, old: Descriptor, new: Descriptor, words: &[&str]) -> Answered
+        ensures { IfOk result (λ answer. AnswersOfBase self.now.settings.now words.now
+            (AnswersComparison self.now.settings.now (descriptor_of old) (descriptor_of new)) (answer_of answer)) }
     {
         match read_base(self.alloc, self.settings.aliases, words) {
             Ok(groups) => self.comparison_seen(old, new, &groups),
@@ -125,12 +130,12 @@ impl CommandContext {
     /// What tokens gain and lose by the descriptors as they are looked at, and that something was left out of them,
     /// where it was.
     fn comparison_seen(
-        self,
+        &self,
         old: Descriptor,
         new: Descriptor,
         groups: &[(Sid, GroupState)],
     ) -> Answered
-        ensures { IfOk result (λ answer. AnswersComparison self.settings (descriptor_of old) (descriptor_of new)
+        ensures { IfOk result (λ answer. AnswersComparison self.now.settings.now (descriptor_of old) (descriptor_of new)
             groups.now (answer_of answer)) }
     {
         let (alloc, is_object) = (self.alloc, self.settings.object);
@@ -142,13 +147,13 @@ impl CommandContext {
     }
 
     fn comparison(
-        self,
+        &self,
         old: &Descriptor,
         new: &Descriptor,
         groups: &[(Sid, GroupState)],
     ) -> Answered
-        ensures { IfOk result (λ answer. PrintsComparison self.settings (descriptor_of old.now) (descriptor_of new.now)
-            groups.now (answer_of answer)) }
+        ensures { IfOk result (λ answer. PrintsComparison self.now.settings.now (descriptor_of old.now)
+            (descriptor_of new.now) groups.now (answer_of answer)) }
     {
         let base = Base { groups };
         let mut lines = self.own_changes(old, new, &base)?;
@@ -165,8 +170,8 @@ impl CommandContext {
         new: &Descriptor,
         base: &Base<'_>,
     ) -> Result<Vec<Line>, AllocError>
-        ensures { IfOk result (λ lines. AreOwnChanges self.now.settings (descriptor_of old.now) (descriptor_of new.now)
-            base.now lines.items) }
+        ensures { IfOk result (λ lines. AreOwnChanges self.now.settings.now (descriptor_of old.now)
+            (descriptor_of new.now) base.now lines.items) }
     {
         let (old, new) = (descriptor_ref(old), descriptor_ref(new));
         let comparison = compare(self.alloc, &old, &new, &self.settings.mapping, base)?;
@@ -182,7 +187,7 @@ impl CommandContext {
         new: &Descriptor,
         base: &Base<'_>,
     ) -> Result<Vec<Line>, AllocError>
-        ensures { IfOk result (λ lines. AreDescendantLines self.now.settings (descriptor_of old.now)
+        ensures { IfOk result (λ lines. AreDescendantLines self.now.settings.now (descriptor_of old.now)
             (descriptor_of new.now) base.now lines.items) }
     {
         let (old, new) = (entries_in(&old.dacl), entries_in(&new.dacl));

@@ -1,9 +1,8 @@
-//! Bytes as a text spells them, and a SACL in them that is passed over.
+//! Bytes as a text spells them.
 ghost use Rattle.std.specs.Prelude.{◌≡◌, Err, IfErr, IfOk, Ok};
 ghost use Rattle.sd_commands.specs.declared.bytes.BytesError.TheVariants.{Memory};
 ghost use Rattle.sd_commands.specs.declared.settings.ByteForm.TheVariants.{Hex, Loose, Base64};
-ghost use Rattle.sd_commands.specs.Bytes.{IsBytesError, base64_reason, bytes_read, form_name, has_sacl};
-ghost use Rattle.sd_commands.specs.Bytes.{without_sacl};
+ghost use Rattle.sd_commands.specs.Bytes.{IsBytesError, base64_reason, bytes_read, form_name};
 
 use crate::loose::loose_bytes;
 use crate::settings::ByteForm;
@@ -103,25 +102,4 @@ fn base64_error(text: &str, error: DecodeError) -> BytesError
         DecodeError::InvalidLastSymbol { offset, .. } => no_bytes("no last digit", offset),
         DecodeError::InvalidPadding => no_bytes("no padding", text.len()),
     }
-}
-
-/// Has the header say that there is no SACL, where it says that there is one, and tells whether it did: SP, bit 4 of
-/// the control bits, and OffsetSacl at byte 12 ([MS-DTYP] 2.4.6).
-pub(crate) fn leave_out_sacl(bytes: &mut Vec<u8>) -> bool
-    ensures told { result ≡ has_sacl bytes.old.items }
-    ensures bytes { bytes.new.items ≡ without_sacl bytes.old.items }
-{
-    if !has_sacl(bytes) {
-        return false;
-    }
-    bytes[2] &= 0xEF;
-    true
-}
-
-fn has_sacl(bytes: &[u8]) -> bool
-    ensures { result ≡ has_sacl bytes.now }
-{
-    20 <= bytes.len()
-        && bytes[2] & 0x10 != 0
-        && !(bytes[12] == 0 && bytes[13] == 0 && bytes[14] == 0 && bytes[15] == 0)
 }

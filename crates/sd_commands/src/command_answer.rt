@@ -14,11 +14,13 @@ use crate::diagnostic::{fault_text, sddl_fault_text, told_line, word_argument};
 use crate::settings::{CommandContext, Settings};
 use crate::verdict::Form;
 use crate::whole::takes_whole;
+use crate::words::argument;
 use sd_acl::Descriptor;
 use sd_answer::{fault_line, sddl_fault_line};
 use sd_line::{Line, LineForm, Value};
-use sd_text::{TextError, TextFault, WithoutSacl};
+use sd_text::{TextError, TextFault};
 use sd_usage::{DescriptorCommand, TextCommand};
+use sd_whole::PlainPart;
 use std::alloc::{AllocError, Global};
 
 /// How a command ended, from best to worst.
@@ -109,10 +111,13 @@ pub fn answer_question(
 ) -> Result<Answer, AllocError>
     ensures { IfOk result (λ answer. AnswersQuestion settings question text.now arguments.now (answer_of answer)) }
 {
+    let settings = &settings;
     let command = CommandContext { alloc, settings };
     match question {
         TextCommand::Descriptor(question) => command.answer_descriptor(question, text, arguments),
         TextCommand::FromBinary => command.from_binary(text),
+        TextCommand::Show => command.show(text),
+        TextCommand::Diff => command.diff(text, argument(arguments, 0)),
         TextCommand::Rights => command.rights(text),
         TextCommand::Sid => command.sid(text),
     }
@@ -167,16 +172,16 @@ pub(crate) fn found(alloc: Global, lines: Vec<Line>, nothing: LineForm) -> Answe
     }
 }
 
-impl CommandContext {
-    /// The answer to a question about the descriptor that the text is: under `--whole`, of one that is only printed or
-    /// written, with all that it says.
+impl CommandContext<'_> {
+    /// The answer to a question about the descriptor that the text is: under `--whole`, of one that is only printed,
+    /// sorted or written, with all that it says.
     fn answer_descriptor(
-        self,
+        &self,
         question: DescriptorCommand,
         sddl: &str,
         arguments: &[&str],
     ) -> Answered
-        ensures { IfOk result (λ answer. AnswersDescriptor self.settings question sddl.now arguments.now
+        ensures { IfOk result (λ answer. AnswersDescriptor self.now.settings.now question sddl.now arguments.now
             (answer_of answer)) }
     {
         if self.settings.whole && takes_whole(question) {
@@ -187,25 +192,25 @@ impl CommandContext {
 
     /// The answer to a question about the plain descriptor that the text is, or the first fault of this argument and of
     /// those after it.
-    fn answer(self, question: DescriptorCommand, sddl: &str, arguments: &[&str]) -> Answered
-        ensures { IfOk result (λ answer. AnswersOfArgument (descriptor_name question) self.settings sddl.now
-            (AnswersOn self.settings question arguments.now) (answer_of answer)) }
+    fn answer(&self, question: DescriptorCommand, sddl: &str, arguments: &[&str]) -> Answered
+        ensures { IfOk result (λ answer. AnswersOfArgument (descriptor_name question) self.now.settings.now sddl.now
+            (AnswersOn self.now.settings.now question arguments.now) (answer_of answer)) }
     {
         let name = descriptor_name(question);
-        let read = match self.read_argument(name, sddl)? {
-            Given::Descriptor(read) => read,
+        let part = match self.read_argument(name, sddl)? {
+            Given::Descriptor(part) => part,
             Given::Refused(answer) => return Ok(answer),
         };
-        let WithoutSacl {
+        let PlainPart {
             descriptor,
             left_out,
-        } = read;
+        } = part;
         let answer = self.answer_on(question, descriptor, arguments)?;
         Ok(note_left_out_sacl(self.alloc, name, left_out, answer)?)
     }
 
-    fn answer_on(self, question: DescriptorCommand, on: Descriptor, arguments: &[&str]) -> Answered
-        ensures { IfOk result (λ answer. AnswersOn self.settings question arguments.now (descriptor_of on)
+    fn answer_on(&self, question: DescriptorCommand, on: Descriptor, arguments: &[&str]) -> Answered
+        ensures { IfOk result (λ answer. AnswersOn self.now.settings.now question arguments.now (descriptor_of on)
             (answer_of answer)) }
     {
         match question {
@@ -221,7 +226,7 @@ impl CommandContext {
     }
 
     /// The answer to the argument of this name: what it should have been, and why it isn't.
-    pub(crate) fn fault(self, what: &str, name: &str, reason: &str) -> Answered
+    pub(crate) fn fault(&self, what: &str, name: &str, reason: &str) -> Answered
         ensures { IfOk result
             (λ answer. IsFault (fault_line what.now) (told_line name.now reason.now) (answer_of answer)) }
     {
@@ -229,7 +234,7 @@ impl CommandContext {
     }
 
     /// The answer to words of which the one at the place is the first that is none, for this reason.
-    pub(crate) fn token_fault(self, place: usize, word: &str, reason: &str) -> Answered
+    pub(crate) fn token_fault(&self, place: usize, word: &str, reason: &str) -> Answered
         requires { place < 2 ^ 63 }
         ensures { IfOk result (λ answer. IsTokenFault place word.now reason.now (answer_of answer)) }
     {
@@ -238,9 +243,15 @@ impl CommandContext {
     }
 
     /// The answer to an argument whose text has this error first.
-    pub(crate) fn text_fault(self, what: &str, name: &str, text: &str, error: TextError) -> Answered
+    pub(crate) fn text_fault(
+        &self,
+        what: &str,
+        name: &str,
+        text: &str,
+        error: TextError,
+    ) -> Answered
         ensures { IfOk result
-            (λ answer. IsFaultOf self.settings what.now name.now text.now error (answer_of answer)) }
+            (λ answer. IsFaultOf self.now.settings.now what.now name.now text.now error (answer_of answer)) }
     {
         match error {
             TextError::Fault { fault, place } => {
@@ -252,10 +263,17 @@ impl CommandContext {
     }
 
     /// The answer to a descriptor's text with a fault, which is the argument of this name.
-    pub(crate) fn sddl_fault(self, name: &str, sddl: &str, fault: TextFault, place: u64) -> Answered
+    pub(crate) fn sddl_fault(
+        &self,
+        name: &str,
+        sddl: &str,
+        fault: TextFault,
+        place: u64,
+    ) -> Answered
         ensures { IfOk result
             (λ answer. IsFault (sddl_fault_line fault place)
-            (told_line name.now (sddl_fault_text self.settings.points sddl.now fault place)) (answer_of answer)) }
+            (told_line name.now (sddl_fault_text self.now.settings.now.points sddl.now fault place))
+            (answer_of answer)) }
     {
         let what = sddl_fault_text(self.alloc, self.settings.points, sddl, fault, place)?;
         let told = told_line(self.alloc, name, what.as_str())?;

@@ -14,7 +14,7 @@ use sd_sid::Sid;
 use sd_text::{Aliases, TextError, read_sid_text_in};
 use std::alloc::{AllocError, Global};
 
-/// The most SIDs: they stand in `Settings`, which are a small value that is copied.
+/// The most SIDs: they stand in `Settings`, and have no memory of their own.
 pub const MAX_CONCERN: usize = 16;
 
 /// SIDs that are of concern: as many of the first as `count` says.

@@ -9,9 +9,9 @@ ghost use Rattle.sd_commands.specs.Answer.{IsDone, IsFault, answer_of, descripto
 ghost use Rattle.sd_commands.specs.CommandAnswer.{AnswersSid};
 ghost use Rattle.sd_commands.specs.FromBinary.{AnswersBytes, AnswersFromBinary, AnswersHeld};
 
-use crate::bytes::{BytesError, leave_out_sacl, read_bytes};
+use crate::bytes::{BytesError, read_bytes};
 use crate::command_answer::{Answer, Answered, fault_told, value_line};
-use crate::descriptor::{missing_dacl, note_left_out_sacl};
+use crate::descriptor::missing_dacl;
 use crate::diagnostic::{text_at_byte, told_line};
 use crate::kinds::wire_kind_note;
 use crate::settings::CommandContext;
@@ -22,23 +22,23 @@ use sd_text::read_sid_text_in;
 use sd_wire::{WireError, WireFault, read_descriptor, write_descriptor};
 use std::alloc::{AllocError, Global};
 
-impl CommandContext {
+impl CommandContext<'_> {
     /// A descriptor.
-    pub(crate) fn print(self, descriptor: Descriptor) -> Answered
+    pub(crate) fn print(&self, descriptor: Descriptor) -> Answered
         ensures { IfOk result (λ answer. IsDone (descriptor_line (descriptor_of descriptor)) (answer_of answer)) }
     {
         self.value(Value::descriptor(descriptor))
     }
 
     /// The answer that is this value.
-    fn value(self, value: Value) -> Answered
+    fn value(&self, value: Value) -> Answered
         ensures { IfOk result (λ answer. IsDone (value_line value) (answer_of answer)) }
     {
         Answer::line(self.alloc, value_line(self.alloc, value)?)
     }
 
     /// The self-relative form of a descriptor, in hexadecimal.
-    pub(crate) fn to_binary(self, descriptor: &Descriptor) -> Answered
+    pub(crate) fn to_binary(&self, descriptor: &Descriptor) -> Answered
         ensures { IfOk result (λ answer. IsDone (text_line (encode_lower (wire_of (descriptor_of descriptor.now))))
             (answer_of answer)) }
     {
@@ -48,8 +48,8 @@ impl CommandContext {
     }
 
     /// The descriptor whose self-relative form the text spells in bytes.
-    pub(crate) fn from_binary(self, text: &str) -> Answered
-        ensures { IfOk result (λ answer. AnswersFromBinary self.settings text.now (answer_of answer)) }
+    pub(crate) fn from_binary(&self, text: &str) -> Answered
+        ensures { IfOk result (λ answer. AnswersFromBinary self.now.settings.now text.now (answer_of answer)) }
     {
         match read_bytes(self.alloc, self.settings.bytes, text) {
             Ok(bytes) => self.answer_bytes(bytes),
@@ -61,25 +61,19 @@ impl CommandContext {
         }
     }
 
-    /// The descriptor whose self-relative form the bytes are ([MS-DTYP] 2.4.6): `--whole` takes all that it has, and
-    /// `--without-sacl` leaves its SACL out.
-    fn answer_bytes(self, mut bytes: Vec<u8>) -> Answered
-        ensures { IfOk result (λ answer. AnswersBytes self.settings bytes.items (answer_of answer)) }
+    /// The descriptor whose self-relative form the bytes are ([MS-DTYP] 2.4.6): `--whole` takes all that it has.
+    fn answer_bytes(&self, bytes: Vec<u8>) -> Answered
+        ensures { IfOk result (λ answer. AnswersBytes self.now.settings.now bytes.items (answer_of answer)) }
     {
         if self.settings.whole {
             return self.answer_whole(&bytes);
         }
-        if !self.settings.without_sacl {
-            return self.answer_held(&bytes);
-        }
-        let left_out = leave_out_sacl(&mut bytes);
-        let answer = self.answer_held(&bytes)?;
-        Ok(note_left_out_sacl(self.alloc, "BYTES", left_out, answer)?)
+        self.answer_held(&bytes)
     }
 
     /// The descriptor that the bytes hold, if it has the list that is required.
-    fn answer_held(self, bytes: &[u8]) -> Answered
-        ensures { IfOk result (λ answer. AnswersHeld self.settings bytes.now (answer_of answer)) }
+    fn answer_held(&self, bytes: &[u8]) -> Answered
+        ensures { IfOk result (λ answer. AnswersHeld self.now.settings.now bytes.now (answer_of answer)) }
     {
         match read_descriptor(self.alloc, bytes) {
             Ok(descriptor) => match missing_dacl(self.settings, &descriptor.dacl) {
@@ -92,8 +86,8 @@ impl CommandContext {
     }
 
     /// The SID that a text in full or an alias spells ([MS-DTYP] 2.4.2.1).
-    pub(crate) fn sid(self, text: &str) -> Answered
-        ensures { IfOk result (λ answer. AnswersSid self.settings text.now (answer_of answer)) }
+    pub(crate) fn sid(&self, text: &str) -> Answered
+        ensures { IfOk result (λ answer. AnswersSid self.now.settings.now text.now (answer_of answer)) }
     {
         match read_sid_text_in(self.settings.aliases, text) {
             Ok(sid) => self.value(Value::Sid(sid)),

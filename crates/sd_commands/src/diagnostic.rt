@@ -102,11 +102,11 @@ pub fn sid_reason(
     }
 }
 
-impl CommandContext {
+impl CommandContext<'_> {
     /// Why a text is no word.
     pub(crate) fn word_reason(&self, word: &str) -> Result<String, AllocError>
-        ensures { IfOk result (λ reason. IsWordReason self.now.settings.points self.now.settings.aliases word.now
-            (string_bytes reason)) }
+        ensures { IfOk result (λ reason. IsWordReason self.now.settings.now.points self.now.settings.now.aliases
+            word.now (string_bytes reason)) }
     {
         if matches!(word.as_bytes(), [b'+', ..]) {
             return String::from_str(self.alloc, "no such privilege");
@@ -116,8 +116,8 @@ impl CommandContext {
 
     /// Why a text is no SID with a state.
     pub(crate) fn state_reason(&self, word: &str) -> Result<String, AllocError>
-        ensures { IfOk result (λ reason. IsStateReason self.now.settings.points self.now.settings.aliases word.now
-            (string_bytes reason)) }
+        ensures { IfOk result (λ reason. IsStateReason self.now.settings.now.points self.now.settings.now.aliases
+            word.now (string_bytes reason)) }
     {
         let (points, known) = (self.settings.points, self.settings.aliases);
         sid_reason(self.alloc, points, known, "no such state", sid_of(word))

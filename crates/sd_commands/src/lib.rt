@@ -31,10 +31,12 @@ mod pointer;
 mod rights;
 mod risks;
 mod settings;
+mod show;
 mod sort;
 mod value;
 mod verdict;
 mod whole;
+mod whole_sort;
 mod words;
 
 pub use command_answer::{Answer, Outcome, answer_question, fault};

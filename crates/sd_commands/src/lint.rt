@@ -16,12 +16,12 @@ use sd_check::GroupState;
 use sd_sid::Sid;
 use std::alloc::AllocError;
 
-impl CommandContext {
+impl CommandContext<'_> {
     /// The findings in a descriptor, or `clean`, where each token has the base that the words are; or the fault of the
     /// first word that is invalid.
-    pub(crate) fn lint(self, descriptor: Descriptor, words: &[&str]) -> Answered
-        ensures { IfOk result (λ answer. AnswersOfBase self.settings words.now
-            (AnswersFindings self.settings (descriptor_of descriptor)) (answer_of answer)) }
+    pub(crate) fn lint(&self, descriptor: Descriptor, words: &[&str]) -> Answered
+        ensures { IfOk result (λ answer. AnswersOfBase self.now.settings.now words.now
+            (AnswersFindings self.now.settings.now (descriptor_of descriptor)) (answer_of answer)) }
     {
         match read_base(self.alloc, self.settings.aliases, words) {
             Ok(groups) => self.findings_seen(descriptor, &groups),
@@ -31,8 +31,8 @@ impl CommandContext {
     }
 
     /// The findings in the descriptor as it is looked at, and that something was left out of it, where it was.
-    fn findings_seen(self, descriptor: Descriptor, groups: &[(Sid, GroupState)]) -> Answered
-        ensures { IfOk result (λ answer. AnswersFindings self.settings (descriptor_of descriptor) groups.now
+    fn findings_seen(&self, descriptor: Descriptor, groups: &[(Sid, GroupState)]) -> Answered
+        ensures { IfOk result (λ answer. AnswersFindings self.now.settings.now (descriptor_of descriptor) groups.now
             (answer_of answer)) }
     {
         let (alloc, is_object) = (self.alloc, self.settings.object);
@@ -42,8 +42,8 @@ impl CommandContext {
         note_object(alloc, left_out, answer)
     }
 
-    fn findings(self, descriptor: &Descriptor, groups: &[(Sid, GroupState)]) -> Answered
-        ensures { IfOk result (λ answer. PrintsFindings self.settings (descriptor_of descriptor.now) groups.now
+    fn findings(&self, descriptor: &Descriptor, groups: &[(Sid, GroupState)]) -> Answered
+        ensures { IfOk result (λ answer. PrintsFindings self.now.settings.now (descriptor_of descriptor.now) groups.now
             (answer_of answer)) }
     {
         let base = Base { groups };

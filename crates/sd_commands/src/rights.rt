@@ -7,11 +7,11 @@ use crate::command_answer::{Answer, Answered};
 use crate::settings::CommandContext;
 use sd_line::{read_mask_in, rights_line};
 
-impl CommandContext {
+impl CommandContext<'_> {
     /// The mask, the permission that it is, and its rights by kind of object ([MS-DTYP] 2.4.3), as
     /// `0x10001: FILE_READ_DATA+DELETE`.
-    pub(crate) fn rights(self, mask: &str) -> Answered
-        ensures { IfOk result (λ answer. AnswersRights self.settings mask.now (answer_of answer)) }
+    pub(crate) fn rights(&self, mask: &str) -> Answered
+        ensures { IfOk result (λ answer. AnswersRights self.now.settings.now mask.now (answer_of answer)) }
     {
         match read_mask_in(self.settings.spelling, mask) {
             Ok(mask) => {

@@ -20,12 +20,12 @@ use std::alloc::{AllocError, Global};
 pub(crate) fn push_risks(
     alloc: Global,
     out: &mut Vec<Line>,
-    settings: Settings,
+    settings: &Settings,
     descriptor: &Descriptor,
     base: &Base<'_>,
 ) -> Result<(), AllocError>
     ensures { OnOk result
-        (out.new.items ≡ out.old.items ++ risk_lines settings (descriptor_of descriptor.now) base.now) }
+        (out.new.items ≡ out.old.items ++ risk_lines settings.now (descriptor_of descriptor.now) base.now) }
 {
     if !settings.risks {
         return Ok(());

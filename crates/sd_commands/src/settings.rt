@@ -31,9 +31,7 @@ pub struct Settings {
     pub kind: Option<ObjectKind>,
     /// How the user logged on, if that is said.
     pub logon: Option<Logon>,
-    /// Whether a SACL is left out.
-    pub without_sacl: bool,
-    /// Whether descriptors may have a SACL and entries of every type, where a command only converts them.
+    /// Whether descriptors may have a SACL, which a question leaves out, and entries of every type.
     pub whole: bool,
     /// Whether what the header has that SDDL has no word for is left out.
     pub without_bits: bool,
@@ -55,7 +53,7 @@ pub struct Settings {
 
 /// What a command works with: where it allocates, and what the options say.
 #[derive(Clone, Copy)]
-pub(crate) struct CommandContext {
+pub(crate) struct CommandContext<'a> {
     pub(crate) alloc: Global,
-    pub(crate) settings: Settings,
+    pub(crate) settings: &'a Settings,
 }

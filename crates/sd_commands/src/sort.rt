@@ -15,10 +15,11 @@ use sd_line::{Spelling, Value};
 use sd_text::print_entry_in;
 use std::alloc::{AllocError, Global};
 
-impl CommandContext {
+impl CommandContext<'_> {
     /// A descriptor with its DACL in canonical order ([MS-DTYP] 2.4.5).
-    pub(crate) fn sort(self, descriptor: &Descriptor) -> Answered
-        ensures { IfOk result (λ answer. IsSorted self.settings (descriptor_of descriptor.now) (answer_of answer)) }
+    pub(crate) fn sort(&self, descriptor: &Descriptor) -> Answered
+        ensures { IfOk result (λ answer. IsSorted self.now.settings.now (descriptor_of descriptor.now)
+            (answer_of answer)) }
     {
         let alloc = self.alloc;
         let told = move_notes(alloc, self.settings.spelling, &descriptor.dacl)?;

@@ -27,12 +27,17 @@ pub(crate) enum Form {
     Explained,
 }
 
-impl CommandContext {
+impl CommandContext<'_> {
     /// The verdict on a descriptor, where the user, the mask and words are the arguments, with the groups of the logon
     /// behind them; or the fault of the first from the left that is invalid.
-    pub(crate) fn verdict(self, form: Form, descriptor: &Descriptor, arguments: &[&str]) -> Answered
-        ensures { IfOk result (λ answer. AnswersUser self.settings form arguments.now (descriptor_of descriptor.now)
-            (answer_of answer)) }
+    pub(crate) fn verdict(
+        &self,
+        form: Form,
+        descriptor: &Descriptor,
+        arguments: &[&str],
+    ) -> Answered
+        ensures { IfOk result (λ answer. AnswersUser self.now.settings.now form arguments.now
+            (descriptor_of descriptor.now) (answer_of answer)) }
     {
         let user = argument(arguments, 0);
         match read_sid_text_in(self.settings.aliases, user) {
@@ -43,14 +48,14 @@ impl CommandContext {
 
     /// The verdict for this user, or the fault that nobody else can log on so.
     fn for_user(
-        self,
+        &self,
         form: Form,
         descriptor: &Descriptor,
         user: Sid,
         arguments: &[&str],
     ) -> Answered
-        ensures { IfOk result (λ answer. AnswersFitting self.settings form arguments.now (descriptor_of descriptor.now)
-            user (answer_of answer)) }
+        ensures { IfOk result (λ answer. AnswersFitting self.now.settings.now form arguments.now
+            (descriptor_of descriptor.now) user (answer_of answer)) }
     {
         if fits_logon(self.settings.logon, &user) {
             self.with_mask(form, descriptor, user, arguments)
@@ -60,14 +65,14 @@ impl CommandContext {
     }
 
     fn with_mask(
-        self,
+        &self,
         form: Form,
         descriptor: &Descriptor,
         user: Sid,
         arguments: &[&str],
     ) -> Answered
-        ensures { IfOk result (λ answer. AnswersMask self.settings form arguments.now (descriptor_of descriptor.now)
-            user (answer_of answer)) }
+        ensures { IfOk result (λ answer. AnswersMask self.now.settings.now form arguments.now
+            (descriptor_of descriptor.now) user (answer_of answer)) }
     {
         let mask = argument(arguments, 1);
         match read_mask_in(self.settings.spelling, mask) {
@@ -79,15 +84,15 @@ impl CommandContext {
     /// The verdict for the token of the user and of these words, with the groups of the logon behind them, or the fault
     /// of the first that is no word.
     fn with_words(
-        self,
+        &self,
         form: Form,
         descriptor: &Descriptor,
         user: Sid,
         asked: Mask,
         words: &[&str],
     ) -> Answered
-        ensures { IfOk result (λ answer. AnswersWithLogon self.settings form (descriptor_of descriptor.now) user asked
-            words.now (answer_of answer)) }
+        ensures { IfOk result (λ answer. AnswersWithLogon self.now.settings.now form (descriptor_of descriptor.now) user
+            asked words.now (answer_of answer)) }
     {
         let words = words_for(self.alloc, self.settings.logon, words)?;
         match read_token(self.alloc, self.settings.aliases, user, &words) {
@@ -98,10 +103,10 @@ impl CommandContext {
     }
 
     /// The answer to words of which the one at the place is the first that is none.
-    fn word_fault(self, words: &[&str], place: usize) -> Answered
-        requires first { IsFirstNoWord self.settings.aliases (texts words.now) place }
+    fn word_fault(&self, words: &[&str], place: usize) -> Answered
+        requires first { IsFirstNoWord self.now.settings.now.aliases (texts words.now) place }
         requires within { place < length words.now }
-        ensures { IfOk result (λ answer. IsWordFault self.settings words.now (answer_of answer)) }
+        ensures { IfOk result (λ answer. IsWordFault self.now.settings.now words.now (answer_of answer)) }
     {
         let word = argument(words, place);
         let reason = self.word_reason(word)?;
@@ -110,14 +115,14 @@ impl CommandContext {
 
     /// The verdict's line, or with it the reasons.
     fn verdict_for(
-        self,
+        &self,
         form: Form,
         descriptor: &Descriptor,
         token: &Token,
         asked: Mask,
     ) -> Answered
-        ensures { IfOk result (λ answer. IsVerdict self.settings form (descriptor_of descriptor.now) token.now asked
-            (answer_of answer)) }
+        ensures { IfOk result (λ answer. IsVerdict self.now.settings.now form (descriptor_of descriptor.now) token.now
+            asked (answer_of answer)) }
     {
         let mapping = &self.settings.mapping;
         let verdict = check(descriptor, mapping, token, asked);

@@ -5,9 +5,10 @@ ghost use Rattle.sd_whole_text.specs.Descriptor.{whole_text};
 ghost use Rattle.sd_commands.specs.Answer.{IsTold, answer_of};
 ghost use Rattle.sd_commands.specs.FromBinary.{AnswersWhole};
 ghost use Rattle.sd_commands.specs.Whole.{AnswersHeader, left_out_names, left_out_note};
-ghost use Rattle.sd_commands.specs.Whole.{AnswersText, AnswersWholeOn, AnswersWholeText, PrintsWhole, WritesWhole};
+ghost use Rattle.sd_commands.specs.Whole.{AnswersText, PrintsWhole, WritesWhole};
 ghost use Rattle.sd_commands.specs.Whole.{acl_name, entry_place, no_text_line, no_text_place, takes_whole};
 ghost use Rattle.sd_commands.specs.Whole.{told_no_text};
+ghost use Rattle.sd_commands.specs.WholeText.{AnswersWholeOn, AnswersWholeText};
 
 use crate::command_answer::{Answer, Answered, fault_told};
 use crate::convert::wire_fault;
@@ -27,10 +28,10 @@ use std::alloc::{AllocError, Global};
 /// The control bits that a word of SDDL says: P, AR and AI of both lists ([MS-DTYP] 2.4.6).
 const WORDED_BITS: u16 = 0xbf14;
 
-impl CommandContext {
+impl CommandContext<'_> {
     /// All that the bytes hold ([MS-DTYP] 2.4.6), if it has the list that is required.
-    pub(crate) fn answer_whole(self, bytes: &[u8]) -> Answered
-        ensures { IfOk result (λ answer. AnswersWhole self.settings bytes.now (answer_of answer)) }
+    pub(crate) fn answer_whole(&self, bytes: &[u8]) -> Answered
+        ensures { IfOk result (λ answer. AnswersWhole self.now.settings.now bytes.now (answer_of answer)) }
     {
         match read_whole(self.alloc, bytes) {
             Ok(descriptor) => self.print_held(descriptor),
@@ -40,8 +41,8 @@ impl CommandContext {
     }
 
     /// The text of the descriptor that bytes held; `--without-bits` leaves out what of its header has none.
-    fn print_held(self, mut descriptor: WholeDescriptor) -> Answered
-        ensures { IfOk result (λ answer. AnswersHeader self.settings descriptor (answer_of answer)) }
+    fn print_held(&self, mut descriptor: WholeDescriptor) -> Answered
+        ensures { IfOk result (λ answer. AnswersHeader self.now.settings.now descriptor (answer_of answer)) }
     {
         if !self.settings.without_bits {
             return self.print_all("BYTES", &descriptor);
@@ -55,29 +56,30 @@ impl CommandContext {
     }
 
     /// The answer of `print` or `tobin` to a text, with all that it says ([MS-DTYP] 2.5.1.1).
-    pub(crate) fn answer_whole_text(self, question: DescriptorCommand, sddl: &str) -> Answered
-        ensures { IfOk result (λ answer. AnswersWholeText self.settings question sddl.now (answer_of answer)) }
+    pub(crate) fn answer_whole_text(&self, question: DescriptorCommand, sddl: &str) -> Answered
+        ensures { IfOk result (λ answer. AnswersWholeText self.now.settings.now question sddl.now (answer_of answer)) }
     {
         match read_whole_sddl(self.alloc, self.settings.aliases, sddl) {
-            Ok(descriptor) => self.answer_all(question, &descriptor),
+            Ok(descriptor) => self.answer_all(question, descriptor),
             Err(TextError::Fault { fault, place }) => self.sddl_fault("SDDL", sddl, fault, place),
             Err(TextError::Memory) => Err(AllocError),
         }
     }
 
-    fn answer_all(self, question: DescriptorCommand, descriptor: &WholeDescriptor) -> Answered
-        ensures { IfOk result (λ answer. AnswersWholeOn self.settings question descriptor.now (answer_of answer)) }
+    fn answer_all(&self, question: DescriptorCommand, descriptor: WholeDescriptor) -> Answered
+        ensures { IfOk result (λ answer. AnswersWholeOn self.now.settings.now question descriptor (answer_of answer)) }
     {
         match question {
-            DescriptorCommand::ToBinary => self.write_all("SDDL", descriptor),
-            _ => self.print_all("SDDL", descriptor),
+            DescriptorCommand::ToBinary => self.write_all("SDDL", &descriptor),
+            DescriptorCommand::Sort => self.sort_all(descriptor),
+            _ => self.print_all("SDDL", &descriptor),
         }
     }
 
     /// The self-relative form in hexadecimal of the descriptor, which is the argument of this name, if it has the list
     /// that is required.
-    fn write_all(self, name: &str, descriptor: &WholeDescriptor) -> Answered
-        ensures { IfOk result (λ answer. WritesWhole name.now self.settings descriptor.now (answer_of answer)) }
+    fn write_all(&self, name: &str, descriptor: &WholeDescriptor) -> Answered
+        ensures { IfOk result (λ answer. WritesWhole name.now self.now.settings.now descriptor.now (answer_of answer)) }
     {
         match missing_dacl(self.settings, &descriptor.dacl) {
             None => {
@@ -90,8 +92,8 @@ impl CommandContext {
     }
 
     /// The text of the descriptor, which is the argument of this name, if it has the list that is required.
-    fn print_all(self, name: &str, descriptor: &WholeDescriptor) -> Answered
-        ensures { IfOk result (λ answer. PrintsWhole name.now self.settings descriptor.now (answer_of answer)) }
+    pub(crate) fn print_all(&self, name: &str, descriptor: &WholeDescriptor) -> Answered
+        ensures { IfOk result (λ answer. PrintsWhole name.now self.now.settings.now descriptor.now (answer_of answer)) }
     {
         match missing_dacl(self.settings, &descriptor.dacl) {
             None => self.whole_text(name, descriptor),
@@ -100,9 +102,9 @@ impl CommandContext {
     }
 
     /// The text of the descriptor, or the first part that has none.
-    fn whole_text(self, name: &str, descriptor: &WholeDescriptor) -> Answered
+    fn whole_text(&self, name: &str, descriptor: &WholeDescriptor) -> Answered
         ensures { IfOk result (λ answer. AnswersText name.now
-            (whole_text (right_names_of self.settings.spelling) descriptor.now) (answer_of answer)) }
+            (whole_text (right_names_of self.now.settings.now.spelling) descriptor.now) (answer_of answer)) }
     {
         let names = self.settings.spelling.right_names();
         match print_whole(self.alloc, names, descriptor) {
@@ -146,7 +148,7 @@ fn left_out_note(alloc: Global, names: &str) -> Result<String, AllocError>
 
 /// The answer, and before what else standard error says, this note.
 #[tactic(auto, unfolding(crate::specs::Answer::IsTold))]
-fn told_before(mut note: String, mut answer: Answer) -> Answered
+pub(crate) fn told_before(mut note: String, mut answer: Answer) -> Answered
     ensures { IfOk result (λ told. IsTold (string_bytes note) (answer_of answer) (answer_of told)) }
 {
     note.push_str(answer.told.as_str())?;
@@ -154,13 +156,13 @@ fn told_before(mut note: String, mut answer: Answer) -> Answered
     Ok(answer)
 }
 
-/// Whether the command takes the text of a whole descriptor ([MS-DTYP] 2.5.1.1): it prints or writes it.
+/// Whether the command answers for all that a whole descriptor has ([MS-DTYP] 2.5.1.1): it prints, sorts or writes it.
 pub fn takes_whole(question: DescriptorCommand) -> bool
     ensures { result ≡ takes_whole question }
 {
     matches!(
         question,
-        DescriptorCommand::Print | DescriptorCommand::ToBinary
+        DescriptorCommand::Print | DescriptorCommand::Sort | DescriptorCommand::ToBinary
     )
 }
 
@@ -199,7 +201,7 @@ fn no_text_place(alloc: Global, why: NoText) -> Result<String, AllocError>
     }
 }
 
-fn entry_place(alloc: Global, acl: AclKind, entry: usize) -> Result<String, AllocError>
+pub(crate) fn entry_place(alloc: Global, acl: AclKind, entry: usize) -> Result<String, AllocError>
     ensures { IfOk result (λ text. string_bytes text ≡ entry_place acl entry) }
 {
     let acl = acl_name(acl);

@@ -14,7 +14,7 @@ use Rattle.sd_line.specs.declared.print.Style.{Style}
 use Rattle.sd_text.specs.Alias.{in_domain}
 use Rattle.sd_usage.specs.declared.row.DescriptorCommand.TheVariants as about
 use Rattle.sd_usage.specs.declared.row.TextCommand.{TextCommand}
-use Rattle.sd_usage.specs.declared.row.TextCommand.TheVariants.{Descriptor}
+use Rattle.sd_usage.specs.declared.row.TextCommand.TheVariants.{Descriptor, Diff, Show}
 use Rattle.sd_commands.specs.Answer.{AnswerValue, IsFault}
 use Rattle.sd_commands.specs.CommandAnswer.{AnswersQuestion, argument}
 use Rattle.sd_commands.specs.Concern.{IsConcernReason}
@@ -58,6 +58,9 @@ IsBadValue NoEdits answer = IsBadOption (codes "edits") (codes "no number of edi
 -- which of the texts that are compared is blank
 abbrev pub blank_name : TextCommand → List ℕ → List (Bor (List ℕ)) → Option (List ℕ)
 blank_name (Descriptor about.Compare) text arguments =
+    if is_blank text then Some (codes "OLD")
+    else (if is_blank (argument arguments 0) then Some (codes "NEW") else None)
+blank_name Diff text arguments =
     if is_blank text then Some (codes "OLD")
     else (if is_blank (argument arguments 0) then Some (codes "NEW") else None)
 blank_name question text arguments = None
@@ -138,6 +141,8 @@ after_answer (Descriptor about.Why) = text_line [] ∷ []
 after_answer (Descriptor about.Who) = text_line [] ∷ []
 after_answer (Descriptor about.Compare) = text_line [] ∷ []
 after_answer (Descriptor about.Lint) = text_line [] ∷ []
+after_answer Show = text_line [] ∷ []
+after_answer Diff = text_line [] ∷ []
 after_answer question = []
 
 -- the lines of a line's answer, and what came of it

@@ -7,17 +7,17 @@ ghost use Rattle.sd_arguments.specs.CommandLine.{request_of};
 use crate::found::{found_in_descriptor, found_in_mask, found_in_user, found_in_word};
 use crate::notes::notes_on;
 use crate::remedies::{
-    CHILDREN, EACH, HEX, LABELS, NO_BITS, NO_CHILDREN, OTHER_USER, RemedyRow, WHOLE_BITS,
-    WHOLE_ENTRY, WHOLE_SACL, row_line,
+    CHILDREN, EACH, HEX, NO_BITS, NO_CHILDREN, ODD_ENTRY, OTHER_USER, RemedyRow, SACLS, WHOLE_BITS,
+    WHOLE_ENTRY, WHOLE_RANGE, WHOLE_SACL, row_line,
 };
 use crate::spoken::{answer_text, asks_who};
-use sd_answer::{TokenError, read_base, read_sddl_argument, read_token};
+use sd_answer::{TokenError, read_base, read_token};
 use sd_arguments::{Options, TextRequest};
 use sd_commands::{Answer, ByteForm, Outcome, Settings, fits_logon, takes_whole, told_line};
 use sd_line::{Value, read_mask_in};
 use sd_text::{TextError, TextFault, read_sddl_in, read_sid_text_in};
 use sd_usage::{DescriptorCommand, OptionName, TextCommand};
-use sd_whole_parse::read_whole_sddl;
+use sd_whole_parse::{PartError, read_sddl_part, read_whole_sddl};
 use sd_whole_text::NoText;
 use sd_wire::WireFault;
 use std::alloc::{AllocError, Global};
@@ -76,8 +76,8 @@ pub(crate) fn advice_on_each(
     request: TextRequest<'_>,
 ) -> Result<String, AllocError> {
     let mut advice = misplaced_line(alloc, request)?;
-    if options.has(OptionName::WithoutSacl) && is_verdict(request.question) {
-        let note = told_line(alloc, "SDDL", LABELS)?;
+    if options.has(OptionName::Whole) && leaves_out(request.question) {
+        let note = told_line(alloc, "SDDL", SACLS)?;
         advice.push_str(note.as_str())?;
     }
     if asks_who(request.question) && !options.has(OptionName::Below) {
@@ -95,11 +95,12 @@ pub(crate) fn advice_on_each(
     Ok(advice)
 }
 
-fn is_verdict(question: TextCommand) -> bool {
-    matches!(
-        question,
-        TextCommand::Descriptor(DescriptorCommand::Verdict | DescriptorCommand::Why)
-    )
+/// Whether the command is about the plain part of a descriptor.
+fn leaves_out(question: TextCommand) -> bool {
+    match question {
+        TextCommand::Descriptor(question) => !takes_whole(question),
+        _ => false,
+    }
 }
 
 /// The line of a descriptor that stands where USER does.
@@ -135,9 +136,10 @@ fn remedy(
         }
         TextCommand::FromBinary => match hex_row(settings.bytes, text) {
             Some(row) => Some(row),
-            None if settings.without_sacl => None,
             None => held_row(answer),
         },
+        TextCommand::Show => whole_row(alloc, settings, text),
+        TextCommand::Diff => diff_row(alloc, settings, text, request.arguments),
         TextCommand::Rights => found_in_mask(settings, text),
         TextCommand::Sid => found_in_user(settings.aliases, text),
     };
@@ -154,8 +156,8 @@ fn text_row(
     question: DescriptorCommand,
     text: &str,
 ) -> Option<RemedyRow> {
-    if !takes_whole(question) || settings.without_sacl {
-        return descriptor_row(alloc, settings, text);
+    if !takes_whole(question) {
+        return part_row(alloc, settings, text);
     }
     if settings.whole {
         return whole_row(alloc, settings, text);
@@ -173,16 +175,40 @@ fn text_row(
 /// The row of advice for the text of a whole descriptor.
 fn whole_row(alloc: Global, settings: &Settings, text: &str) -> Option<RemedyRow> {
     match read_whole_sddl(alloc, settings.aliases, text).err()? {
-        TextError::Fault { fault, place } if fault != TextFault::EntryKind => found_in_descriptor(
-            text, fault, place,
-        ),
-        _ => None,
+        TextError::Fault { fault, place } => found_in_whole(text, fault, place),
+        TextError::Memory => None,
     }
 }
 
-fn descriptor_row(alloc: Global, settings: &Settings, text: &str) -> Option<RemedyRow> {
-    match read_sddl_argument(alloc, settings.aliases, settings.without_sacl, text) {
-        Err(TextError::Fault { fault, place }) => found_in_descriptor(text, fault, place),
+/// The row of advice for the first of two whole descriptors whose text has a fault.
+fn diff_row(
+    alloc: Global,
+    settings: &Settings,
+    old: &str,
+    arguments: &[&str],
+) -> Option<RemedyRow> {
+    match whole_row(alloc, settings, old) {
+        Some(row) => Some(row),
+        None => whole_row(alloc, settings, arguments.first()?),
+    }
+}
+
+fn found_in_whole(text: &str, fault: TextFault, place: u64) -> Option<RemedyRow> {
+    match fault {
+        TextFault::EntryKind => None,
+        TextFault::Range => Some(WHOLE_RANGE),
+        _ => found_in_descriptor(text, fault, place),
+    }
+}
+
+/// The row of advice for the text of a descriptor of which the plain part is asked about.
+fn part_row(alloc: Global, settings: &Settings, text: &str) -> Option<RemedyRow> {
+    match read_sddl_part(alloc, settings.aliases, settings.whole, text) {
+        Err(PartError::Fault { fault, place }) if settings.whole => found_in_whole(
+            text, fault, place,
+        ),
+        Err(PartError::Fault { fault, place }) => found_in_descriptor(text, fault, place),
+        Err(PartError::Odd(_)) => Some(ODD_ENTRY),
         _ => None,
     }
 }
@@ -237,7 +263,7 @@ fn argument_row(
             group_row(alloc, settings, words)
         }
         (DescriptorCommand::Compare, [new, words @ ..]) => {
-            match descriptor_row(alloc, settings, new) {
+            match part_row(alloc, settings, new) {
                 Some(row) => Some(row),
                 None => group_row(alloc, settings, words),
             }

@@ -179,7 +179,9 @@ fn push_after_answer(
     ensures { OnOk result (lines.new.items ≡ lines.old.items ++ after_answer question) }
 {
     match question {
-        TextCommand::Descriptor(
+        TextCommand::Show
+        | TextCommand::Diff
+        | TextCommand::Descriptor(
             DescriptorCommand::Why
             | DescriptorCommand::Who
             | DescriptorCommand::Compare

@@ -2,14 +2,18 @@
 //! out, a token that lacks what most have. It is for people: rows of tests show each text, and no definition says one.
 
 use crate::remedies::CHILDREN;
-use sd_answer::{read_sddl_argument, read_token, verdict_line};
+use bitflags::Flags;
+use sd_acl::{Ace, AceFlags};
+use sd_answer::{entries_in, read_token, verdict_line};
 use sd_arguments::TextRequest;
 use sd_check::{Verdict, check};
 use sd_commands::{Settings, told_line};
 use sd_line::{Output, Style, Tag, push_printed_line, read_mask_in};
-use sd_sid::Sid;
-use sd_text::{Aliases, read_sid_text_in};
+use sd_sid::{Mask, Sid};
+use sd_text::{Aliases, print_full_sid, read_sid_text_in};
 use sd_usage::{DescriptorCommand, TextCommand};
+use sd_whole::{WholeAce, WholeAcl, WholeKind};
+use sd_whole_parse::{read_sddl_part, read_whole_sddl};
 use std::alloc::{AllocError, Global};
 
 /// The notes on an answer that is no fault. The only error is out of memory.
@@ -26,14 +30,14 @@ pub(crate) fn notes_on(
             [_user, mask, words @ ..],
         ) => {
             push_empty(alloc, text, &mut notes)?;
-            push_flag(alloc, text, &mut notes)?;
-            push_label(alloc, settings, text, &mut notes)?;
+            push_flag(alloc, settings, text, &mut notes)?;
+            push_limits(alloc, settings, text, &mut notes)?;
             push_mask(alloc, mask, words, &mut notes)?;
             push_lacking(alloc, settings, text, request.arguments, &mut notes)?;
         }
         (TextCommand::Descriptor(DescriptorCommand::Who), [mask, words @ ..]) => {
             push_empty(alloc, text, &mut notes)?;
-            push_label(alloc, settings, text, &mut notes)?;
+            push_limits(alloc, settings, text, &mut notes)?;
             push_mask(alloc, mask, words, &mut notes)?;
             push_children(alloc, settings, text, &mut notes)?;
         }
@@ -54,8 +58,17 @@ fn push_empty(alloc: Global, text: &str, notes: &mut String) -> Result<(), Alloc
 }
 
 /// Notes that FA is a flag, of failed accesses, in an entry without rights.
-fn push_flag(alloc: Global, text: &str, notes: &mut String) -> Result<(), AllocError> {
-    if text.split_once(";FA;;;;").is_some() {
+fn push_flag(
+    alloc: Global,
+    settings: &Settings,
+    text: &str,
+    notes: &mut String,
+) -> Result<(), AllocError> {
+    let known = settings.aliases;
+    let Ok(part) = read_sddl_part(alloc, known, settings.whole, text) else {
+        return Ok(());
+    };
+    if entries_in(&part.descriptor.dacl).iter().any(is_flag_alone) {
         let what =
             "FA was read as a flag of an entry without rights: they are the third field, as (A;;FA;;;WD)";
         let note = told_line(alloc, "SDDL", what)?;
@@ -64,54 +77,85 @@ fn push_flag(alloc: Global, text: &str, notes: &mut String) -> Result<(), AllocE
     Ok(())
 }
 
-/// Notes a mandatory label in a SACL that is left out: Windows checks it before the DACL ([MS-DTYP] 2.5.3.3).
-fn push_label(
+fn is_flag_alone(entry: &Ace) -> bool {
+    entry.mask == Mask(0) && entry.flags.contains(AceFlags::FA)
+}
+
+/// Notes what of a SACL that is left out Windows checks before the DACL ([MS-DTYP] 2.5.3.3).
+fn push_limits(
     alloc: Global,
     settings: &Settings,
     text: &str,
     notes: &mut String,
 ) -> Result<(), AllocError> {
-    if !settings.without_sacl {
+    if !settings.whole {
         return Ok(());
     }
-    let Some((_, label)) = text.split_once("(ML;") else {
+    let Ok(descriptor) = read_whole_sddl(alloc, settings.aliases, text) else {
         return Ok(());
     };
-    let label = match label.split_once(')') {
-        Some((fields, _)) => fields,
-        None => label,
+    let WholeAcl::List(list) = &descriptor.sacl else {
+        return Ok(());
     };
+    for entry in list.entries() {
+        push_limit(alloc, entry, notes)?;
+    }
+    Ok(())
+}
+
+fn push_limit(alloc: Global, entry: &WholeAce, notes: &mut String) -> Result<(), AllocError> {
+    let Some((what, sid)) = limit_in(entry) else {
+        return Ok(());
+    };
+    let sid = print_full_sid(alloc, sid)?;
+    let sid = sid.as_str();
     let what = format!(in alloc;
-        "the label (ML;{label}) is ignored, by which Windows may deny what is granted here"
+        "the {what} {sid} is ignored, by which Windows may deny what is granted here"
     )?;
     let note = told_line(alloc, "SDDL", what.as_str())?;
     notes.push_str(note.as_str())
 }
 
-/// Notes entries that are inherited by what is made in a container ([MS-DTYP] 2.4.4.1), where only the object is looked
-/// at.
+/// The name and the SID of an entry that limits what users are granted of the object itself.
+fn limit_in(entry: &WholeAce) -> Option<(&'static str, &Sid)> {
+    let WholeAce::Typed(ace) = entry else {
+        return None;
+    };
+    if ace.flags.contains(AceFlags::IO) {
+        return None;
+    }
+    let what = match ace.kind {
+        WholeKind::MandatoryLabel => "label",
+        WholeKind::ScopedPolicy => "central policy",
+        WholeKind::TrustLabel => "trust label",
+        WholeKind::AccessFilter => "access filter of",
+        _ => return None,
+    };
+    Some((what, &ace.sid))
+}
+
+/// Notes entries of the DACL that are inherited by what is made in a container ([MS-DTYP] 2.4.4.1), where only the
+/// object is looked at.
 fn push_children(
     alloc: Global,
     settings: &Settings,
     text: &str,
     notes: &mut String,
 ) -> Result<(), AllocError> {
-    if !settings.below && text.split('(').any(is_inherited) {
+    let known = settings.aliases;
+    let Ok(part) = read_sddl_part(alloc, known, settings.whole, text) else {
+        return Ok(());
+    };
+    if !settings.below && entries_in(&part.descriptor.dacl).iter().any(is_inherited) {
         let note = told_line(alloc, "SDDL", CHILDREN)?;
         notes.push_str(note.as_str())?;
     }
     Ok(())
 }
 
-/// Whether an entry, after its parenthesis, has OI or CI among its flags.
-fn is_inherited(entry: &str) -> bool {
-    match entry.split(';').nth(1) {
-        Some(flags) => flags.as_bytes().windows(2).any(|flag| matches!(
-            flag,
-            [b'O' | b'o' | b'C' | b'c', b'I' | b'i']
-        )),
-        None => false,
-    }
+/// Whether an entry has OI or CI.
+fn is_inherited(entry: &Ace) -> bool {
+    entry.flags.contains(AceFlags::OI) || entry.flags.contains(AceFlags::CI)
 }
 
 /// Notes a mask whose letters are also an alias, before groups, or that has decimal digits.
@@ -153,8 +197,8 @@ fn push_lacking(
         return Ok(());
     }
     let known = settings.aliases;
-    let (Ok(read), Ok(sid), Ok(asked)) = (
-        read_sddl_argument(alloc, known, settings.without_sacl, text),
+    let (Ok(part), Ok(sid), Ok(asked)) = (
+        read_sddl_part(alloc, known, settings.whole, text),
         read_sid_text_in(known, user),
         read_mask_in(settings.spelling, mask),
     ) else {
@@ -170,7 +214,7 @@ fn push_lacking(
     ) else {
         return Ok(());
     };
-    let descriptor = &read.descriptor;
+    let descriptor = &part.descriptor;
     let verdict = check(descriptor, &settings.mapping, &token, asked);
     let other = check(descriptor, &settings.mapping, &fuller, asked);
     if verdict == other {

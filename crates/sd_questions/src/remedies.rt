@@ -89,7 +89,7 @@ pub(crate) const FIELDS: RemedyRow = (
 pub(crate) const SACL: RemedyRow = (
     "a SACL",
     "the end",
-    "write --without-sacl before the command",
+    "write --whole before the command to leave it out",
 );
 
 pub(crate) const OTHER_ENTRY: RemedyRow = (
@@ -192,11 +192,7 @@ pub(crate) const HEX: RemedyRow = (
     "write --base64 or --loose before the command for other forms",
 );
 
-pub(crate) const WHOLE_SACL: RemedyRow = (
-    "a SACL",
-    "none",
-    "write --whole before the command to keep it, or --without-sacl to leave it out",
-);
+pub(crate) const WHOLE_SACL: RemedyRow = ("a SACL", "none", "write --whole before the command");
 
 pub(crate) const WHOLE_BITS: RemedyRow = (
     "what SDDL has no word for",
@@ -210,15 +206,27 @@ pub(crate) const WHOLE_ENTRY: RemedyRow = (
     "write --whole before the command",
 );
 
+pub(crate) const WHOLE_RANGE: RemedyRow = (
+    "too large a number",
+    "a smaller one",
+    "a mask has 32 bits, a number in a condition or a claim 64, and a SID at most 15 sub-authorities",
+);
+
+pub(crate) const ODD_ENTRY: RemedyRow = (
+    "another kind of entry",
+    "an allow or a deny",
+    "only print, sort, tobin, frombin, show and diff take it",
+);
+
 pub(crate) const EACH: RemedyRow = (
     "a descriptor",
     "an argument after it",
     "each takes the descriptor from the line: leave it out",
 );
 
-/// What a SACL that is left out can have, where lines are answered.
-pub(crate) const LABELS: &str =
-    "a line's mandatory label is ignored, by which Windows may deny what is granted here";
+/// What is left out under `--whole`, where lines are answered.
+pub(crate) const SACLS: &str =
+    "a line's SACL is left out, by whose labels and filters Windows may deny what is granted here";
 
 /// What `--without-bits` leaves out, where lines are answered.
 pub(crate) const NO_BITS: &str = "what a line's header has that SDDL has no word for is left out";

@@ -47,7 +47,7 @@ fn blank_name(question: TextCommand, text: &str, arguments: &[&str]) -> Option<&
     ensures { option_map (λ name. name.now) result ≡ blank_name question text.now arguments.now }
 {
     match question {
-        TextCommand::Descriptor(DescriptorCommand::Compare) => {
+        TextCommand::Diff | TextCommand::Descriptor(DescriptorCommand::Compare) => {
             let new = first(arguments);
             if is_blank(text.as_bytes()) {
                 Some("OLD")

@@ -1,6 +1,6 @@
 -- What these proofs cite of other modules, passed on from one place.
 pub use Rattle.percent_encoding.specs.Percent.{percent_decode}
-pub use Rattle.sd_acl.specs.Descriptor.{DescriptorValue, descriptor_of}
+pub use Rattle.sd_acl.specs.Descriptor.{DescriptorValue}
 pub use Rattle.sd_acl.specs.declared.ace.Ace.{Ace}
 pub use Rattle.sd_analysis.specs.Descendants.{descendant_parts, list_of}
 pub use Rattle.sd_analysis.specs.Sufficient.{Parts, entries_or_none}
@@ -17,9 +17,8 @@ pub use Rattle.sd_line.proofs.WordsLeft.{one_joined}
 pub use Rattle.sd_line.specs.Mask.{IsMaskIn, between_pluses}
 pub use Rattle.sd_answer.specs.Parts.{parts_in}
 pub use Rattle.sd_answer.specs.VerdictLines.{verdict_line}
-pub use Rattle.sd_line.specs.Line.{LineOf, form, line_with, with_head, word_part}
+pub use Rattle.sd_line.specs.Line.{LineOf, form, line_with}
 pub use Rattle.sd_line.specs.Printed.{printed}
-pub use Rattle.sd_line.specs.Spelling.{spelled}
 pub use Rattle.sd_line.specs.declared.print.Style.{Style}
 pub use Rattle.sd_answer.specs.Who.{rights_asked}
 pub use Rattle.sd_answer.specs.Word.{AreGroups, IsToken, texts}
@@ -48,7 +47,6 @@ pub use Rattle.sd_edit.specs.declared.request.Request.{Request}
 pub use Rattle.sd_edit.specs.declared.request.Request.TheVariants.{Publish}
 pub use Rattle.sd_edit.specs.declared.start.StartError.{StartError}
 pub use Rattle.sd_inheritance.specs.declared.kind.NodeKind.TheVariants.{Container}
-pub use Rattle.sd_lines.proofs.InOrder.{seen_as}
 pub use Rattle.sd_lines.specs.Answers.{AreAnswered}
 pub use Rattle.sd_path.proofs.PathBytes.{length-up}
 pub use Rattle.sd_path.proofs.Paths.{within_itself}
@@ -62,7 +60,7 @@ pub use Rattle.sd_review.specs.Review.{Trees, former, stands_in, trees_of}
 pub use Rattle.sd_review.specs.declared.compared.Compared.{Compared}
 pub use Rattle.sd_review.specs.declared.review.Former.{Former}
 pub use Rattle.sd_review.specs.declared.review.Former.TheVariants.{Moved, New, Same}
-pub use Rattle.sd_script.specs.Argument.{IsNumber, dacl_of, descriptor, import_of, node_of, path}
+pub use Rattle.sd_script.specs.Argument.{IsNumber, dacl_of, descriptor, descriptor_in, import_of, node_of, path}
 pub use Rattle.sd_script.specs.Command.{Argument, Arguments, Asks, Dacl, Groups, Imported, Mask, Node, Number, Parses, Path, Sid, Token, Value, asks, asks_where, command_named, command_of, is_empty, is_untimely, line_asks, names, reading, reads, reads_where, value_named, ◌▸◌}
 pub use Rattle.sd_script.specs.Deletion.{delete_right, deletion_line, granted_by, parent_grants}
 pub use Rattle.sd_script.specs.Dump.{AreAskedBy, IsAskedBy, IsReadBack, making, makings, wanted}
@@ -76,7 +74,7 @@ pub use Rattle.sd_script.specs.Listing.{is_split_below}
 pub use Rattle.sd_script.specs.Moving.{IsMoved, moved_words}
 pub use Rattle.sd_script.specs.Output.{IsAnswered, IsDone, IsMade, IsNext, IsOpened, IsTold, IsUntold, before_first_line, closing_of, is_open, opens, script_options_of}
 pub use Rattle.sd_script.specs.Paths.{IsPath, path_word}
-pub use Rattle.sd_script.specs.Printed.{IsNextServed, PrintsServed, asked_in, style_in, tag_in}
+pub use Rattle.sd_script.specs.Printed.{IsNextServed, style_in, tag_in}
 pub use Rattle.sd_script.specs.Question.{for_reader, outcome_of}
 pub use Rattle.sd_script.specs.Reply.{alone, check_line, counted_line, node_why_lines, ok_line, plain_line, refused_line, reply_line, seen_line, seen_lines, shown_line, start_error_line}
 pub use Rattle.sd_script.specs.Review.{AreNodeLines, AreTold, IsCompared, IsNodeReview, IsReviewOf, gone_lines, has_no_words, reviewed_line, trees_in}
@@ -106,11 +104,10 @@ pub use Rattle.sd_sid.specs.Sid.{SidValue}
 pub use Rattle.sd_text.proofs.Engine.{no_fault, one_fault, one_value}
 pub use Rattle.sd_text.specs.Grammar.{Spells}
 pub use Rattle.sd_text.specs.Rights.{mask_text}
-pub use Rattle.sd_text.specs.Sacl.{sddl_without_sacl}
 pub use Rattle.sd_text.specs.Sddl.{sddl_in}
+pub use Rattle.sd_text.specs.declared.alias.Aliases.{Aliases}
 pub use Rattle.sd_text.specs.Sid.{sid_text_in}
-pub use Rattle.sd_tree.specs.Listing.{listed}
-pub use Rattle.std.proofs.Common.{Bool, Err, List, None, Ok, OnErr, OnOk, Option, Result, Some, [], add-one, ap, append-nil, append_assoc, arith, drop, false, inl, inr, length, lit<, not, refl, rules, string_bytes, subst, suc, sym, tests, true, zero, ℕ, ◌++◌, ◌+◌, ◌<◌, ◌==◌, ◌||◌, ◌∙◌, ◌∷◌, ◌≡◌, ◌≤◌}
+pub use Rattle.std.proofs.Common.{Bool, Err, List, None, Ok, OnErr, OnOk, Option, Result, Some, [], add-one, ap, append-nil, append_assoc, arith, drop, false, inl, inr, length, lit<, not, refl, rules, subst, suc, sym, tests, true, zero, ℕ, ◌++◌, ◌+◌, ◌<◌, ◌==◌, ◌||◌, ◌∙◌, ◌∷◌, ◌≡◌, ◌≤◌}
 pub use Rattle.std.proofs.Math.ListN.{drop_of_length-le, length-map}
 pub use Rattle.std.proofs.Math.Seq.{drop-cons}
 pub use Rattle.std.proofs.lemmas.Bool.{and_parts, cases_Bool, cases_lt, false_from_ne_true, false≢true, le-ltb, lt-ltb}
@@ -119,7 +116,7 @@ pub use Rattle.std.proofs.lemmas.Iterator.{YieldsList-from_slice}
 pub use Rattle.std.proofs.lemmas.Iterator.Consumers.{map_from_collect}
 pub use Rattle.std.proofs.lemmas.Iterator.Search.{all_from_yields_List, any_from_yields_List, position_from_yields_List}
 pub use Rattle.std.proofs.lemmas.Iterator.Splits.{YieldsList-from_str_split}
-pub use Rattle.std.proofs.lemmas.List.{append_cancel_left, append_cancel_right, length-append, nil_from_length, take_all}
+pub use Rattle.std.proofs.lemmas.List.{append_cancel_right, length-append, nil_from_length, take_all}
 pub use Rattle.std.proofs.lemmas.List.Elements.{All-head, All-tail}
 pub use Rattle.std.proofs.lemmas.List.Splits.{join_with_byte-slice_split, slice_split_first, slice_split_none}
 pub use Rattle.std.proofs.lemmas.List.Sums.{fails_before_first, prefix_len-le-length}
@@ -130,11 +127,10 @@ pub use Rattle.std.proofs.lemmas.Str.Pattern.{contains_text}
 pub use Rattle.std.specs.Bool.{Decides, one_answer}
 pub use Rattle.std.specs.Char.{is_ascii_graphic}
 pub use Rattle.std.specs.FinMap.{entries, find, get-entries, len, len-entries}
-pub use Rattle.std.specs.Fmt.{decimal}
 pub use Rattle.std.specs.List.{All, flat_map, join_with_byte, list_all, list_any, slice_split}
 pub use Rattle.std.specs.Option.{ForSome}
 pub use Rattle.std.specs.Ordering.{eq_by_cmp}
-pub use Rattle.std.specs.Prelude.{IsErrAnd, MatchBool, bytes_eq, codes, get_or, if◌then◌else◌, is_some, nat_le, nat_lt, option_map, slice_get, take, ⊤, ◌⊎◌}
+pub use Rattle.std.specs.Prelude.{IsErrAnd, MatchBool, bytes_eq, codes, if◌then◌else◌, is_some, nat_le, nat_lt, option_map, slice_get, take, ⊤, ◌⊎◌}
 pub use Rattle.std.specs.Result.{result_transpose}
 pub use Rattle.std.specs.Str.{IsUtf8}
 pub use Rattle.std.specs.Str.Iter.{HasSubslice}

@@ -1,7 +1,12 @@
 -- A line is read as one thing, or has one fault.
-use Rattle.sd_script.proofs.Cited.{AreGroups, Argument, Arguments, Asks, Bool, Dacl, DescriptorValue, Err, Groups, Imported, IsMaskIn, IsNumber, IsPath, IsToken, LineFault, List, Mask, Names, Node, None, Notation, Number, Ok, Option, Path, PathSpelling, Percent, Plain, Reading, Result, ScriptCommand, Sid, Some, SomeOr, Spelling, Spells, Then, Token, [], ap, asks, asks_where, between_pluses, cases_Bool, command_of, dacl_of, descriptor, false, groups_one, import_of, inl, inr, is_untimely, line_asks, mask_text, no_fault, node_of, one_fault, one_joined, one_value, reading, reads, reads_where, sddl_in, sddl_without_sacl, sid_text_in, sym, token_one, true, words_of, ℕ, ◌∙◌, ◌∷◌, ◌≡◌, ◌▸◌}
+use Rattle.sd_script.proofs.Cited.{Aliases, AreGroups, Argument, Arguments, Asks, Bool, Dacl, DescriptorValue, Err, Groups, Imported, IsMaskIn, IsNumber, IsPath, IsToken, LineFault, List, Mask, Names, Node, None, Notation, Number, Ok, Option, Path, PathSpelling, Percent, Plain, Reading, Result, ScriptCommand, Sid, Some, SomeOr, Spelling, Spells, Then, Token, [], ap, asks, asks_where, between_pluses, cases_Bool, command_of, dacl_of, descriptor, descriptor_in, false, groups_one, import_of, inl, inr, is_untimely, line_asks, mask_text, no_fault, node_of, one_fault, one_joined, one_value, reading, reads, reads_where, sddl_in, sid_text_in, sym, token_one, true, words_of, ℕ, ◌∙◌, ◌∷◌, ◌≡◌, ◌▸◌}
 use Rattle.sd_line.specs.declared.spelling.Spelling.TheVariants as spellings
 use Rattle.sd_script.specs.declared.fault.LineFault.TheVariants as faults
+use Rattle.sd_text.proofs.Parts.{found_is, stopped_is}
+use Rattle.sd_whole.specs.Plain.{plain_part}
+use Rattle.sd_whole.specs.declared.descriptor.WholeDescriptor.{WholeDescriptor}
+use Rattle.sd_whole.specs.declared.plain.OddEntry.{OddEntry}
+use Rattle.sd_whole_parse.specs.Part.{IsWhole}
 
 -- ---- readings
 
@@ -33,26 +38,59 @@ one_mask spellings.Number word a b x y = one_value mask_text word a b x y
 one_mask (spellings.Names kind) [] a b x y = x ∙ sym y
 one_mask (spellings.Names kind) (c ∷ word) a b x y = one_joined kind 0 (between_pluses (c ∷ word)) a b x y
 
--- a text has one descriptor, or one fault, whether a SACL may be left out or not
-one_descriptor : (notation : Notation) (without_sacl : Bool) (word : List ℕ)
-    → IsOne (descriptor (record notation { without_sacl = without_sacl }) word)
-one_descriptor notation true word (Ok a) (Ok b) (c, x) (d, y) =
-    ap (λ (z : DescriptorValue × Bool). Ok z.0) (one_value (sddl_without_sacl notation.aliases) word (a, c) (b, d) x y)
-one_descriptor notation true word (Ok a) (Err f) (c, x) (fault, place, y, is) = absurd (no_fault (sddl_without_sacl notation.aliases) word (a, c) fault place x y)
-one_descriptor notation true word (Err f) (Ok a) (fault, place, y, is) (c, x) = absurd (no_fault (sddl_without_sacl notation.aliases) word (a, c) fault place x y)
-one_descriptor notation true word (Err f) (Err g) x y =
-    let same = one_fault (sddl_without_sacl notation.aliases) word x.0 y.0 x.1 y.1 x.2 y.2 in cc (same.0, same.1, x.3, y.3)
-one_descriptor notation false word (Ok a) (Ok b) x y = ap Ok (one_value (sddl_in notation.aliases) word a b x.1.0 y.1.0)
-one_descriptor notation false word (Ok a) (Err f) x y = absurd (no_fault (sddl_in notation.aliases) word a y.0 y.1 x.1.0 y.2)
-one_descriptor notation false word (Err f) (Ok a) x y = absurd (no_fault (sddl_in notation.aliases) word a x.0 x.1 y.1.0 x.2)
-one_descriptor notation false word (Err f) (Err g) x y =
-    let same = one_fault (sddl_in notation.aliases) word x.0 y.0 x.1 y.1 x.2 y.2 in cc (same.0, same.1, x.3, y.3)
+abbrev part_is : {A : Type 0} → A → Result A OddEntry
+part_is a = Ok a
+
+one_part : {A : Type 0} (a b : A) → part_is a ≡ part_is b → a ≡ b
+one_part a b same = cc
+
+abbrev odd_is : {A : Type 0} → OddEntry → Result A OddEntry
+odd_is odd = Err odd
+
+one_odd : {A : Type 0} (a b : OddEntry) → odd_is {A = A} a ≡ odd_is b → a ≡ b
+one_odd a b same = cc
+
+no_part : {A : Type 0} (a : A) (odd : OddEntry) → part_is a ≡ odd_is odd → ⊥
+no_part a odd same = cc
+
+-- the plain parts of what one text spells are one
+same_part : (known : Aliases) (word : List ℕ) (w v : WholeDescriptor) → IsWhole known word w → IsWhole known word v → plain_part w ≡ plain_part v
+same_part known word w v x y = ap plain_part (found_is w v [] [] (sym x ∙ y)).0
+
+-- a text has one descriptor or one fault, whether it may be that of a whole one or not
+one_whole : (known : Aliases) (word : List ℕ) → IsOne (descriptor_in known true word)
+one_whole known word (Ok a) (Ok b) (c, (w, x, part, l)) (d, (v, y, other, m)) = ap Ok (one_part a b (sym part ∙ same_part known word w v x y ∙ other))
+one_whole known word (Ok a) (Err f) (c, (w, x, part, l)) (inl (fault, place, (there, y, at), is)) = absurd cc
+one_whole known word (Ok a) (Err f) (c, (w, x, part, l)) (inr (odd, (t, v, y, none), is)) = absurd (no_part a odd (sym part ∙ same_part known word w v x y ∙ none))
+one_whole known word (Err f) (Ok a) (inl (fault, place, (there, y, at), is)) (c, (w, x, part, l)) = absurd cc
+one_whole known word (Err f) (Ok a) (inr (odd, (t, v, y, none), is)) (c, (w, x, part, l)) = absurd (no_part a odd (sym part ∙ same_part known word w v x y ∙ none))
+one_whole known word (Err f) (Err g) (inl (fault, place, (there, x, at), is)) (inl (other, spot, (rest, y, on), was)) =
+    let same = stopped_is fault other there rest (sym x ∙ y) in cc (same.0, same.1, at, on, is, was)
+one_whole known word (Err f) (Err g) (inl (fault, place, (there, x, at), is)) (inr (odd, (t, v, y, none), was)) = absurd cc
+one_whole known word (Err f) (Err g) (inr (odd, (t, v, y, none), was)) (inl (fault, place, (there, x, at), is)) = absurd cc
+one_whole known word (Err f) (Err g) (inr (odd, (t, v, x, none), is)) (inr (other, (u, w, y, neither), was)) =
+    let same : odd ≡ other = one_odd {A = DescriptorValue} odd other (sym none ∙ same_part known word v w x y ∙ neither) in cc (same, is, was)
+
+one_plain : (known : Aliases) (word : List ℕ) → IsOne (descriptor_in known false word)
+one_plain known word (Ok a) (Ok b) x y = ap Ok (one_value (sddl_in known) word a b x.1.0 y.1.0)
+one_plain known word (Ok a) (Err f) x (inl y) = absurd (no_fault (sddl_in known) word a y.0 y.1 x.1.0 y.2)
+one_plain known word (Ok a) (Err f) x (inr y) = absurd (cc y.1.0)
+one_plain known word (Err f) (Ok a) (inl x) y = absurd (no_fault (sddl_in known) word a x.0 x.1 y.1.0 x.2)
+one_plain known word (Err f) (Ok a) (inr x) y = absurd (cc x.1.0)
+one_plain known word (Err f) (Err g) (inl x) (inl y) =
+    let same = one_fault (sddl_in known) word x.0 y.0 x.1 y.1 x.2 y.2 in cc (same.0, same.1, x.3, y.3)
+one_plain known word (Err f) (Err g) (inl x) (inr y) = absurd (cc y.1.0)
+one_plain known word (Err f) (Err g) (inr x) y = absurd (cc x.1.0)
+
+one_descriptor : (known : Aliases) (whole : Bool) (word : List ℕ) → IsOne (descriptor_in known whole word)
+one_descriptor known true = one_whole known
+one_descriptor known false = one_plain known
 
 -- what a descriptor is for
 described-one : {A : Type 0} (notation : Notation) (word : List ℕ) (f : DescriptorValue → Result A LineFault)
     → IsOne (Then (descriptor notation word) (λ d read. read ≡ f d))
 described-one notation word f =
-    Then-one (descriptor notation word) (λ d read. read ≡ f d) (one_descriptor notation notation.without_sacl word) (λ d r s x y. x ∙ sym y)
+    Then-one (descriptor notation word) (λ d read. read ≡ f d) (one_descriptor notation.aliases notation.whole word) (λ d r s x y. x ∙ sym y)
 
 argument-one : (notation : Notation) (argument : Argument) → IsOne (reading notation argument)
 argument-one notation (Number word) = SomeOr-one (IsNumber word) faults.Number (λ a b x y. sym x.1 ∙ y.1)

@@ -1,5 +1,5 @@
 -- The arguments of a line, each parsed.
-use Rattle.std.specs.Prelude.{◌≡◌, ℕ, ◌<◌, ◌^◌, Bool, List, [], filter, Option, Some, None, Result, Ok, Err}
+use Rattle.std.specs.Prelude.{◌≡◌, ◌⊎◌, ℕ, ◌<◌, ◌^◌, Bool, List, [], filter, Option, Some, None, Result, Ok, Err}
 use Rattle.std.specs.Str.Parse.{IsNumeral, digits_value}
 use Rattle.sd_sid.specs.Sid.{SidValue}
 use Rattle.sd_acl.specs.Canonical.{canonical_order, is_explicit}
@@ -9,6 +9,7 @@ use Rattle.sd_acl.specs.Dacl.{Dacl}
 use Rattle.sd_acl.specs.declared.descriptor.DaclOf.TheVariants as dacls
 use Rattle.sd_text.specs.Grammar.{Spells}
 use Rattle.sd_text.specs.Sid.{sid_text_in}
+use Rattle.sd_text.specs.declared.alias.Aliases.{Aliases}
 use Rattle.sd_text.specs.declared.fault.TextFault.{TextFault}
 use Rattle.sd_check.specs.Token.{TokenValue}
 use Rattle.sd_edit.specs.Descriptors.{own_dacl}
@@ -19,13 +20,14 @@ use Rattle.sd_edit.specs.declared.opening.RootSpec.{RootSpec}
 use Rattle.sd_script.specs.Fault.{Reading, SomeOr, Then}
 use Rattle.sd_script.specs.Paths.{IsPath}
 use Rattle.sd_check.specs.declared.token.GroupState.{GroupState}
-use Rattle.sd_answer.specs.Descriptor.{IsRead, IsUnreadAt}
 use Rattle.sd_line.specs.Mask.{IsMaskIn}
 use Rattle.sd_answer.specs.Word.{AreGroups, IsToken}
 use Rattle.sd_script.specs.declared.fault.LineFault.{LineFault}
-use Rattle.sd_script.specs.declared.fault.LineFault.TheVariants.{Number, Path, Sid, Sddl, Parts, Mask, Token}
+use Rattle.sd_script.specs.declared.fault.LineFault.TheVariants.{Number, Path, Sid, Sddl, Entry, Parts, Mask, Token}
 use Rattle.sd_script.specs.declared.script_options.Notation.{Notation}
 use Rattle.sd_script.specs.declared.paths.PathSpelling.{PathSpelling}
+use Rattle.sd_whole.specs.declared.plain.OddEntry.{OddEntry}
+use Rattle.sd_whole_parse.specs.Part.{IsOddPart, IsPart, IsPartFault}
 
 -- the decimal digits of this number, which has 64 bits
 abbrev pub IsNumber : List ℕ → ℕ → Type 0
@@ -51,11 +53,16 @@ token notation user words = SomeOr (IsToken notation.aliases user words) Token
 abbrev pub base : Notation → List (List ℕ) → Reading (List (SidValue × GroupState))
 base notation words = SomeOr (AreGroups notation.aliases words) Token
 
--- a descriptor, whose SACL may be left out; or the first fault of its text, at its place
+-- a descriptor, or the plain part of a whole one; or the first fault of its text, at its place, or an entry that has no
+-- plain form
+abbrev pub descriptor_in : Aliases → (whole : Bool) → List ℕ → Reading DescriptorValue
+descriptor_in known whole word (Ok d) = (left_out : Bool) × IsPart known whole word d left_out
+descriptor_in known whole word (Err told) =
+    ((fault : TextFault) × (place : ℕ) × IsPartFault known whole word fault place × (told ≡ Sddl fault place))
+    ⊎ ((odd : OddEntry) × IsOddPart known whole word odd × (told ≡ Entry odd))
+
 abbrev pub descriptor : Notation → List ℕ → Reading DescriptorValue
-descriptor notation word (Ok d) = (left_out : Bool) × IsRead notation.aliases notation.without_sacl word d left_out
-descriptor notation word (Err told) = (fault : TextFault) × (place : ℕ)
-    × IsUnreadAt notation.aliases notation.without_sacl word fault place × (told ≡ Sddl fault place)
+descriptor notation = descriptor_in notation.aliases notation.whole
 
 -- an owner, a group and a DACL, where both are there
 abbrev pub with_parts : Option SidValue → Option SidValue → NodeDacl → Result RootSpec LineFault

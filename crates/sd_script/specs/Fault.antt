@@ -1,12 +1,13 @@
 -- What is wrong with a line, and the line of its answer. Of several faults the first is reported.
 use Rattle.std.specs.Prelude.{◌≡◌, ⊤, ◌⊎◌, Result, Ok, Err, codes}
-use Rattle.sd_answer.specs.VerdictLines.{fault_line, sddl_fault_line}
+use Rattle.sd_answer.specs.VerdictLines.{entry_fault_line, fault_line, sddl_fault_line}
 use Rattle.sd_line.specs.Line.{LineOf}
 use Rattle.sd_script.specs.declared.fault.LineFault.{LineFault}
 use Rattle.sd_script.specs.declared.fault.LineFault.TheVariants.{Utf8, Words, Open, Number, Path, Sid, Sddl, Parts}
-use Rattle.sd_script.specs.declared.fault.LineFault.TheVariants.{Mask, Token}
+use Rattle.sd_script.specs.declared.fault.LineFault.TheVariants.{Entry, Mask, Token}
 use Rattle.sd_script.specs.declared.fault.LineStop.{LineStop}
 use Rattle.sd_script.specs.declared.fault.LineStop.TheVariants.{Fault, Memory}
+use Rattle.sd_whole.specs.Plain.{odd_name}
 
 abbrev pub line_of_fault : LineFault → LineOf
 line_of_fault Utf8 = fault_line (codes "utf8")
@@ -16,6 +17,7 @@ line_of_fault Number = fault_line (codes "number")
 line_of_fault Path = fault_line (codes "path")
 line_of_fault Sid = fault_line (codes "sid")
 line_of_fault (Sddl fault place) = sddl_fault_line fault place
+line_of_fault (Entry odd) = entry_fault_line odd.entry (odd_name odd.kind)
 line_of_fault Parts = fault_line (codes "parts")
 line_of_fault Mask = fault_line (codes "mask")
 line_of_fault Token = fault_line (codes "token")

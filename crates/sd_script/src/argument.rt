@@ -11,12 +11,14 @@ use crate::paths::path_in;
 use crate::script_options::Notation;
 use crate::view::Groups;
 use sd_acl::Descriptor;
-use sd_answer::{TokenError, read_base, read_sddl_argument, read_token};
+use sd_answer::{TokenError, read_base, read_token};
 use sd_check::Token;
 use sd_line::read_mask_in;
 use sd_sid::{Mask, Sid};
-use sd_text::{TextError, WithoutSacl, read_sid_text_in};
+use sd_text::read_sid_text_in;
 use sd_tree::{NodeDacl, Path, RootSpec};
+use sd_whole::PlainPart;
+use sd_whole_parse::{PartError, read_sddl_part};
 use std::alloc::Global;
 
 /// A run of decimal digits with a value below 2^64.
@@ -83,22 +85,18 @@ impl Parser {
         path_in(self.alloc, self.notation.paths, word)
     }
 
-    /// The text of a descriptor ([MS-DTYP] 2.5.1), whose SACL may be left out.
+    /// The text of a descriptor ([MS-DTYP] 2.5.1), or the plain part of it.
     pub(crate) fn descriptor(self, word: &str) -> Result<Descriptor, LineStop>
         ensures read { IfOk result (λ d. descriptor self.notation word.now (Ok (descriptor_of d))) }
         ensures stop { IfErr result (λ stop. UnlessMemory (descriptor self.notation word.now) (Err stop)) }
     {
-        match read_sddl_argument(
-            self.alloc,
-            self.notation.aliases,
-            self.notation.without_sacl,
-            word,
-        ) {
-            Ok(WithoutSacl { descriptor, .. }) => Ok(descriptor),
-            Err(TextError::Fault { fault, place }) => {
+        match read_sddl_part(self.alloc, self.notation.aliases, self.notation.whole, word) {
+            Ok(PlainPart { descriptor, .. }) => Ok(descriptor),
+            Err(PartError::Fault { fault, place }) => {
                 Err(LineStop::Fault(LineFault::Sddl { fault, place }))
             }
-            Err(TextError::Memory) => Err(LineStop::Memory),
+            Err(PartError::Odd(odd)) => Err(LineStop::Fault(LineFault::Entry(odd))),
+            Err(PartError::Memory) => Err(LineStop::Memory),
         }
     }
 

@@ -3,9 +3,10 @@ ghost use Rattle.std.specs.Prelude.{◌≡◌, IfOk};
 ghost use Rattle.sd_script.specs.Fault.{line_of_fault};
 ghost use Rattle.sd_script.specs.declared.fault.LineStop.TheVariants as stops;
 
-use sd_answer::{fault_line, sddl_fault_line};
+use sd_answer::{entry_fault_line, fault_line, sddl_fault_line};
 use sd_line::Line;
 use sd_text::TextFault;
+use sd_whole::OddEntry;
 use std::alloc::{AllocError, Global};
 
 /// The first thing that is wrong with a line: of the line as a whole, and then of its arguments from the left.
@@ -25,6 +26,8 @@ pub enum LineFault {
     Sid,
     /// The word isn't the text of a descriptor.
     Sddl { fault: TextFault, place: u64 },
+    /// An entry of the descriptor's DACL is no allow and no deny.
+    Entry(OddEntry),
     /// The descriptor lacks an owner or a group, or has one where it may not.
     Parts,
     /// The word isn't a rights field.
@@ -70,6 +73,7 @@ pub fn line_of_fault(alloc: Global, fault: LineFault) -> Result<Line, AllocError
         LineFault::Path => fault_line(alloc, "path"),
         LineFault::Sid => fault_line(alloc, "sid"),
         LineFault::Sddl { fault, place } => sddl_fault_line(alloc, fault, place),
+        LineFault::Entry(odd) => entry_fault_line(alloc, odd.entry as u64, odd.kind.name()),
         LineFault::Parts => fault_line(alloc, "parts"),
         LineFault::Mask => fault_line(alloc, "mask"),
         LineFault::Token => fault_line(alloc, "token"),

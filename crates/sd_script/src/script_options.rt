@@ -31,8 +31,8 @@ pub struct Notation {
     pub spelling: Spelling,
     /// Which aliases of SIDs an SDDL, a user and a word may have ([MS-DTYP] 2.5.1.1, sid-token).
     pub aliases: Aliases,
-    /// Whether the section of a SACL is left out of an SDDL ([MS-DTYP] 2.5.1.1, sacl).
-    pub without_sacl: bool,
+    /// Whether an SDDL may have a SACL, which is left out, and entries of every type ([MS-DTYP] 2.5.1.1).
+    pub whole: bool,
     /// What each line of an answer is printed as.
     pub output: Output,
 }
@@ -45,7 +45,7 @@ impl Notation {
           paths = paths;
           spelling = Number;
           aliases = in_domain None;
-          without_sacl = false;
+          whole = false;
           output = Text;
         } }
     {
@@ -53,7 +53,7 @@ impl Notation {
             paths,
             spelling: Spelling::Number,
             aliases: Aliases::in_domain(None),
-            without_sacl: false,
+            whole: false,
             output: Output::Text,
         }
     }

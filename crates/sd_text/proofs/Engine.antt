@@ -1,5 +1,5 @@
 -- What find answers is what the relations say, for each grammar; so a text has one value or one fault.
-use Rattle.sd_text.proofs.Cited.{Err, Found, GivesUnlessMemory, Grammar, HasFault, IfOk, IsErrOf, IsOkAnd, Items, List, Memory, Name, None, Ok, Option, Some, Spells, SpellsOne, TextFault, [], and_then, ap, append-nil, append_assoc, arith, begins, begins_digit, behind_part, choose, digits_len, digits_value, drop, end, eqb-true, false, faults, find, find_items, inl, inr, le-ltb, length, length-drop, lt-ltb, ltb-false, ltb-true, many, name_or, named, nat_lt, number, ok_or, one_of, refl, refused, spells, subst, suc, sym, take, through, true, value, whole, word, zero, ℕ, ◌++◌, ◌+◌, ◌-◌, ◌==◌, ◌∙◌, ◌∷◌, ◌≡◌, ◌≤◌, ◌⊎◌}
+use Rattle.sd_text.proofs.Cited.{Err, Found, GivesUnlessMemory, Grammar, HasFault, IfOk, IsErrOf, IsOkAnd, Items, List, Memory, Name, None, Ok, Option, Some, Spells, SpellsOne, TextFault, [], and_then, ap, append-nil, append_assoc, arith, begins, begins_digit, behind_part, choose, digits_len, digits_value, drop, end, eqb-true, false, faults, find, find_items, inl, inr, le-ltb, length, length-drop, lt-ltb, ltb-false, ltb-true, many, name_or, named, nat_lt, number, ok_or, one_of, refl, refused, spells, subst, suc, sym, take, true, value, whole, word, zero, ℕ, ◌++◌, ◌+◌, ◌-◌, ◌==◌, ◌∙◌, ◌∷◌, ◌≡◌, ◌≤◌, ◌⊎◌}
 use Rattle.std.specs.Prelude.{Bool}
 use Rattle.sd_text.proofs.Parts.{went, found, found_is, stopped, stopped_is, named_takes, named_none}
 use Rattle.sd_text.proofs.Runs.{run_of, run_digits, run_behind, run_begins}
@@ -93,11 +93,6 @@ stands (number head radix limit) text =
         | inr k ↦ rw (h, k) (inr (refl, refl, take len run, drop len run, run_of radix run h, ltb-false _ _ k), omega arith)
       ]
     ]
-stands (through len) text =
-    elim (went (len text == 0)) [
-      | inl h ↦ rw h ((h, refl, refl), omega arith)
-      | inr h ↦ rw h ((h, refl), length-drop-le (len text) text)
-    ]
 stands (one_of names p) text = one_stands names p text (named names text) refl (stands p text)
 stands (many names item) text = many_stands names item text _ (items_stand names item (λ before b mid. stands (item before b) mid) (length text) [] text (omega arith))
 
@@ -149,7 +144,6 @@ spells_find (number head radix limit) text n behind s =
     let run = drop head text in
     let digits = run_digits radix run s.0 behind s.1 in
     rw (run_begins radix run s.0 behind s.1, digits, run_behind radix run s.0 behind s.1, sym s.2, lt-ltb n limit s.3) refl
-spells_find (through len) text a behind s = rw (s.0, s.1) refl
 spells_find (one_of names p) text a behind s = elim s [ inl h ↦ rw h refl | inr h ↦ rw h.0 (spells_find p text a behind h.1) ]
 spells_find (many names item) text xs behind s =
     items_found names item (λ before b. spells_find (item before b)) (length text) [] text xs behind (omega arith) s.0 (Ok (xs, behind)) (λ m h. items_end names item m xs behind s.1)
@@ -171,7 +165,6 @@ faults_find (number head radix limit) text f there s =
       | inl h ↦ let none : begins_digit radix run ≡ false = rw h.1 at h.2 in rw (none, h.0, h.1) refl
       | inr h ↦ rw (run_begins radix run h.2 h.3 h.4, run_digits radix run h.2 h.3 h.4, le-ltb (digits_value radix h.2) limit h.5, h.0, h.1) refl
     ]
-faults_find (through len) text f there s = rw (s.0, s.1, s.2) refl
 faults_find (one_of names p) text f there s = rw s.0 (faults_find p text f there s.1)
 faults_find (many names item) text f there s =
     items_found names item (λ before b. spells_find (item before b)) (length text) [] text s.0 s.1 (omega arith) s.4 (Err (f, there))

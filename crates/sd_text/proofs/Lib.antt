@@ -7,9 +7,6 @@ pub mod Engine
 pub mod Loops
 pub mod Sids
 pub mod Entries
-pub mod Audits
-pub mod Cuts
-pub mod CutSddl
 pub mod Placed
 pub mod Tables
 pub mod AliasTables

@@ -6,7 +6,7 @@ use Rattle.std.specs.Char.{digit_value}
 use Rattle.std.specs.Str.Parse.{digits_value}
 use Rattle.sd_text.specs.declared.fault.TextFault.{TextFault}
 use Rattle.sd_text.specs.declared.fault.TextFault.TheVariants.{Syntax, Range}
-use Rattle.sd_text.specs.Grammar.{Grammar, Name, value, refused, choose, and_then, word, number, through, one_of}
+use Rattle.sd_text.specs.Grammar.{Grammar, Name, value, refused, choose, and_then, word, number, one_of}
 use Rattle.sd_text.specs.Grammar.{many, begins}
 use Rattle.sd_text.specs.Grammar.{begins_digit, named}
 
@@ -53,7 +53,6 @@ find (choose test p q) text = if test text then find p text else find q text
 find (and_then p next) text = behind_part (find p text) (λ a mid. find (next a) mid)
 find (word letters) text = if begins text letters then Ok (tt, drop (length letters) text) else Err (Syntax, text)
 find (number head radix limit) text = find_number radix limit (digits_len radix (drop head text)) (drop head text) text
-find (through len) text = if len text == 0 then Err (Syntax, []) else Ok (tt, drop (len text) text)
 find (one_of names p) text = name_or (named names text) (λ a mid. Ok (a, mid)) (find p text)
 find (many names item) text = find_items names (λ before b. find (item before b)) (length text) [] text
 

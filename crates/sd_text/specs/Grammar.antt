@@ -39,7 +39,6 @@ named (name ∷ names) text = if begins text name.letters then Some (name.stands
 -- and_then p next: p, then what next makes of its value.
 -- word letters: these letters, of either case.
 -- number head radix limit: a head of so many bytes, all digits after it, and a value below the limit.
--- through len: as many bytes as it says of the text from here on. Where that is 0, the text ends too early.
 -- one_of names p: a name of the table, else p.
 -- many names item: as often as a name of the table follows, that name and an item, which may depend on earlier items.
 pub data Grammar : Type 0 → Type 1 where
@@ -49,7 +48,6 @@ pub data Grammar : Type 0 → Type 1 where
   and_then : {A B : Type 0} → Grammar A → (A → Grammar B) → Grammar B
   word : List ℕ → Grammar (Unit {0})
   number : ℕ → ℕ → ℕ → Grammar ℕ
-  through : (List ℕ → ℕ) → Grammar (Unit {0})
   one_of : {A : Type 0} → List (Name A) → Grammar A → Grammar A
   many : {A B : Type 0} → List (Name B) → (List A → B → Grammar A) → Grammar (List A)
 
@@ -95,7 +93,6 @@ spells (and_then {A = A} p next) text b behind = (a : A) × (mid : List ℕ) × 
 spells (word letters) text u behind = (begins text letters ≡ true) × (behind ≡ drop (length letters) text)
 spells (number head radix limit) text n behind = (digits : List ℕ) × Run radix (drop head text) digits behind
     × (n ≡ digits_value radix digits) × (n < limit)
-spells (through len) text u behind = ((len text == 0) ≡ false) × (behind ≡ drop (len text) text)
 spells (one_of names p) text a behind = (named names text ≡ Some (a, behind))
     ⊎ ((named names text ≡ None) × spells p text a behind)
 spells (many names item) text xs behind = Items names (λ before b. spells (item before b)) [] text xs behind
@@ -114,7 +111,6 @@ faults (number head radix limit) text fault there =
     ((fault ≡ Syntax) × (there ≡ drop head text) × (begins_digit radix there ≡ false))
     ⊎ ((fault ≡ Range) × (there ≡ text) × (digits : List ℕ) × (behind : List ℕ)
     × Run radix (drop head text) digits behind × (limit ≤ digits_value radix digits))
-faults (through len) text fault there = ((len text == 0) ≡ true) × (fault ≡ Syntax) × (there ≡ [])
 faults (one_of names p) text fault there = (named names text ≡ None) × faults p text fault there
 faults (many {A = A} {B = B} names item) text fault there =
     (xs : List A) × (last : List ℕ) × (b : B) × (mid : List ℕ)

@@ -1,16 +1,15 @@
 -- Laws of all texts.
-use Rattle.std.specs.Prelude.{◌≡◌, ℕ, ◌^◌, ◌<◌, ◌⊎◌, List, ◌++◌, true, false, codes}
+use Rattle.std.specs.Prelude.{◌≡◌, ℕ, ◌^◌, ◌<◌, ◌⊎◌, List}
 use Rattle.sd_sid.specs.Sid.{SidValue, IsSid}
 use Rattle.sd_acl.specs.Descriptor.{DescriptorValue, IsDescriptor, HaveNamedFlags}
 use Rattle.sd_text.specs.Canon.{sid_canon, rights_canon_in, canon_in}
 use Rattle.sd_text.specs.Rights.{mask_text}
-use Rattle.sd_text.specs.Sacl.{sddl_without_sacl}
 use Rattle.sd_text.specs.Sddl.{sddl_in}
 use Rattle.sd_text.specs.Sid.{sid_text_in}
 use Rattle.sd_text.specs.declared.alias.Aliases.{Aliases}
 use Rattle.sd_text.specs.declared.fault.TextFault.{TextFault}
 use Rattle.sd_text.specs.declared.right_names.RightNames.{RightNames}
-use Rattle.sd_text.specs.Grammar.{Grammar, begins, Spells, HasFault}
+use Rattle.sd_text.specs.Grammar.{Grammar, Spells, HasFault}
 
 -- no text has two values
 abbrev pub HasOneValue : {A : Type 0} → Grammar A → Type 0
@@ -43,15 +42,3 @@ SidsComeBack = (known : Aliases) (sid : SidValue) → IsSid sid → Spells (sid_
 -- the printed text of a mask spells it
 abbrev pub MasksComeBack : Type 0
 MasksComeBack = (names : RightNames) (mask : ℕ) → mask < 2 ^ 32 → Spells mask_text (rights_canon_in names mask) mask
-
--- a text without a SACL's section spells the same descriptor where one may be left out
-abbrev pub AreReadAlike : Type 0
-AreReadAlike = (known : Aliases) (text : List ℕ) (d : DescriptorValue) → Spells (sddl_in known) text d
-    → Spells (sddl_without_sacl known) text (d, false)
-
--- a text whose SACL is left out is the text of the same descriptor, and then the section of that SACL
-abbrev pub EndsWithItsSacl : Type 0
-EndsWithItsSacl =
-    (known : Aliases) (text : List ℕ) (d : DescriptorValue) → Spells (sddl_without_sacl known) text (d, true)
-    → (before : List ℕ) × (section : List ℕ) × (text ≡ before ++ section) × (begins section (codes "S:") ≡ true)
-    × Spells (sddl_in known) before d

@@ -9,7 +9,6 @@ pub mod Sid
 pub mod Rights
 pub mod Entry
 pub mod Sddl
-pub mod Sacl
 pub mod RightNames
 pub mod Canon
 pub mod MaskNames

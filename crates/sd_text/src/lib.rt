@@ -25,7 +25,6 @@ mod places;
 mod print;
 mod right_names;
 mod rights;
-mod sacl;
 mod sid;
 
 pub use alias::{Aliases, alias_of};
@@ -35,9 +34,8 @@ pub use domain::Domain;
 pub use entry::flag_names;
 pub use fault::{TextError, TextFault};
 pub use laws::{
-    printed_texts_come_back, texts_end_with_their_sacl, texts_have_a_value_or_a_fault,
-    texts_have_one_fault, texts_have_one_value, texts_never_have_both,
-    texts_without_a_sacl_are_read_alike,
+    printed_texts_come_back, texts_have_a_value_or_a_fault, texts_have_one_fault,
+    texts_have_one_value, texts_never_have_both,
 };
 pub use mask_names::print_mask_names;
 pub use print::{
@@ -46,5 +44,4 @@ pub use print::{
 };
 pub use right_names::RightNames;
 pub use rights::read_mask;
-pub use sacl::{WithoutSacl, read_sddl_without_sacl};
 pub use sid::{read_sid_text, read_sid_text_in};

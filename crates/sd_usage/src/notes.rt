@@ -7,6 +7,8 @@ pub(crate) fn notes_of(command: CommandName) -> &'static str {
     match command {
         CommandName::Ask(TextCommand::Descriptor(question)) => descriptor_notes(question),
         CommandName::Ask(TextCommand::FromBinary) => FROM_BINARY_NOTES,
+        CommandName::Ask(TextCommand::Show) => SHOW_NOTES,
+        CommandName::Ask(TextCommand::Diff) => DIFF_NOTES,
         CommandName::Ask(TextCommand::Rights) => RIGHTS_NOTES,
         CommandName::Ask(TextCommand::Sid) => SID_NOTES,
         CommandName::Script => SCRIPT_NOTES,
@@ -45,6 +47,33 @@ Statuses:
 
 Example:
   sdstore verdict 'D:(A;;FR;;;WD)' S-1-5-21-1-2-3-1001 0x1 WD";
+
+const SHOW_NOTES: &str = "\
+A first '--' after 'show' is dropped, and everything after it is an argument. Options go before
+'show': 'sdstore help' lists them.
+
+Prints a line for each fact: the owner, the group, each list, and each entry in its order, of every
+type, of the DACL and then of the SACL. Masks have the names of a kind of object after '--names'.
+
+Statuses:
+  0  the lines were printed
+  1  an invalid argument
+  2  the arguments aren't a valid command line
+  3  out of memory, or an output error";
+
+const DIFF_NOTES: &str = "\
+A first '--' after 'diff' is dropped, and everything after it is an argument. Options go before
+'diff': 'sdstore help' lists them. 'each diff NEW' takes OLD from each line.
+
+Prints 'same', or a line for each thing that differs, in the words of 'sdstore show': entries that
+only one of the two has, and entries that moved. It says what the descriptors have, and nothing of
+what users gain or lose by it: that is 'sdstore compare'.
+
+Statuses:
+  0  same
+  1  a difference, or an invalid argument
+  2  the arguments aren't a valid command line
+  3  out of memory, or an output error";
 
 const VERDICT_NOTES: &str = "\
 A first '--' after 'verdict' is dropped, and everything after it is an argument: write

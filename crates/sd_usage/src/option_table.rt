@@ -27,25 +27,17 @@ prints masks by the names of their kind of object, as FR+WD instead of 0x160089,
 MASK, and prints entries with names of that kind alone",
     ),
     (
-        "--without-sacl",
-        ProgramOption {
-            name: OptionName::WithoutSacl,
-            value: None,
-            excludes: Some(OptionName::Whole),
-        },
-        "\
-drops a section S:, whatever its entries, or the SACL in bytes, and reports it on standard error,
-but not of a script's lines",
-    ),
-    (
         "--whole",
         ProgramOption {
             name: OptionName::Whole,
             value: None,
-            excludes: Some(OptionName::WithoutSacl),
+            excludes: None,
         },
         "\
-takes descriptors with a SACL and with entries of every type; what SDDL has no text for is a fault",
+takes descriptors with a SACL and with entries of every type. What prints a descriptor prints all of
+it, and what has no text is a fault; what answers a question, and a script, leaves the SACL out, which
+it reports on standard error, but not of lines, and a conditional or an object entry in a DACL is a
+fault there",
     ),
     (
         "--without-bits",

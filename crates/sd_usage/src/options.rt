@@ -5,7 +5,6 @@ use crate::row::OptionName;
 /// The options of `tobin`.
 pub(crate) const TO_BINARY_OPTIONS: &[OptionName] = &[
     OptionName::Stdin,
-    OptionName::WithoutSacl,
     OptionName::Whole,
     OptionName::RequireDacl,
     OptionName::Domain,
@@ -20,9 +19,21 @@ pub(crate) const TO_BINARY_OPTIONS: &[OptionName] = &[
 pub(crate) const PRINT_OPTIONS: &[OptionName] = &[
     OptionName::Stdin,
     OptionName::Names,
-    OptionName::WithoutSacl,
     OptionName::Whole,
     OptionName::RequireDacl,
+    OptionName::Domain,
+    OptionName::Aliases,
+    OptionName::Mapping,
+    OptionName::Json,
+    OptionName::Color,
+    OptionName::Caret,
+    OptionName::StrictStatus,
+];
+
+/// The options of `show` and `diff`.
+pub(crate) const SHOW_OPTIONS: &[OptionName] = &[
+    OptionName::Stdin,
+    OptionName::Names,
     OptionName::Domain,
     OptionName::Aliases,
     OptionName::Mapping,
@@ -36,7 +47,7 @@ pub(crate) const PRINT_OPTIONS: &[OptionName] = &[
 pub(crate) const SORT_OPTIONS: &[OptionName] = &[
     OptionName::Stdin,
     OptionName::Names,
-    OptionName::WithoutSacl,
+    OptionName::Whole,
     OptionName::RequireDacl,
     OptionName::Domain,
     OptionName::Aliases,
@@ -51,7 +62,7 @@ pub(crate) const SORT_OPTIONS: &[OptionName] = &[
 pub(crate) const VERDICT_OPTIONS: &[OptionName] = &[
     OptionName::Stdin,
     OptionName::Names,
-    OptionName::WithoutSacl,
+    OptionName::Whole,
     OptionName::RequireDacl,
     OptionName::Domain,
     OptionName::Aliases,
@@ -66,7 +77,7 @@ pub(crate) const VERDICT_OPTIONS: &[OptionName] = &[
 pub(crate) const WHO_OPTIONS: &[OptionName] = &[
     OptionName::Stdin,
     OptionName::Names,
-    OptionName::WithoutSacl,
+    OptionName::Whole,
     OptionName::RequireDacl,
     OptionName::Below,
     OptionName::Domain,
@@ -81,7 +92,7 @@ pub(crate) const WHO_OPTIONS: &[OptionName] = &[
 pub(crate) const COMPARE_OPTIONS: &[OptionName] = &[
     OptionName::Stdin,
     OptionName::Names,
-    OptionName::WithoutSacl,
+    OptionName::Whole,
     OptionName::RequireDacl,
     OptionName::Object,
     OptionName::Domain,
@@ -96,7 +107,7 @@ pub(crate) const COMPARE_OPTIONS: &[OptionName] = &[
 pub(crate) const LINT_OPTIONS: &[OptionName] = &[
     OptionName::Stdin,
     OptionName::Names,
-    OptionName::WithoutSacl,
+    OptionName::Whole,
     OptionName::RequireDacl,
     OptionName::Object,
     OptionName::Risks,
@@ -113,7 +124,6 @@ pub(crate) const LINT_OPTIONS: &[OptionName] = &[
 pub(crate) const BYTES_OPTIONS: &[OptionName] = &[
     OptionName::Stdin,
     OptionName::Names,
-    OptionName::WithoutSacl,
     OptionName::Whole,
     OptionName::WithoutBits,
     OptionName::RequireDacl,
@@ -128,7 +138,7 @@ pub(crate) const BYTES_OPTIONS: &[OptionName] = &[
 
 pub(crate) const SCRIPT_OPTIONS: &[OptionName] = &[
     OptionName::Names,
-    OptionName::WithoutSacl,
+    OptionName::Whole,
     OptionName::Percent,
     OptionName::Strict,
     OptionName::Nodes,

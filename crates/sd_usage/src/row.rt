@@ -1,6 +1,8 @@
 //! What the rows of the table of commands and options are made of, and what a row says. Definitions can't name a
 //! constant whose structs hold references, so a row is a tuple: of texts, and of a struct without any.
-ghost use Rattle.std.specs.Prelude.{◌≡◌, ◌<◌, bytes_eq, option_map};
+ghost use Rattle.std.specs.Prelude.{◌≡◌, ◌<◌, ◌==◌, bytes_eq, false, option_map};
+ghost use Rattle.std.specs.List.{list_any};
+ghost use Rattle.std.specs.Option.{option_map_or};
 ghost use Rattle.sd_usage.specs.Table.{argument_at, command_named, count_of, first_of, flag_name, flag_named};
 ghost use Rattle.sd_usage.specs.Table.{option_named, place, takes_count, takes_option};
 ghost use Rattle.sd_usage.specs.declared.row.TheConstants.{OPTION_COUNT};
@@ -43,6 +45,10 @@ pub enum TextCommand {
     Descriptor(DescriptorCommand),
     /// `frombin`.
     FromBinary,
+    /// `show`.
+    Show,
+    /// `diff`.
+    Diff,
     /// `rights`.
     Rights,
     /// `sid`.
@@ -77,8 +83,6 @@ pub enum OptionName {
     Stdin,
     /// `--names`.
     Names,
-    /// `--without-sacl`.
-    WithoutSacl,
     /// `--whole`.
     Whole,
     /// `--without-bits`.
@@ -244,7 +248,15 @@ fn command_in(rows: &[CommandRow], text: &str) -> Option<Command>
 pub fn takes_option(text: &str, option: OptionName) -> bool
     ensures { result ≡ takes_option text.now option }
 {
-    match options_in(COMMANDS, text) {
+    takes_in(COMMANDS, text, option)
+}
+
+/// Whether the option is one of those of the first of these rows with that name.
+fn takes_in(rows: &[CommandRow], text: &str, option: OptionName) -> bool
+    ensures { result ≡ option_map_or (λ options. list_any (λ name. place name == place option) options)
+        (first_of (λ row. bytes_eq row.0.now text.now) (λ row. row.2.now) rows.now) false }
+{
+    match options_in(rows, text) {
         Some(options) => options.contains(&option),
         None => false,
     }

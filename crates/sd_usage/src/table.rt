@@ -2,7 +2,7 @@
 
 use crate::options::{
     BYTES_OPTIONS, COMPARE_OPTIONS, LINT_OPTIONS, PRINT_OPTIONS, RIGHTS_OPTIONS, SCRIPT_OPTIONS,
-    SID_OPTIONS, SORT_OPTIONS, TO_BINARY_OPTIONS, VERDICT_OPTIONS, WHO_OPTIONS,
+    SHOW_OPTIONS, SID_OPTIONS, SORT_OPTIONS, TO_BINARY_OPTIONS, VERDICT_OPTIONS, WHO_OPTIONS,
 };
 use crate::row::{
     Argument, Arguments, Command, CommandName, CommandRow, DescriptorCommand, Flag, Flags,
@@ -119,6 +119,30 @@ sdstore verdict 'D:(D;;0x2;;;S-1-5-21-1-2-3-1001)(A;;0x1f01ff;;;S-1-5-21-1-2-3-1
         BYTES_OPTIONS,
         "Prints a descriptor in self-relative form as canonical SDDL",
         "sdstore frombin 010000801400000000000000000000000000000001020000000000052000000020020000",
+    ),
+    (
+        "show",
+        Command {
+            name: CommandName::Ask(TextCommand::Show),
+            flags: Flags::Nothing,
+            arguments: Arguments::One(Argument::Descriptor),
+            repeated: None,
+        },
+        SHOW_OPTIONS,
+        "Prints all that a descriptor has, in words",
+        "sdstore show 'O:BAG:SYD:PAI(D;;FW;;;BG)(A;OICIID;FA;;;BA)S:(ML;;NW;;;HI)'",
+    ),
+    (
+        "diff",
+        Command {
+            name: CommandName::Ask(TextCommand::Diff),
+            flags: Flags::Nothing,
+            arguments: Arguments::Two(Argument::Old, Argument::New),
+            repeated: None,
+        },
+        SHOW_OPTIONS,
+        "Prints in words what one descriptor has and another hasn't",
+        "sdstore diff 'O:BAD:(A;;FA;;;BU)' 'O:BAD:P(D;;FW;;;BG)(A;;FA;;;BU)'",
     ),
     (
         "rights",

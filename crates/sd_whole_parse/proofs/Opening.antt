@@ -8,7 +8,7 @@ use Rattle.std.proofs.lemmas.List.Folds.{list_any-append}
 use Rattle.sd_text.proofs.Engine.{find_spells}
 use Rattle.sd_text.proofs.Parts.{chosen, name_is, went}
 use Rattle.sd_text.specs.Finding.{find}
-use Rattle.sd_text.specs.Grammar.{Grammar, Items, Name, and_then, begins, choose, many, named, number, one_of, refused, spells, through, value, word}
+use Rattle.sd_text.specs.Grammar.{Grammar, Items, Name, and_then, begins, choose, many, named, number, one_of, refused, spells, value, word}
 use Rattle.sd_whole_parse.specs.Finding.{has_opening}
 use Rattle.sd_whole_parse.specs.Spaces.{after_spaces, at_entry, space_len}
 
@@ -66,7 +66,6 @@ spelled_kept (choose test p q) text a behind s opens = elim s [ inl h ↦ spelle
 spelled_kept (and_then p next) text a behind s opens = spelled_kept p text s.0 s.1 s.2 (spelled_kept (next s.0) s.1 a behind s.3 opens)
 spelled_kept (word letters) text a behind s opens = kept_drop (length letters) text (rw s.1 at opens)
 spelled_kept (number head radix limit) text a behind s opens = kept_drop head text (rw s.1.parts (kept_behind s.0 behind opens))
-spelled_kept (through len) text a behind s opens = kept_drop (len text) text (rw s.1 at opens)
 spelled_kept (one_of names p) text a behind s opens = elim s [ inl h ↦ named_kept names text a behind h opens | inr h ↦ spelled_kept p text a behind h.1 opens ]
 spelled_kept (many names item) text xs behind s opens = items_kept names item (λ before b. spelled_kept (item before b)) [] text xs behind s.0 opens
 

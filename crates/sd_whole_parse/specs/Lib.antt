@@ -7,4 +7,5 @@ pub mod Data
 pub mod Entry
 pub mod Acl
 pub mod Descriptor
+pub mod Part
 pub mod Laws

@@ -18,8 +18,10 @@ mod fields;
 mod guid;
 mod kind;
 mod laws;
+mod part;
 mod spaces;
 mod stop;
 
 pub use descriptor::read_whole_sddl;
 pub use laws::{guids_come_back, plain_texts_are_read_alike, plain_texts_come_back};
+pub use part::{PartError, read_sddl_part};

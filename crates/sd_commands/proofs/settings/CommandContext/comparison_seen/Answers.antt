@@ -6,7 +6,7 @@ use Rattle.sd_commands.proofs.settings.CommandContext.comparison_seen.Goals as g
 
 pub returns : goal.returns
 returns c =
-    let settings = c.args.self.settings in
+    let settings = c.args.self.now.settings.now in
     let inner = answer_of c.in_ok-answer.answer in
     let of_old = subst (λ old. PrintsComparison settings old (descriptor_of c.in_ok-new.new) c.args.groups.now inner) c.in_ok-old.ensures c.in_ok-answer.ensures in
     let of_both = subst (λ new. PrintsComparison settings (looked_at settings.object (descriptor_of c.args.old)) new c.args.groups.now inner) c.in_ok-new.ensures of_old in
