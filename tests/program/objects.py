@@ -3,7 +3,7 @@
 
 Each row of tests/ whose command takes `--json`, and whose input has less than 64 KiB, is run with it and without:
 its status and its standard error are the same, and each line of its output is made again from its object, by the forms
-of crates/sd_answer/src/forms.rt; tests/rows validates the object. Keys of all bytes are tried beside them.
+of tests/forms.py; tests/rows validates the object. Keys of all bytes are tried beside them.
 """
 import importlib.machinery
 import importlib.util
@@ -15,11 +15,11 @@ from pathlib import Path
 
 TOP = Path(__file__).resolve().parents[2]
 sys.path.append(str(TOP / "tests"))
-from forms import LINES, line_of, names  # noqa: E402
+from forms import line_of, wordings  # noqa: E402
 from tally import close, holds  # noqa: E402
 
 PROGRAM = sys.argv[1]
-COMMANDS = "verdict why who compare lint print sort tobin frombin rights sid each script serve audit".split()
+COMMANDS = "verdict why who compare lint print sort tobin frombin show diff rights sid each script serve audit".split()
 
 
 def load(path):
@@ -33,27 +33,32 @@ def load(path):
 
 
 ROWS = load("tests/rows")
-#: The words of a line by its kind and the names of its values.
-WORDS = {(kind, tuple(names(words))): words for kind, words in LINES}
 
 
-def line_again(object_):
-    """The line that an object was made of."""
+def lines_again(object_):
+    """The lines that an object may have been made of: one, but for parts of entries that have the same names."""
     members = dict(object_)
     tag = "".join(members.pop(name) + end for name, end in (("key", "\t"), ("id", " ")) if name in members)
     if "text" in members:
         assert list(members) == ["text"]
-        return tag + members["text"]
+        return [tag + members["text"]]
     kind = members.pop("answer")
-    return tag + line_of(WORDS[kind, tuple(members)], members)
+    words = wordings(kind, tuple(members))
+    assert words, "no line of this kind has these values"
+    return [tag + line_of(each, members) for each in words]
 
 
-def lines_of(output):
-    """The lines that the objects of an output were made of. Bytes that are no UTF-8 are surrogates, and so are they."""
-    assert output.endswith(b"\n") or not output
-    objects = output.decode("ascii" if output.isascii() else "utf-8").split("\n")[:-1]
-    lines = [line_again(json.loads(each)) + "\n" for each in objects]
-    return "".join(lines).encode("utf-8", "surrogateescape")
+def is_made_of(object_, line):
+    """Whether a line is made again from its object, in which bytes that are no UTF-8 are surrogates."""
+    return any(again.encode("utf-8", "surrogateescape") == line for again in lines_again(json.loads(object_)))
+
+
+def are_made_of(objects, output):
+    """Whether each line of an output is made again from its object."""
+    assert objects.endswith(b"\n") or not objects
+    found = objects.decode("ascii" if objects.isascii() else "utf-8").split("\n")[:-1]
+    lines = output.split(b"\n")
+    return lines.pop() == b"" and len(found) == len(lines) and all(map(is_made_of, found, lines))
 
 
 def run(arguments, input_):
@@ -68,7 +73,7 @@ def compare(arguments, input_):
         return None
     try:
         same = (shown.returncode, shown.stderr) == (plain.returncode, plain.stderr)
-        if same and lines_of(shown.stdout) == plain.stdout:
+        if same and are_made_of(shown.stdout, plain.stdout):
             return "".join(ROWS.outside(shown.stdout)[:1])
     except (AssertionError, KeyError, ValueError) as error:
         return "%s: %r: %r" % (arguments, error, shown.stdout[:300])

@@ -23,12 +23,12 @@ each -0 -- print
 --nodes 2 script
 --edits 0 --nodes 1 serve --ids
 --nodes --edits --edits --nodes audit 1
---domain S-1-5-21-1-2-3 --aliases --without-sacl script
---without-sacl --aliases serve --ids
+--domain S-1-5-21-1-2-3 --aliases --whole script
+--whole --aliases serve --ids
 --domain S-1-5-21-1-2-3 --percent audit 1
 --mapping key serve
 --mapping key audit -- 1
---loose --without-sacl frombin 00
+--loose --whole frombin 00
 --mapping 1,2,4,8 each verdict SY 0x1
 each print
 each -0 print
@@ -38,11 +38,16 @@ each -0 frombin
 --names each why SY 0x1
 --names verdict D: SY Modify
 --names --mapping key rights KEY_READ+WD
---without-sacl print D:
+--whole print D:
 --aliases print D:
 --aliases --domain S-1-5-21-1-2-3 verdict D: SY 0x1
---without-sacl frombin --base64
---base64 --without-sacl frombin AA==
+--whole frombin --base64
+--whole who D: 0x1
+--whole compare D: D: WD
+--whole each lint
+--whole each -0 --key compare D:
+--stdin --whole why SY 0x1
+--base64 --whole frombin AA==
 --mapping key verdict D: SY 0x1
 --mapping --mapping --names why -- -h SY 0x1
 --mapping '' --domain '' lint --mapping
@@ -103,6 +108,16 @@ print -- D:
 --caret frombin 00
 --names frombin 00
 --names --mapping key frombin 00
+show D:
+show -- -h
+--stdin show
+--names --mapping key --domain S-1-5-21-1-2-3 --aliases --json --color --caret --strict-status show D:
+diff D: D:
+diff -- -h D:
+diff -x --y
+--stdin --names diff D:
+--json each show
+--caret each --key diff D:
 print --caret
 print -- -h
 print -- --
@@ -151,6 +166,12 @@ lint --help
 help print
 help tobin
 help frombin
+help show
+help diff
+show -h
+show --help
+diff -h
+diff --help
 verdict -h
 verdict --help
 why -h
@@ -189,7 +210,7 @@ REJECTED = r"""
 2 RepeatedOption | --loose --loose frombin 00
 2 MissingArgument | each
 3 MissingArgument | each -0
-2 RepeatedOption | --without-sacl --without-sacl print D:
+2 RepeatedOption | --whole --whole print D:
 2 RepeatedOption | --aliases --aliases print D:
 2 RepeatedOption | --base64 --base64 frombin 00
 3 RepeatedOption | --mapping key --mapping key lint D:
@@ -282,6 +303,18 @@ REJECTED = r"""
 2 NotAlone | --names help help
 4 MissingArgument | --names why -h
 2 NotAlone | --names --version
+1 UnknownOption | --without-sacl print D:
+1 MisplacedOption | --whole rights FR
+1 MisplacedOption | --whole show D:
+1 MisplacedOption | --require-dacl diff D: D:
+2 MissingArgument | show
+3 MissingArgument | diff D:
+3 MissingArgument | --stdin diff
+3 MissingArgument | each diff
+3 SurplusArgument | show D: D:
+4 SurplusArgument | diff D: D: WD
+1 MisplacedOption | --whole each sid
+2 NotAlone | --whole help
 1 MisplacedOption | --percent print D:
 1 MisplacedOption | --strict each print
 1 MisplacedOption | --nodes 2 print D:

@@ -10,6 +10,8 @@ import conditions
 WIRE = {"Short": 1, "Revision": 2, "NotSelfRelative": 3, "BadOffset": 5, "BadSid": 6, "AclRevision": 7, "AclSize": 8,
         "EntrySize": 9}
 NO_TEXT = {"ResourceManager": 1, "Control": 2, "Keywords": 3, "Opaque": 4, "Kind": 5, "Data": 6}
+#: What an entry of a DACL is that no question takes, by its AceType; of other types SystemAce.
+ODD = {0x05: "ObjectAce", 0x06: "ObjectAce", 0x09: "ConditionalAce", 0x0A: "ConditionalAce", 0x0B: "ConditionalAce"}
 #: A list whose control bit is set, and whose offset is 0.
 NULL = "null"
 HEADER_BYTES, LIST_BYTES, ENTRY_BYTES, GUID_BYTES = 20, 8, 4, 16
@@ -26,10 +28,11 @@ LETTERS = {0x00: "A", 0x01: "D", 0x02: "AU", 0x03: "AL", 0x05: "OA", 0x06: "OD",
            0x15: "FL"}
 OBJECTS = {0x05, 0x06, 0x07, 0x08, 0x0B, 0x0C, 0x0F}
 CONDITIONAL, ATTRIBUTE, POLICY, LABEL, FILTER = {0x09, 0x0A, 0x0B, 0x0D, 0x15}, 0x12, 0x13, 0x11, 0x15
+CRITICAL = 0x20
 FLAGS = ((0x01, "OI"), (0x02, "CI"), (0x04, "NP"), (0x08, "IO"), (0x10, "ID"), (0x40, "SA"), (0x80, "FA"),
-         (0x20, "CR"))
+         (CRITICAL, "CR"))
 #: Of an access filter, where 0x40 has another meaning.
-FILTER_FLAGS = (*FLAGS[:5], (0x80, "FA"), (0x40, "TP"), (0x20, "CR"))
+FILTER_FLAGS = (*FLAGS[:5], (0x80, "FA"), (0x40, "TP"), (CRITICAL, "CR"))
 RIGHTS = {0x1F01FF: "FA", 0x120089: "FR", 0x120116: "FW", 0x1200A0: "FX", 0xF003F: "KA", 0x20019: "KR", 0x20006: "KW",
           0x10000000: "GA", 0x80000000: "GR", 0x40000000: "GW", 0x20000000: "GX", 0x10000: "SD", 0x20000: "RC",
           0x40000: "WD", 0x80000: "WO"}
@@ -291,6 +294,20 @@ def text(descriptor: Descriptor) -> str:
             raise Fault("notext", "Keywords", f" (the {which[0][0]}ACL)")
     sids = "".join(head + sid_name(sid) for head, sid in (("O:", d.owner), ("G:", d.group)) if sid)
     return sids + list_text(DACL, d.control, d.dacl) + list_text(SACL, d.control, d.sacl)
+
+
+def plain_text(descriptor: Descriptor) -> str:
+    """The text of what a question takes of a descriptor that has a text: no SACL, and no CR. Or its fault, the first entry
+    of the DACL that is no allow and no deny."""
+    dacl = descriptor.dacl
+    entries = dacl.entries if isinstance(dacl, AccessList) else ()
+    for number, entry in enumerate(entries, 1):
+        if entry.kind > 1:
+            return f"fault entry {number} {ODD.get(entry.kind, 'SystemAce')}"
+    if isinstance(dacl, AccessList):
+        dacl = dacl._replace(entries=tuple(entry._replace(flags=entry.flags & ~CRITICAL) for entry in entries))
+    words = sum(bit for bit, _ in SACL[2])
+    return text(descriptor._replace(sacl=None, dacl=dacl, control=descriptor.control & ~words))
 
 
 def without_bits(data: bytes) -> bytes:

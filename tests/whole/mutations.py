@@ -34,7 +34,7 @@ def header(rng: random.Random, data: bytearray) -> None:
     if kind == "offset" and len(data) >= model.HEADER_BYTES:
         offset = rng.choice((0, 8, 20, len(data) - 8, rng.randrange(2 * len(data))))
         struct.pack_into("<I", data, rng.choice((4, 8, 12, 16)), offset)
-    elif kind == "manager" and rng.random() < 0.2:
+    elif kind == "manager" and len(data) > 1 and rng.random() < 0.2:
         data[1] = rng.randrange(256)
     elif len(data) >= 4:
         struct.pack_into("<H", data, 2, int.from_bytes(data[2:4], "little") ^ 1 << rng.randrange(16))

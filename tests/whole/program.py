@@ -6,6 +6,8 @@ from pathlib import Path
 from typing import Any, Dict, List, Optional
 
 DOMAIN = "S-1-5-21-1-2-3"
+#: A user, MAXIMUM_ALLOWED, and groups that descriptors of a directory have.
+TOKEN = ["S-1-5-21-1-2-3-1001", "0x02000000", "WD", "AU", "BU", "S-1-5-21-1-2-3-512=deny"]
 WORKER = Path(__file__).resolve().parent / "by_samba.py"
 #: Far more seconds than any run takes.
 PATIENCE = 1800
@@ -23,9 +25,15 @@ class Program:
 
     def each(self, command: str, lines: List[str]) -> List[str]:
         """What `--whole` and this command print of each line, in one run; none of the lines is empty."""
-        options = ["--whole"] if command == "frombin" else ["--whole", "--domain", DOMAIN]
+        return self.run(["--whole"] if command == "frombin" else ["--whole", "--domain", DOMAIN], [command], lines)
+
+    def verdicts(self, options: List[str], lines: List[str]) -> List[str]:
+        """The most that each line grants to one token, under these options."""
+        return self.run(options, ["verdict", *TOKEN], lines) if lines else []
+
+    def run(self, options: List[str], command: List[str], lines: List[str]) -> List[str]:
         given = "".join(line + "\n" for line in lines).encode()
-        done = subprocess.run([self.path, *options, "each", command], input=given, capture_output=True,
+        done = subprocess.run([self.path, *options, "each", *command], input=given, capture_output=True,
                               timeout=PATIENCE, check=False)
         answers = done.stdout.decode().split("\n")[:-1]
         if done.returncode not in (0, 1) or len(answers) != len(lines):
