@@ -4,15 +4,16 @@ ghost use Rattle.std.specs.Prelude.{◌≡◌, ◌<◌, ◌&&◌, ℕ, Option, S
 ghost use Rattle.std.specs.Prelude.{slice_index_or};
 ghost use Rattle.std.specs.Option.{is_some};
 ghost use Rattle.sd_sid.specs.Mapping.{MappingValue};
-ghost use Rattle.sd_sid.specs.Sid.{SidValue, same_sid};
+ghost use Rattle.sd_sid.specs.Sid.{SidValue};
 ghost use Rattle.sd_check.specs.declared.token.GroupState.{GroupState};
 ghost use Rattle.sd_analysis.specs.Sufficient.{Parts, parts_of};
 ghost use Rattle.sd_analysis.specs.Table.{AreBeforeAndAfter, IsOtherSid, IsListing, IsTable, all_allowed, applies_in};
-ghost use Rattle.sd_analysis.specs.Table.{counts_in, first_point, is_at, last_sub, listed_of, nothing_decided};
-ghost use Rattle.sd_analysis.specs.Table.{place_in, point_after, point_at, row_of, share_after};
+ghost use Rattle.sd_analysis.specs.Table.{counts_in, first_point, is_at, listed_of, nothing_decided};
+ghost use Rattle.sd_analysis.specs.Table.{point_after, point_at, row_of, share_after};
 
 use crate::base::Base;
 use crate::compare_sides::DescriptorRef;
+use crate::places::{place_of, places_of};
 use sd_acl::{Ace, AceKind};
 use sd_check::{Pass, subject_of};
 use sd_sid::{GenericMapping, Mask, OBJECT_RIGHTS, Sid};
@@ -136,48 +137,6 @@ impl Table {
             Pass::Second => &self.second,
         }
     }
-}
-
-/// For each of the SIDs the place of the first that is the same.
-fn places_of(alloc: Global, sids: &[Sid]) -> Result<Vec<usize>, AllocError>
-    ensures { IfOk result (λ places. places.items ≡ map (place_in sids.now) sids.now) }
-{
-    sids.iter().map(|sid| place_of(sids, sid)).collect(alloc)
-}
-
-/// The place of the first that is the same, or their number.
-fn place_of(sids: &[Sid], sid: &Sid) -> usize
-    ensures { result ≡ place_in sids.now sid.now }
-{
-    let last = last_sub(sid);
-    for (place, one) in sids.iter().enumerate() {
-        if is_same(one, sid, last) {
-            return place;
-        }
-    }
-    sids.len()
-}
-
-/// Whether both are the same SID, where the last sub-authority of the second one is this.
-#[inline(always)]
-fn is_same(one: &Sid, sid: &Sid, last: u32) -> bool
-    requires { last ≡ last_sub sid.now }
-    ensures { result ≡ same_sid one.now sid.now }
-{
-    let its_last = last_sub(one);
-    if its_last != last {
-        return false;
-    }
-    one.is(sid)
-}
-
-/// The SID's last sub-authority, in which SIDs differ most.
-#[inline(always)]
-fn last_sub(sid: &Sid) -> u32
-    ensures { result ≡ last_sub sid.now }
-{
-    let subs = sid.subs();
-    subs[subs.len() - 1]
 }
 
 impl DescriptorRef<'_> {

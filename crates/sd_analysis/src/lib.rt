@@ -30,6 +30,7 @@ mod descendants_compare;
 mod descendants_who;
 mod effect;
 mod laws;
+mod places;
 mod redundancy;
 mod risks;
 mod trial;

@@ -1,6 +1,6 @@
 -- None so far is the SID.
 use Rattle.sd_analysis.proofs.Cited.{drop, length, place_in, ◌+◌, ◌≡◌, ◌≤◌}
-use Rattle.sd_analysis.proofs.compare_table.place_of.Given as goal
+use Rattle.sd_analysis.proofs.places.place_of.Given as goal
 
 abbrev pub invariant-loop-place : goal.invariant-loop-place
 invariant-loop-place l = record {
