@@ -36,7 +36,7 @@ pub use Rattle.sd_whole.specs.Kind.{has_object_types, kind_number, kind_of, kind
 pub use Rattle.sd_whole.specs.Laws.{EntriesStayAsTheyAre, ListsStayAsTheyAre, PlainDescriptorsAreWhole, WholeDescriptorsComeBack}
 pub use Rattle.sd_whole.specs.Layout.{guid_read, if_sid, no_types, ◌>>?◌}
 pub use Rattle.sd_whole.specs.Plain.{IsPlainOf, plain_as, plain_form}
-pub use Rattle.sd_whole.specs.Reading.{WholeAcl, by_kind, by_layout, kept_bits, misfit, of_layout, opaque, plain_or_typed, revision_read, whole_entries_read, whole_entry_read}
+pub use Rattle.sd_whole.specs.Reading.{WholeAcl, by_kind, by_layout, kept_bits, misfit, of_layout, opaque, plain_or_typed, revision_read, whole_entry_read}
 pub use Rattle.sd_whole.specs.Values.{WholeListValue, revision_number}
 pub use Rattle.sd_whole.specs.Whole.{AreTypes, HasNoLayout, IsGuid, IsWholeAce, IsWholeAcl, IsWholeDescriptor, IsWholeList}
 pub use Rattle.sd_whole.specs.Writing.{acl_part, dacl_place, group_place, has_entries, is_without, sacl_place, whole_control_of}

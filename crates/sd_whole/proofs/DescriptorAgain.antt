@@ -2,12 +2,12 @@
 use Rattle.sd_whole.proofs.Cited.{Absent, Null, Bool, IfSome, IsSid, IsWholeAcl, IsWholeDescriptor, IsWholeList, List, ListRevision, None, Ok, Option, SidValue, Some, WholeAcl, WholeDescriptor, WholeDescriptorsComeBack, WholeListValue, [], acl_part, and_assoc, and_le_r, and_or_apart, and_or_self, ap, append-nil, append_assoc, arith, bad_sid, bit_and, bit_or, bytes_of_sid, cond, dacl_place, drop, drop_at, false, flat_map, from_le_bytes-to_le_bytes_2, from_le_bytes-to_le_bytes_4, get_or, group_place, has_entries, is_outside, is_set, is_some, is_without, kept_bits, le-ltb, length, length-append, length_of_sid, nat_lt, ne_eqb, not, offset_of, or_of_16, refl, revision_number, revision_read, sacl_place, sid_read, sid_reading, sids_come_back, subst, sym, take, take_all, take_at, true, trustee_part, u16_at, u32_at, whole_acl_size, whole_control_of, whole_entry_bytes, ℕ, ◌++◌, ◌+◌, ◌-◌, ◌<◌, ◌==◌, ◌^◌, ◌∙◌, ◌≡◌, ◌≤◌}
 use Rattle.sd_acl.specs.declared.descriptor.DaclOf.TheVariants.{List as Entries}
 use Rattle.sd_whole.specs.declared.list.ListRevision.TheVariants.{Standard, DirectoryService}
-use Rattle.sd_wire.specs.Reading.{trustee_read}
-use Rattle.sd_whole.specs.Reading.{acl_read, whole_control_read, whole_entries_read, whole_list_read, whole_read}
-use Rattle.sd_whole.specs.Writing.{whole_header_bytes, whole_header_of, whole_list_bytes, whole_wire_of}
+use Rattle.sd_wire.proofs.WireIsHeld.{Fields, header_fields, offset_small, trustee_len}
+use Rattle.sd_wire.specs.Reading.{entries_of, header_read, trustee_read}
+use Rattle.sd_whole.specs.Reading.{acl_read, whole_entry_read, whole_list_read, whole_read}
+use Rattle.sd_whole.specs.Writing.{whole_header_of, whole_list_bytes, whole_wire_of}
 use Rattle.sd_whole.proofs.EntryAgain.{entries_again}
-use Rattle.sd_whole.proofs.Lengths.{length_of_entries, length_of_header, length_of_list}
-use Rattle.sd_whole.proofs.Loop.{entries_take}
+use Rattle.sd_whole.proofs.Lengths.{entries_take, length_of_entries, length_of_header, length_of_list}
 
 -- ---- lists
 
@@ -28,7 +28,7 @@ list_again list rest sound =
     let inside : nat_lt (length bytes) size ≡ false = le-ltb _ _ (omega (arith, length_of_entries es, length-append part rest)) in
     let behind : length part ≡ size - 8 = omega (arith, length_of_entries es) in
     let there : take (size - 8) (part ++ rest) ≡ part = take_at part rest (size - 8) behind in
-    let read : whole_entries_read part (length es) ≡ Ok es = subst (λ (l : List ℕ). whole_entries_read l (length es) ≡ Ok es) (append-nil part) (entries_again es [] sound.each (omega (arith, sound.fit))) in
+    let read : entries_of whole_entry_read part (length es) ≡ Ok es = subst (λ (l : List ℕ). entries_of whole_entry_read l (length es) ≡ Ok es) (append-nil part) (entries_again es [] sound.each (omega (arith, sound.fit))) in
     rw (revision_again list.revision, sized, least, inside, counted, there, read) refl
 
 -- ---- owner, group, SACL and DACL
@@ -114,48 +114,15 @@ bits_are k s d sound =
       small = or_of_16 middle (cond d 0 0x0004) (or_of_16 front (cond s 0 0x0010) (or_of_16 base 0x8000 (omega (arith, and_le_r k kept_bits)) (omega arith)) (small_choice s 0x0010 (omega arith))) (small_choice d 0x0004 (omega arith));
     }
 
--- the fields of a header, whatever stands behind it
-record Fields (bytes : List ℕ) (manager control owner group sacl dacl : ℕ) : Type 0 where
-  long : 20 ≤ length bytes
-  revision : get_or bytes 0 0 ≡ 1
-  manager_at : get_or bytes 1 0 ≡ manager
-  bits : u16_at bytes 2 ≡ control
-  owner_at : u32_at bytes 4 ≡ owner
-  group_at : u32_at bytes 8 ≡ group
-  sacl_at : u32_at bytes 12 ≡ sacl
-  dacl_at : u32_at bytes 16 ≡ dacl
-
-header_fields : (manager control owner group sacl dacl : ℕ) (rest : List ℕ) → control < 2 ^ 16 → owner < 2 ^ 32 → group < 2 ^ 32 → sacl < 2 ^ 32 → dacl < 2 ^ 32
-    → Fields (whole_header_bytes manager control owner group sacl dacl ++ rest) manager control owner group sacl dacl
-unfolding whole_header_bytes
-header_fields manager control owner group sacl dacl rest c o g s d = record {
-  long = omega arith;
-  revision = refl;
-  manager_at = refl;
-  bits = from_le_bytes-to_le_bytes_2 control c;
-  owner_at = from_le_bytes-to_le_bytes_4 owner o;
-  group_at = from_le_bytes-to_le_bytes_4 group g;
-  sacl_at = from_le_bytes-to_le_bytes_4 sacl s;
-  dacl_at = from_le_bytes-to_le_bytes_4 dacl d;
-}
-
 -- ---- descriptors
-
-trustee_len : (t : Option SidValue) → IfSome t IsSid → length (trustee_part t) ≤ 68
-trustee_len None sound = omega arith
-trustee_len (Some s) sound = omega (arith, length_of_sid s, sound.few)
 
 acl_len : (acl : WholeAcl) → IsWholeAcl acl → length (acl_part acl) ≤ 65535
 acl_len Absent sound = omega arith
 acl_len Null sound = omega arith
 acl_len (Entries list) sound = omega (arith, length_of_list list, sound.fit)
 
-offset_small : (b : Bool) (o : ℕ) → o < 2 ^ 32 → offset_of b o < 2 ^ 32
-offset_small true o h = h
-offset_small false o h = omega arith
-
-control_again : (bytes : List ℕ) (c : ℕ) → 20 ≤ length bytes → get_or bytes 0 0 ≡ 1 → u16_at bytes 2 ≡ c → is_set 0x8000 c ≡ true → whole_control_read bytes ≡ Ok c
-unfolding whole_control_read
+control_again : (bytes : List ℕ) (c : ℕ) → 20 ≤ length bytes → get_or bytes 0 0 ≡ 1 → u16_at bytes 2 ≡ c → is_set 0x8000 c ≡ true → header_read bytes ≡ Ok c
+unfolding header_read
 control_again bytes c long revision bits own =
     let header : nat_lt (length bytes) 20 ≡ false = le-ltb _ _ long in rw (header, revision, bits, own) refl
 
@@ -173,7 +140,7 @@ parts_again header d size sound fields =
     let bytes = header ++ (owner ++ (group ++ (sacl ++ dacl))) in
     let c = whole_control_of d in
     let bits = bits_are d.control (is_without d.sacl) (is_without d.dacl) sound.control in
-    let control : whole_control_read bytes ≡ Ok c = control_again bytes c fields.long fields.revision fields.bits bits.self_relative in
+    let control : header_read bytes ≡ Ok c = control_again bytes c fields.long fields.revision fields.bits bits.self_relative in
     let owner_read : trustee_read bytes (u32_at bytes 4) ≡ Ok d.owner =
     subst (λ o. trustee_read bytes o ≡ Ok d.owner) (ap (λ o. offset_of (is_some d.owner) o) size ∙ sym fields.owner_at) (trustee_again d.owner header (group ++ (sacl ++ dacl)) sound.owner (omega arith)) in
     let front = header ++ owner in

@@ -4,7 +4,8 @@ use Rattle.sd_acl.specs.declared.ace.AceKind.TheVariants as plain
 use Rattle.sd_whole.specs.declared.ace.WholeAce.TheVariants.{Plain, Typed, Opaque}
 use Rattle.sd_whole.specs.Entry.{entry_form}
 use Rattle.sd_whole.specs.Layout.{types_read, layout_read}
-use Rattle.sd_whole.specs.Reading.{body_read, whole_entry_read, whole_entries_read}
+use Rattle.sd_wire.specs.Reading.{entries_of}
+use Rattle.sd_whole.specs.Reading.{body_read, whole_entry_read}
 use Rattle.sd_whole.proofs.KindNumbers.{kind_is_found}
 use Rattle.sd_whole.proofs.Lengths.{length_of_entry}
 use Rattle.sd_whole.proofs.Steps.{fit}
@@ -135,8 +136,8 @@ entry_again e rest sound small =
     let there : take (size - 4) (body ++ rest) ≡ body = take_at body rest (size - 4) (sym behind) in
     rw (header, sized, least, even, inside, there, body_again e sound) refl
 
-pub entries_again : (es : List WholeAce) (rest : List ℕ) → AllByRecursion IsWholeAce es → sum_by whole_ace_size es ≤ 65535 → whole_entries_read (flat_map whole_entry_bytes es ++ rest) (length es) ≡ Ok es
-unfolding whole_entries_read
+pub entries_again : (es : List WholeAce) (rest : List ℕ) → AllByRecursion IsWholeAce es → sum_by whole_ace_size es ≤ 65535 → entries_of whole_entry_read (flat_map whole_entry_bytes es ++ rest) (length es) ≡ Ok es
+unfolding entries_of
 entries_again [] rest sound small = refl
 entries_again (e ∷ es) rest sound small =
     let sizes = sum_by-cons whole_ace_size e es in

@@ -2,9 +2,9 @@
 use Rattle.sd_whole.proofs.Cited.{Ace, List, SidValue, whole_acl_size, typed_size_of, ℕ, TypedAce, ace_size, arith, bytes_of_sid, has_object_types, length, length-append, length_of_sid as sid_takes, plain_body, typed_body, types_part, ◌*◌, ◌++◌, ◌+◌, ◌≡◌, WholeAce, [], flat_map, get_or, refl, sum_by, sum_by-cons, sum_by_more_le, take, whole_ace_size, whole_entry_bytes, ◌<◌, ◌∙◌, ◌∷◌, ◌≤◌}
 use Rattle.sd_whole.specs.Entry.{entry_form}
 use Rattle.sd_whole.specs.Values.{WholeListValue}
-use Rattle.sd_whole.specs.Writing.{acl_part, whole_header_bytes, whole_header_of, whole_list_bytes, whole_wire_of}
+use Rattle.sd_whole.specs.Writing.{acl_part, whole_header_of, whole_list_bytes, whole_wire_of}
 use Rattle.sd_whole.specs.declared.descriptor.WholeDescriptor.{WholeDescriptor}
-use Rattle.sd_wire.specs.Writing.{trustee_part}
+use Rattle.sd_wire.specs.Writing.{header_bytes, trustee_part}
 
 pub length_of_sid : (s : SidValue) → length (bytes_of_sid s) ≡ 8 + 4 * length s.subs
 length_of_sid s = sid_takes s
@@ -34,7 +34,7 @@ unfolding whole_list_bytes
 length_of_list list = omega (arith, length_of_entries list.entries)
 
 pub length_of_header : (d : WholeDescriptor) → length (whole_header_of d) ≡ 20
-unfolding whole_header_of whole_header_bytes
+unfolding whole_header_of header_bytes
 length_of_header d = refl
 
 pub length_of_wire : (d : WholeDescriptor) → length (whole_wire_of d) ≡ 20 + (length (trustee_part d.owner) + length (trustee_part d.group)) + length (acl_part d.sacl) + length (acl_part d.dacl)
@@ -43,3 +43,7 @@ length_of_wire d =
     let lists = acl_part d.sacl ++ acl_part d.dacl in
     let behind = trustee_part d.group ++ lists in
     omega (arith, length_of_header d, length-append (whole_header_of d) (trustee_part d.owner ++ behind), length-append (trustee_part d.owner) behind, length-append (trustee_part d.group) lists, length-append (acl_part d.sacl) (acl_part d.dacl))
+
+pub entries_take : (es : List WholeAce) → 4 * length es ≤ sum_by whole_ace_size es
+entries_take [] = omega arith
+entries_take (e ∷ es) = omega (arith, entries_take es, sum_by-cons whole_ace_size e es)

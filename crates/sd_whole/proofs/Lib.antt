@@ -3,7 +3,6 @@ pub mod KindNumbers
 pub mod Lengths
 pub mod Steps
 pub mod EntryStands
-pub mod Loop
 pub mod ListStands
 pub mod EntryAgain
 pub mod DescriptorAgain

@@ -1,6 +1,7 @@
 -- The entries of a list that is parsed are in the bytes, one after another, as they are written.
 use Rattle.sd_whole.proofs.Cited.{AclSize, EntriesStayAsTheyAre, Err, List, ListRevision, Result, WireFault, cond, nat_lt, revision_read, ListsStayAsTheyAre, Ok, WholeAce, [], ap, arith, bound, cells_fit, drop, flat_map, get_or, good_is, length, length-append, length-drop, length-take, ltb-false, passed, refl, slice_range, suc, sym, take, take-add, take-take, u16_at, whole_entry_bytes, whole_entry_read, zero, ℕ, ◌++◌, ◌+◌, ◌-◌, ◌<◌, ◌>>=◌, ◌∙◌, ◌∷◌, ◌≡◌, ◌≤◌}
-use Rattle.sd_whole.specs.Reading.{whole_entries_read, whole_list_read}
+use Rattle.sd_wire.specs.Reading.{entries_of}
+use Rattle.sd_whole.specs.Reading.{whole_list_read}
 use Rattle.sd_whole.specs.Values.{WholeListValue}
 use Rattle.sd_whole.proofs.EntryStands.{entry_stands, rest_fits}
 use Rattle.sd_whole.proofs.Lengths.{length_of_entry}
@@ -13,13 +14,13 @@ pub record Stay (bytes : List ℕ) (es : List WholeAce) : Type 0 where
   pub stand : take (length (flat_map whole_entry_bytes es)) bytes ≡ flat_map whole_entry_bytes es
   pub within : length (flat_map whole_entry_bytes es) ≤ length bytes
 
-pub entries_stand : (bytes : List ℕ) (n : ℕ) (es : List WholeAce) → ((i : ℕ) → get_or bytes i 0 < 256) → whole_entries_read bytes n ≡ Ok es → Stay bytes es
-unfolding whole_entries_read
+pub entries_stand : (bytes : List ℕ) (n : ℕ) (es : List WholeAce) → ((i : ℕ) → get_or bytes i 0 < 256) → entries_of whole_entry_read bytes n ≡ Ok es → Stay bytes es
+unfolding entries_of
 entries_stand bytes zero es fits h =
     let none : [] ≡ es = good_is [] es h in rw (← none) (record { stand = refl; within = omega arith })
 entries_stand bytes (suc n) es fits h =
-    let first = bound (whole_entry_read bytes) (λ (x : WholeAce × ℕ). whole_entries_read (drop x.1 bytes) n >>= λ xs. Ok (x.0 ∷ xs)) es h in
-    let others = bound (whole_entries_read (drop first.0.1 bytes) n) (λ (xs : List WholeAce). Ok (first.0.0 ∷ xs)) es first.2 in
+    let first = bound (whole_entry_read bytes) (λ (x : WholeAce × ℕ). entries_of whole_entry_read (drop x.1 bytes) n >>= λ xs. Ok (x.0 ∷ xs)) es h in
+    let others = bound (entries_of whole_entry_read (drop first.0.1 bytes) n) (λ (xs : List WholeAce). Ok (first.0.0 ∷ xs)) es first.2 in
     let all : first.0.0 ∷ others.0 ≡ es = good_is (first.0.0 ∷ others.0) es others.2 in
     let e : WholeAce = first.0.0 in
     let size : ℕ = first.0.1 in
@@ -43,13 +44,13 @@ pub record ListParts (bytes : List ℕ) (list : WholeListValue) : Type 0 where
   pub revision : revision_read (get_or bytes 0 0) ≡ Ok list.revision
   pub least : 8 ≤ u16_at bytes 2
   pub inside : u16_at bytes 2 ≤ length bytes
-  pub entries : whole_entries_read (slice_range bytes 8 (u16_at bytes 2)) (u16_at bytes 4) ≡ Ok list.entries
+  pub entries : entries_of whole_entry_read (slice_range bytes 8 (u16_at bytes 2)) (u16_at bytes 4) ≡ Ok list.entries
 
 pub list_parts : (bytes : List ℕ) (list : WholeListValue) → whole_list_read bytes ≡ Ok list → ListParts bytes list
 unfolding whole_list_read
 list_parts bytes list h =
     let size = u16_at bytes 2 in
-    let read = whole_entries_read (slice_range bytes 8 size) (u16_at bytes 4) in
+    let read = entries_of whole_entry_read (slice_range bytes 8 size) (u16_at bytes 4) in
     let made : ListRevision → List WholeAce → Result WholeListValue WireFault = λ revision entries. Ok (record { revision = revision; entries = entries }) in
     let f : ListRevision → Result WholeListValue WireFault = λ revision. cond (nat_lt size 8) (Err AclSize) (cond (nat_lt (length bytes) size) (Err AclSize) (read >>= made revision)) in
     let revision = bound (revision_read (get_or bytes 0 0)) f list h in

@@ -6,9 +6,9 @@ use Rattle.sd_acl.specs.declared.descriptor.DaclOf.TheVariants.{List as Entries}
 use Rattle.sd_acl.specs.declared.ace.AceKind.TheVariants as plain
 use Rattle.sd_whole.specs.declared.kind.WholeKind.TheVariants.{Allow, Deny}
 use Rattle.sd_whole.specs.declared.list.ListRevision.TheVariants.{Standard, DirectoryService}
-use Rattle.sd_wire.specs.Reading.{control_read, dacl_read, descriptor_read, entries_read, entry_read, list_read}
+use Rattle.sd_wire.specs.Reading.{control_read, dacl_read, descriptor_read, entries_of, entries_read, entry_read, header_read, list_read}
 use Rattle.sd_whole.specs.Layout.{types_read, layout_read}
-use Rattle.sd_whole.specs.Reading.{acl_read, body_read, whole_control_read, whole_entry_read, whole_entries_read, whole_list_read, whole_read}
+use Rattle.sd_whole.specs.Reading.{acl_read, body_read, whole_entry_read, whole_list_read, whole_read}
 use Rattle.sd_wire.proofs.Rest.{entry_in_rest}
 use Rattle.sd_whole.proofs.EntryStands.{of_parts}
 use Rattle.sd_whole.proofs.ReadIsWhole.{good_sid}
@@ -126,11 +126,11 @@ entry_too xs x e =
 -- what entries are parsed as, and their plain form
 record EntriesToo (xs : List ℕ) (n : ℕ) (es : List Ace) : Type 0 where
   entries : List WholeAce
-  read : whole_entries_read xs n ≡ Ok entries
+  read : entries_of whole_entry_read xs n ≡ Ok entries
   same : map plain_form entries ≡ map (λ e. Some e) es
 
 entries_too : (bytes : List ℕ) (o end n : ℕ) (es : List Ace) → o ≤ end → end ≤ length bytes → entries_read bytes o end n ≡ Ok es → EntriesToo (take (end - o) (drop o bytes)) n es
-unfolding entries_read whole_entries_read
+unfolding entries_read entries_of
 entries_too bytes o end zero es order room e = subst (EntriesToo (take (end - o) (drop o bytes)) 0) (good_is [] es e) (record { entries = []; read = refl; same = refl })
 entries_too bytes o end (suc n) es order room e =
     let xs = take (end - o) (drop o bytes) in
@@ -172,7 +172,7 @@ u16_same bytes o i =
     rw (get_or-drop o bytes i 0, next) refl
 
 whole_list_of : (xs : List ℕ) (r : ListRevision) (size count : ℕ) (entries : List WholeAce) → revision_read (get_or xs 0 0) ≡ Ok r → u16_at xs 2 ≡ size → u16_at xs 4 ≡ count → nat_lt size 8 ≡ false → nat_lt (length xs) size ≡ false
-    → whole_entries_read (take (size - 8) (drop 8 xs)) count ≡ Ok entries → whole_list_read xs ≡ Ok (record { revision = r; entries = entries })
+    → entries_of whole_entry_read (take (size - 8) (drop 8 xs)) count ≡ Ok entries → whole_list_read xs ≡ Ok (record { revision = r; entries = entries })
 unfolding whole_list_read
 whole_list_of xs r size count entries revision sized counted least inside read = rw (revision, sized, counted, least, inside, read) refl
 
@@ -196,7 +196,7 @@ list_too bytes o es e =
     let range : take (size - 8) (drop 8 (drop o bytes)) ≡ take (o + size - (o + 8)) (drop (o + 8) bytes) = ap (λ k. take k (drop 8 (drop o bytes))) cut ∙ ap (take (o + size - (o + 8))) (drop-drop 8 o bytes) in
     record {
       list = record { revision = r.0; entries = too.entries };
-      read = whole_list_of (drop o bytes) r.0 size (u16_at bytes (o + 4)) too.entries (ap revision_read front ∙ r.1) (u16_same bytes o 2) (u16_same bytes o 4) least.0 room (ap (λ (l : List ℕ). whole_entries_read l (u16_at bytes (o + 4))) range ∙ too.read);
+      read = whole_list_of (drop o bytes) r.0 size (u16_at bytes (o + 4)) too.entries (ap revision_read front ∙ r.1) (u16_same bytes o 2) (u16_same bytes o 4) least.0 room (ap (λ (l : List ℕ). entries_of whole_entry_read l (u16_at bytes (o + 4))) range ∙ too.read);
       same = too.same;
     }
 
@@ -213,9 +213,9 @@ null_of : (bytes : List ℕ) (o : ℕ) → (o == 0) ≡ true → acl_read true b
 unfolding acl_read
 null_of bytes o none = rw none refl
 
-entries_of : (bytes : List ℕ) (o : ℕ) (list : WholeListValue) → (o == 0) ≡ false → is_outside bytes o ≡ false → whole_list_read (drop o bytes) ≡ Ok list → acl_read true bytes o ≡ Ok (Entries list)
+listed_of : (bytes : List ℕ) (o : ℕ) (list : WholeListValue) → (o == 0) ≡ false → is_outside bytes o ≡ false → whole_list_read (drop o bytes) ≡ Ok list → acl_read true bytes o ≡ Ok (Entries list)
 unfolding acl_read
-entries_of bytes o list some inside read = rw (some, inside, read) refl
+listed_of bytes o list some inside read = rw (some, inside, read) refl
 
 dacl_too : (bytes : List ℕ) (o : ℕ) (dacl : Dacl) → dacl_read bytes o ≡ Ok dacl → AclToo bytes o dacl
 unfolding dacl_read
@@ -225,33 +225,22 @@ dacl_too bytes o dacl e = elim (chosen (o == 0) _ _ _ e) [
       let place = passed (is_outside bytes o) BadOffset (list_read bytes o >>= λ (es : List Ace). Ok (Entries es)) dacl some.1 in
       let list = bound (list_read bytes o) (λ (es : List Ace). Ok (Entries es)) dacl place.1 in
       let too = list_too bytes o list.0 list.1 in
-      subst (AclToo bytes o) (good_is (Entries list.0) dacl list.2) (record { acl = Entries too.list; read = entries_of bytes o too.list some.0 place.0 too.read; same = rw (plain_listed too.list.entries list.0 too.same) refl; there = refl })
+      subst (AclToo bytes o) (good_is (Entries list.0) dacl list.2) (record { acl = Entries too.list; read = listed_of bytes o too.list some.0 place.0 too.read; same = rw (plain_listed too.list.entries list.0 too.same) refl; there = refl })
 ]
 
 -- a header that passes the tests of plain descriptors passes those of whole ones
 record ControlToo (bytes : List ℕ) (c : ℕ) : Type 0 where
-  read : whole_control_read bytes ≡ Ok c
+  read : header_read bytes ≡ Ok c
   no_sacl : is_set 0x0010 c ≡ true → u32_at bytes 12 ≡ 0
-
-whole_control_of_tests : (bytes : List ℕ) → nat_lt (length bytes) 20 ≡ false → not (get_or bytes 0 0 == 1) ≡ false → not (is_set 0x8000 (u16_at bytes 2)) ≡ false → whole_control_read bytes ≡ Ok (u16_at bytes 2)
-unfolding whole_control_read
-whole_control_of_tests bytes long revision own = rw (long, revision, own) refl
 
 control_too : (bytes : List ℕ) (c : ℕ) → control_read bytes ≡ Ok c → ControlToo bytes c
 unfolding control_read
 control_too bytes c e =
-    let bits = u16_at bytes 2 in
-    let sacl = is_set 0x0010 bits && not (u32_at bytes 12 == 0) in
-    let third = cond sacl (Err HasSacl) (Ok bits) in
-    let second = cond (not (is_set 0x8000 bits)) (Err NotSelfRelative) third in
-    let first = cond (not (get_or bytes 0 0 == 1)) (Err Revision) second in
-    let long = passed (nat_lt (length bytes) 20) Short first c e in
-    let revision = passed (not (get_or bytes 0 0 == 1)) Revision second c long.1 in
-    let own = passed (not (is_set 0x8000 bits)) NotSelfRelative third c revision.1 in
-    let none = passed sacl HasSacl (Ok bits) c own.1 in
-    let is : bits ≡ c = good_is bits c none.1 in
+    let header = bound (header_read bytes) (λ (bits : ℕ). cond (is_set 0x0010 bits && not (u32_at bytes 12 == 0)) (Err HasSacl) (Ok bits)) c e in
+    let none = passed (is_set 0x0010 header.0 && not (u32_at bytes 12 == 0)) HasSacl (Ok header.0) c header.2 in
+    let is : header.0 ≡ c = good_is header.0 c none.1 in
     subst (ControlToo bytes) is (record {
-      read = whole_control_of_tests bytes long.0 revision.0 own.0;
+      read = header.1;
       no_sacl = λ set. let clear : not (u32_at bytes 12 == 0) ≡ false = sym (ap (λ b. b && not (u32_at bytes 12 == 0)) set) ∙ none.0 in eqb-true _ _ (not-false _ clear);
     })
 
@@ -288,7 +277,7 @@ sacl_too bytes c none = elim (cases_Bool (is_set 0x0010 c)) [
 ]
 
 -- what a descriptor is parsed as, and its plain form
-whole_of_parts : (bytes : List ℕ) (c : ℕ) (owner group : Option SidValue) (sacl dacl : WholeAcl) → whole_control_read bytes ≡ Ok c → trustee_read bytes (u32_at bytes 4) ≡ Ok owner → trustee_read bytes (u32_at bytes 8) ≡ Ok group
+whole_of_parts : (bytes : List ℕ) (c : ℕ) (owner group : Option SidValue) (sacl dacl : WholeAcl) → header_read bytes ≡ Ok c → trustee_read bytes (u32_at bytes 4) ≡ Ok owner → trustee_read bytes (u32_at bytes 8) ≡ Ok group
     → acl_read (is_set 0x0010 c) bytes (u32_at bytes 12) ≡ Ok sacl → acl_read (is_set 0x0004 c) bytes (u32_at bytes 16) ≡ Ok dacl
     → whole_read bytes ≡ Ok (record { resource_manager = get_or bytes 1 0; control = control_now c; owner = owner; group = group; sacl = sacl; dacl = dacl })
 unfolding whole_read
@@ -298,7 +287,7 @@ whole_of_parts bytes c owner group sacl dacl control first second third fourth =
 abbrev Too : List ℕ → DescriptorValue → Type 0
 Too bytes v = (d : WholeDescriptor) × (whole_read bytes ≡ Ok d) × IsPlainOf d v
 
-with_a_dacl : (bytes : List ℕ) (c : ℕ) (owner group : Option SidValue) (v : DescriptorValue) → SaclToo bytes c → whole_control_read bytes ≡ Ok c → trustee_read bytes (u32_at bytes 4) ≡ Ok owner → trustee_read bytes (u32_at bytes 8) ≡ Ok group → is_set 0x0004 c ≡ true
+with_a_dacl : (bytes : List ℕ) (c : ℕ) (owner group : Option SidValue) (v : DescriptorValue) → SaclToo bytes c → header_read bytes ≡ Ok c → trustee_read bytes (u32_at bytes 4) ≡ Ok owner → trustee_read bytes (u32_at bytes 8) ≡ Ok group → is_set 0x0004 c ≡ true
     → (dacl_read bytes (u32_at bytes 16) >>= λ (dacl : Dacl). Ok (record { owner = owner; group = group; dacl = dacl; protected = is_set 0x1000 c; auto_req = is_set 0x0100 c; auto_inherited = is_set 0x0400 c })) ≡ Ok v → Too bytes v
 with_a_dacl bytes c owner group v sacl control first second set e =
     let made : Dacl → DescriptorValue = λ dacl. record { owner = owner; group = group; dacl = dacl; protected = is_set 0x1000 c; auto_req = is_set 0x0100 c; auto_inherited = is_set 0x0400 c } in
@@ -310,7 +299,7 @@ with_a_dacl bytes c owner group v sacl control first second set e =
     let plain_is : IsPlainOf d (made dacl.0) = record { sacl = sacl.empty; part = rw (too.same, bit 0x1000 refl, bit 0x0100 refl, bit 0x0400 refl) refl } in
     (d, whole_of_parts bytes c owner group sacl.acl too.acl control first second sacl.read read, subst (IsPlainOf d) (good_is (made dacl.0) v dacl.2) plain_is)
 
-without_a_dacl : (bytes : List ℕ) (c : ℕ) (owner group : Option SidValue) (v : DescriptorValue) → SaclToo bytes c → whole_control_read bytes ≡ Ok c → trustee_read bytes (u32_at bytes 4) ≡ Ok owner → trustee_read bytes (u32_at bytes 8) ≡ Ok group → is_set 0x0004 c ≡ false
+without_a_dacl : (bytes : List ℕ) (c : ℕ) (owner group : Option SidValue) (v : DescriptorValue) → SaclToo bytes c → header_read bytes ≡ Ok c → trustee_read bytes (u32_at bytes 4) ≡ Ok owner → trustee_read bytes (u32_at bytes 8) ≡ Ok group → is_set 0x0004 c ≡ false
     → good (record { owner = owner; group = group; dacl = Absent; protected = false; auto_req = false; auto_inherited = false }) ≡ Ok v → Too bytes v
 without_a_dacl bytes c owner group v sacl control first second clear e =
     let made : DescriptorValue = record { owner = owner; group = group; dacl = Absent; protected = false; auto_req = false; auto_inherited = false } in

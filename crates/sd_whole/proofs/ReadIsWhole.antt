@@ -4,9 +4,9 @@ use Rattle.sd_acl.specs.declared.descriptor.DaclOf.TheVariants.{List as Entries}
 use Rattle.sd_whole.specs.declared.ace.WholeAce.TheVariants.{Plain, Typed}
 use Rattle.sd_sid.specs.SidBytes.{sid_reading}
 use Rattle.sd_sid.specs.declared.sid.SidError.TheVariants.{Count, Revision, Short}
-use Rattle.sd_wire.specs.Reading.{trustee_read}
+use Rattle.sd_wire.specs.Reading.{entries_of, header_read, trustee_read}
 use Rattle.sd_whole.specs.Layout.{types_read, layout_read}
-use Rattle.sd_whole.specs.Reading.{acl_read, body_read, whole_control_read, whole_entry_read, whole_entries_read, whole_list_read, whole_read}
+use Rattle.sd_whole.specs.Reading.{acl_read, body_read, whole_entry_read, whole_list_read, whole_read}
 use Rattle.sd_whole.proofs.EntryAgain.{quads}
 use Rattle.sd_whole.proofs.EntryStands.{layout_stands, of_parts, parts_are_body, range_fits, rest_fits}
 use Rattle.sd_whole.proofs.Lengths.{length_of_entries}
@@ -182,12 +182,12 @@ entry_whole bytes e n fits h =
     let aligned : length body % 4 ≡ 0 = omega arith in
     subst IsWholeAce e_is (body_whole (get_or bytes 0 0) (get_or bytes 1 0) body read.0 (range_fits bytes 4 size fits) (fits 1) aligned read.1)
 
-entries_whole : (bytes : List ℕ) (n : ℕ) (es : List WholeAce) → ((i : ℕ) → get_or bytes i 0 < 256) → whole_entries_read bytes n ≡ Ok es → AllByRecursion IsWholeAce es
-unfolding whole_entries_read
+entries_whole : (bytes : List ℕ) (n : ℕ) (es : List WholeAce) → ((i : ℕ) → get_or bytes i 0 < 256) → entries_of whole_entry_read bytes n ≡ Ok es → AllByRecursion IsWholeAce es
+unfolding entries_of
 entries_whole bytes zero es fits h = let none : [] ≡ es = good_is [] es h in subst (AllByRecursion IsWholeAce) none tt
 entries_whole bytes (suc n) es fits h =
-    let first = bound (whole_entry_read bytes) (λ (x : WholeAce × ℕ). whole_entries_read (drop x.1 bytes) n >>= λ xs. Ok (x.0 ∷ xs)) es h in
-    let others = bound (whole_entries_read (drop first.0.1 bytes) n) (λ (xs : List WholeAce). Ok (first.0.0 ∷ xs)) es first.2 in
+    let first = bound (whole_entry_read bytes) (λ (x : WholeAce × ℕ). entries_of whole_entry_read (drop x.1 bytes) n >>= λ xs. Ok (x.0 ∷ xs)) es h in
+    let others = bound (entries_of whole_entry_read (drop first.0.1 bytes) n) (λ (xs : List WholeAce). Ok (first.0.0 ∷ xs)) es first.2 in
     let all : first.0.0 ∷ others.0 ≡ es = good_is (first.0.0 ∷ others.0) es others.2 in
     subst (AllByRecursion IsWholeAce) all (entry_whole bytes first.0.0 first.0.1 fits first.1, entries_whole (drop first.0.1 bytes) n others.0 (rest_fits bytes first.0.1 fits) others.1)
 
@@ -229,7 +229,7 @@ descriptor_whole bytes d fits h =
     let with_group : ℕ → Option SidValue → Option SidValue → Result WholeDescriptor WireFault = λ control owner group. acl_read (is_set 0x0010 control) bytes (u32_at bytes 12) >>= with_sacl control owner group in
     let with_owner : ℕ → Option SidValue → Result WholeDescriptor WireFault = λ control owner. trustee_read bytes (u32_at bytes 8) >>= with_group control owner in
     let with_control : ℕ → Result WholeDescriptor WireFault = λ control. trustee_read bytes (u32_at bytes 4) >>= with_owner control in
-    let control = bound (whole_control_read bytes) with_control d h in
+    let control = bound (header_read bytes) with_control d h in
     let owner = bound (trustee_read bytes (u32_at bytes 4)) (with_owner control.0) d control.2 in
     let group = bound (trustee_read bytes (u32_at bytes 8)) (with_group control.0 owner.0) d owner.2 in
     let sacl = bound (acl_read (is_set 0x0010 control.0) bytes (u32_at bytes 12)) (with_sacl control.0 owner.0 group.0) d group.2 in

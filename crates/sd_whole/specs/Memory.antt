@@ -1,8 +1,8 @@
 -- When a parse allocates: for the entries of a SACL or a DACL, once all that precedes them has passed its tests.
 use Rattle.std.specs.Prelude.{◌≡◌, ℕ, ◌+◌, ◌<◌, ◌≤◌, ◌⊎◌, Bool, true, List, length, drop, slice_index, Ok, IsOk}
 use Rattle.sd_sid.specs.SidBytes.{u32_at}
-use Rattle.sd_wire.specs.Reading.{is_set, trustee_read, u16_at}
-use Rattle.sd_whole.specs.Reading.{revision_read, whole_control_read}
+use Rattle.sd_wire.specs.Reading.{header_read, is_set, trustee_read, u16_at}
+use Rattle.sd_whole.specs.Reading.{revision_read}
 
 -- a list's header at the front of the bytes passes its tests, counts an entry, and has room for the 4 bytes of one's
 -- header after it
@@ -21,7 +21,7 @@ pub record AclTakesMemory (is_present : Bool) (bytes : List ℕ) (o : ℕ) : Typ
 -- the header, the owner and the group have no fault, and the SACL or the DACL is a list that has entries
 pub record WholeTakesMemory (bytes : List ℕ) : Type 0 where
   pub control : ℕ
-  pub header : whole_control_read bytes ≡ Ok control
+  pub header : header_read bytes ≡ Ok control
   pub owner : IsOk (trustee_read bytes (u32_at bytes 4))
   pub group : IsOk (trustee_read bytes (u32_at bytes 8))
   pub lists : AclTakesMemory (is_set 0x0010 control) bytes (u32_at bytes 12)

@@ -1,15 +1,15 @@
 -- How a whole descriptor is parsed: the tests in their order, and every entry that has a size that fits ([MS-DTYP]
 -- 2.4.6, with 2.4.5 for the lists, 2.4.4 for their entries).
-use Rattle.std.specs.Prelude.{ℕ, zero, suc, ◌%◌, Bool, not, ◌==◌, nat_lt, List, [], ◌∷◌, length, drop}
+use Rattle.std.specs.Prelude.{ℕ, ◌%◌, Bool, not, ◌==◌, nat_lt, List, length, drop}
 use Rattle.std.specs.Prelude.{slice_index, slice_range, bit_and, Option, Some, None, Result, Ok, Err, if◌then◌else◌}
 use Rattle.sd_sid.specs.SidBytes.{u32_at}
 use Rattle.sd_acl.specs.declared.ace.AceKind.{AceKind}
 use Rattle.sd_acl.specs.declared.descriptor.DaclOf.{DaclOf}
 use Rattle.sd_acl.specs.declared.descriptor.DaclOf.TheVariants.{Absent, Null, List as Entries}
-use Rattle.sd_wire.specs.Reading.{◌>>=◌, is_outside, is_set, trustee_read, u16_at}
+use Rattle.sd_wire.specs.Reading.{◌>>=◌, entries_of, header_read, is_outside, is_set, trustee_read, u16_at}
 use Rattle.sd_wire.specs.declared.fault.WireFault.{WireFault}
-use Rattle.sd_wire.specs.declared.fault.WireFault.TheVariants.{Short, Revision, NotSelfRelative, BadOffset, BadSid}
-use Rattle.sd_wire.specs.declared.fault.WireFault.TheVariants.{AclRevision, AclSize, EntrySize}
+use Rattle.sd_wire.specs.declared.fault.WireFault.TheVariants.{BadOffset, BadSid, AclRevision}
+use Rattle.sd_wire.specs.declared.fault.WireFault.TheVariants.{AclSize, EntrySize}
 use Rattle.sd_whole.specs.declared.ace.TypedAce.{TypedAce}
 use Rattle.sd_whole.specs.declared.ace.WholeAce.{WholeAce}
 use Rattle.sd_whole.specs.declared.ace.WholeAce.TheVariants.{Plain, Typed, Opaque}
@@ -77,13 +77,6 @@ whole_entry_read bytes =
     else (body_read (slice_index bytes 0) (slice_index bytes 1) (slice_range bytes 4 (u16_at bytes 2)) >>= λ entry.
     Ok (entry, u16_at bytes 2))
 
--- so many entries at the front of the bytes, each where the AceSize of the one before it ends
-unfoldable pub whole_entries_read : List ℕ → ℕ → Result (List WholeAce) WireFault
-whole_entries_read bytes zero = Ok []
-whole_entries_read bytes (suc n) =
-    whole_entry_read bytes >>= λ first.
-    (whole_entries_read (drop first.1 bytes) n >>= λ others. Ok (first.0 ∷ others))
-
 -- ---- lists
 
 -- AclRevision: 2 or 4
@@ -99,7 +92,7 @@ whole_list_read bytes =
     revision_read (slice_index bytes 0) >>= λ revision.
     (if nat_lt (u16_at bytes 2) 8 then Err AclSize
     else if nat_lt (length bytes) (u16_at bytes 2) then Err AclSize
-    else (whole_entries_read (slice_range bytes 8 (u16_at bytes 2)) (u16_at bytes 4) >>= λ entries.
+    else (entries_of whole_entry_read (slice_range bytes 8 (u16_at bytes 2)) (u16_at bytes 4) >>= λ entries.
     Ok (record { revision = revision; entries = entries })))
 
 -- ---- descriptors
@@ -116,14 +109,6 @@ acl_read is_present bytes o =
     else if is_outside bytes o then Err BadOffset
     else (whole_list_read (drop o bytes) >>= λ list. Ok (Entries list))
 
--- the control bits of a header that passes its tests
-unfoldable pub whole_control_read : List ℕ → Result ℕ WireFault
-whole_control_read bytes =
-    if nat_lt (length bytes) 20 then Err Short
-    else if not (slice_index bytes 0 == 1) then Err Revision
-    else if not (is_set 0x8000 (u16_at bytes 2)) then Err NotSelfRelative
-    else Ok (u16_at bytes 2)
-
 -- all control bits but SR, SP and DP, which follow from what is there
 abbrev pub kept_bits : ℕ
 kept_bits = 0x7feb
@@ -131,7 +116,7 @@ kept_bits = 0x7feb
 -- the descriptor: the header, the owner, the group, the SACL if SP is set, the DACL if DP is set
 unfoldable pub whole_read : List ℕ → Result WholeDescriptor WireFault
 whole_read bytes =
-    whole_control_read bytes >>= λ control.
+    header_read bytes >>= λ control.
     (trustee_read bytes (u32_at bytes 4) >>= λ owner.
     (trustee_read bytes (u32_at bytes 8) >>= λ group.
     (acl_read (is_set 0x0010 control) bytes (u32_at bytes 12) >>= λ sacl.

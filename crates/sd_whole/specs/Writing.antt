@@ -1,10 +1,10 @@
 -- The one written form of a whole descriptor: the header, the owner, the group, the SACL and the DACL, without gaps
 -- ([MS-DTYP] 2.4.6, with 2.4.5 for the lists).
 use Rattle.std.specs.Prelude.{ℕ, ◌+◌, Bool, true, false, is_some, cond, List, [], ◌∷◌, ◌++◌, length, bit_and, bit_or}
-use Rattle.std.specs.Int.{w16, w32, to_le_bytes}
+use Rattle.std.specs.Int.{w16, to_le_bytes}
 use Rattle.std.specs.List.{flat_map}
 use Rattle.sd_acl.specs.declared.descriptor.DaclOf.TheVariants.{Absent, Null, List as Entries}
-use Rattle.sd_wire.specs.Writing.{offset_of, trustee_part}
+use Rattle.sd_wire.specs.Writing.{header_bytes, offset_of, trustee_part}
 use Rattle.sd_whole.specs.declared.descriptor.WholeDescriptor.{WholeDescriptor}
 use Rattle.sd_whole.specs.Entry.{whole_acl_size, whole_entry_bytes}
 use Rattle.sd_whole.specs.Reading.{WholeAcl, kept_bits}
@@ -40,16 +40,6 @@ whole_control_of d =
     bit_or (bit_or (bit_or (bit_and d.control kept_bits) 0x8000) (cond (is_without d.sacl) 0 0x0010))
     (cond (is_without d.dacl) 0 0x0004)
 
--- the offsets of owner, group, SACL and DACL
-abbrev pub offset_bytes : ℕ → ℕ → ℕ → ℕ → List ℕ
-offset_bytes owner group sacl dacl = to_le_bytes w32 owner
-    ++ (to_le_bytes w32 group ++ (to_le_bytes w32 sacl ++ to_le_bytes w32 dacl))
-
--- a header: revision 1, Sbz1, the control bits, the offsets
-unfoldable pub whole_header_bytes : ℕ → ℕ → ℕ → ℕ → ℕ → ℕ → List ℕ
-whole_header_bytes resource_manager control owner group sacl dacl =
-    1 ∷ resource_manager ∷ (to_le_bytes w16 control ++ offset_bytes owner group sacl dacl)
-
 -- where the group, the SACL and the DACL are
 abbrev pub group_place : WholeDescriptor → ℕ
 group_place d = 20 + length (trustee_part d.owner)
@@ -63,7 +53,7 @@ dacl_place d = sacl_place d + length (acl_part d.sacl)
 -- the header of a descriptor
 unfoldable pub whole_header_of : WholeDescriptor → List ℕ
 whole_header_of d =
-    whole_header_bytes d.resource_manager (whole_control_of d) (offset_of (is_some d.owner) 20)
+    header_bytes d.resource_manager (whole_control_of d) (offset_of (is_some d.owner) 20)
     (offset_of (is_some d.group) (group_place d)) (offset_of (has_entries d.sacl) (sacl_place d))
     (offset_of (has_entries d.dacl) (dacl_place d))
 

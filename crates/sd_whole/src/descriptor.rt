@@ -8,11 +8,11 @@ ghost use Rattle.sd_whole.specs.Whole.{IsWholeDescriptor};
 ghost use Rattle.sd_whole.specs.Writing.{whole_wire_of};
 
 use crate::acl::{WholeAcl, acl_len, push_acl, read_acl};
-use crate::header::{KEPT_BITS, push_whole_header, read_whole_control};
+use crate::header::{KEPT_BITS, push_whole_header};
 use sd_sid::{Sid, SidRef};
 use sd_wire::{
     DACL_PLACE, DACL_PRESENT, GROUP_PLACE, HEADER_BYTES, OWNER_PLACE, SACL_PLACE, SACL_PRESENT,
-    WireError, has_bits, push_trustee, read_trustee, read_u32, trustee_len,
+    WireError, has_bits, push_trustee, read_header, read_trustee, read_u32, trustee_len,
 };
 use std::alloc::{AllocError, Global};
 
@@ -46,7 +46,7 @@ fn read_parts(alloc: Global, bytes: &[u8]) -> Result<WholeDescriptor, WireError>
     ensures read { Gives (λ d. d) result (whole_read bytes.now) }
     ensures memory { IsErrOf result WireError.Memory → WholeTakesMemory bytes.now }
 {
-    let control = read_whole_control(bytes)?;
+    let control = read_header(bytes)?;
     let owner = read_trustee(bytes, read_u32(bytes, OWNER_PLACE) as usize)?;
     let group = read_trustee(bytes, read_u32(bytes, GROUP_PLACE) as usize)?;
     let sacl = read_acl(alloc, bytes, has_bits(control, SACL_PRESENT), SACL_PLACE)?;

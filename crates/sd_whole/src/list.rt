@@ -1,20 +1,20 @@
 //! Lists of entries of every type.
 
-ghost use Rattle.std.specs.Prelude.{◌≡◌, ◌+◌, ◌≤◌, ◌<◌, ◌/◌, ◌++◌, length, min, sum_by, nat_lt, vec_len, vec_capacity};
+ghost use Rattle.std.specs.Prelude.{◌≡◌, ◌+◌, ◌≤◌, ◌<◌, ◌++◌, length, sum_by, nat_lt, vec_len, vec_capacity};
 ghost use Rattle.std.specs.Prelude.{IfOk, IfErr, IsErrOf, OnOk, OnErr, None, Some, if◌then◌else◌, codes};
 ghost use Rattle.std.specs.List.{flat_map};
 ghost use Rattle.sd_wire.specs.Reading.{Gives};
 ghost use Rattle.sd_whole.specs.Entry.{whole_ace_size, whole_acl_size, whole_entry_bytes};
 ghost use Rattle.sd_whole.specs.Memory.{HasWholeEntries};
 ghost use Rattle.sd_whole.specs.Order.{IsCanonicalOrder};
-ghost use Rattle.sd_whole.specs.Reading.{revision_read, whole_entries_read, whole_list_read};
+ghost use Rattle.sd_whole.specs.Reading.{revision_read, whole_entry_read, whole_list_read};
 ghost use Rattle.sd_whole.specs.Values.{revision_number};
 ghost use Rattle.sd_whole.specs.Writing.{whole_list_bytes};
 
 use crate::ace::{ACE_HEADER_BYTES, WholeAce};
 use crate::entry::{push_whole_entry, read_whole_entry};
 use sd_acl::{ACL_HEADER_BYTES, MAX_ACL_BYTES};
-use sd_wire::{WireError, WireFault, read_u16};
+use sd_wire::{ListEntry, WireError, WireFault, read_entries, read_u16};
 use std::alloc::{AllocError, Global};
 use std::marker::Model;
 use thiserror::Error;
@@ -190,28 +190,26 @@ pub(crate) fn read_whole_list(alloc: Global, bytes: &[u8]) -> Result<WholeList, 
         return Err(WireError::Fault(WireFault::AclSize));
     }
     let count = read_u16(bytes, 4) as usize;
-    let entries = read_whole_entries(alloc, &bytes[HEADER_BYTES..size], count)?;
+    let entries = read_entries::<WholeAce>(
+        alloc,
+        &bytes[HEADER_BYTES..size],
+        count,
+        ACE_HEADER_BYTES,
+    )?;
     // AclSize has 16 bits, and the entries lie within it.
     Ok(WholeList::new(revision, entries).unwrap())
 }
 
-/// Parses so many entries at the front of the bytes. The list is allocated once, for no more entries than can fit.
-fn read_whole_entries(alloc: Global, bytes: &[u8], count: usize) -> Result<Vec<WholeAce>, WireError>
-    ensures read { Gives (λ entries. entries.items) result (whole_entries_read bytes.now count) }
-    ensures size { IfOk result (λ entries. sum_by whole_ace_size entries.items ≤ length bytes.now) }
-    ensures capacity { IfOk result (λ entries. vec_capacity entries ≡ min count (length bytes.now / 4)) }
-    ensures memory { IsErrOf result WireError.Memory → (0 < count) × (4 ≤ length bytes.now) }
-{
-    let room = bytes.len() / ACE_HEADER_BYTES;
-    let mut entries = Vec::with_capacity(alloc, count.min(room))?;
-    let mut rest = bytes;
-    for _ in 0..count {
-        let (entry, size) = read_whole_entry(alloc, rest)?;
-        // A parsed entry has at least a header's bytes, so the allocated capacity suffices.
-        entries.push_reserved(entry);
-        rest = &rest[size..];
+impl ListEntry for WholeAce {
+    ghost reading = { whole_entry_read };
+
+    ghost taken = { whole_ace_size };
+
+    ghost least = { 4 };
+
+    fn read(alloc: Global, bytes: &[u8]) -> Result<(WholeAce, usize), WireError> {
+        read_whole_entry(alloc, bytes)
     }
-    Ok(entries)
 }
 
 /// Appends a list: its revision, and the entries without gaps ([MS-DTYP] 2.4.5). The capacity must suffice.

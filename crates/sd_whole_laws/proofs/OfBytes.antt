@@ -15,7 +15,7 @@ use Rattle.sd_whole.proofs.ReadIsWhole.{is_whole}
 use Rattle.sd_whole.proofs.Steps.{fit_is, fitted, passes}
 use Rattle.sd_whole.specs.Kind.{has_object_types, kind_of, plain_kind}
 use Rattle.sd_whole.specs.Layout.{guid_read, if_sid, layout_read, no_types, types_read}
-use Rattle.sd_whole.specs.Reading.{WholeAcl, acl_read, body_read, by_kind, by_layout, kept_bits, opaque, plain_or_typed, whole_control_read, whole_entries_read, whole_entry_read, whole_list_read, whole_read}
+use Rattle.sd_whole.specs.Reading.{WholeAcl, acl_read, body_read, by_kind, by_layout, kept_bits, opaque, plain_or_typed, whole_entry_read, whole_list_read, whole_read}
 use Rattle.sd_whole.specs.Values.{WholeListValue}
 use Rattle.sd_whole.specs.declared.ace.TypedAce.{TypedAce}
 use Rattle.sd_whole.specs.declared.ace.WholeAce.{WholeAce}
@@ -23,7 +23,7 @@ use Rattle.sd_whole.specs.declared.descriptor.WholeDescriptor.{WholeDescriptor}
 use Rattle.sd_whole.specs.declared.kind.WholeKind.{WholeKind}
 use Rattle.sd_whole.specs.declared.types.Guid.{Guid}
 use Rattle.sd_whole.specs.declared.types.ObjectTypes.{ObjectTypes}
-use Rattle.sd_wire.specs.Reading.{is_outside, is_set, trustee_read, u16_at, ◌>>=◌}
+use Rattle.sd_wire.specs.Reading.{entries_of, header_read, is_outside, is_set, trustee_read, u16_at, ◌>>=◌}
 use Rattle.sd_wire.specs.declared.fault.WireFault.{WireFault}
 use Rattle.sd_wire.specs.declared.fault.WireFault.TheVariants.{EntrySize}
 use Rattle.sd_whole_laws.specs.Laws.{AreBytes, EachEntry, EachOf, HasBytes, IsOfBytes, ParsedIsWhole}
@@ -135,12 +135,12 @@ entry_of_bytes bytes x fits h =
     let is : read.0 ≡ x.0 = ap (λ (y : WholeAce × ℕ). y.0) (good_is (read.0, size) x read.2) in
     subst IsOfBytes is (body_of_bytes (get_or bytes 0 0) (get_or bytes 1 0) body read.0 (range_fits bytes 4 size fits) (fits 1) read.1)
 
-entries_of_bytes : (bytes : List ℕ) (n : ℕ) (es : List WholeAce) → Fit bytes → whole_entries_read bytes n ≡ Ok es → AllByRecursion IsOfBytes es
-unfolding whole_entries_read
+entries_of_bytes : (bytes : List ℕ) (n : ℕ) (es : List WholeAce) → Fit bytes → entries_of whole_entry_read bytes n ≡ Ok es → AllByRecursion IsOfBytes es
+unfolding entries_of
 entries_of_bytes bytes zero es fits h = let none : [] ≡ es = good_is [] es h in subst (AllByRecursion IsOfBytes) none tt
 entries_of_bytes bytes (suc n) es fits h =
-    let first = bound (whole_entry_read bytes) (λ (x : WholeAce × ℕ). whole_entries_read (drop x.1 bytes) n >>= λ xs. Ok (x.0 ∷ xs)) es h in
-    let others = bound (whole_entries_read (drop first.0.1 bytes) n) (λ (xs : List WholeAce). Ok (first.0.0 ∷ xs)) es first.2 in
+    let first = bound (whole_entry_read bytes) (λ (x : WholeAce × ℕ). entries_of whole_entry_read (drop x.1 bytes) n >>= λ xs. Ok (x.0 ∷ xs)) es h in
+    let others = bound (entries_of whole_entry_read (drop first.0.1 bytes) n) (λ (xs : List WholeAce). Ok (first.0.0 ∷ xs)) es first.2 in
     let all : first.0.0 ∷ others.0 ≡ es = good_is (first.0.0 ∷ others.0) es others.2 in
     subst (AllByRecursion IsOfBytes) all (entry_of_bytes bytes first.0 fits first.1, entries_of_bytes (drop first.0.1 bytes) n others.0 (rest_fits bytes first.0.1 fits) others.1)
 
@@ -171,7 +171,7 @@ descriptor_of_bytes bytes d fits h =
     let with_group : ℕ → Option SidValue → Option SidValue → Result WholeDescriptor WireFault = λ control owner group. acl_read (is_set 0x0010 control) bytes (u32_at bytes 12) >>= with_sacl control owner group in
     let with_owner : ℕ → Option SidValue → Result WholeDescriptor WireFault = λ control owner. trustee_read bytes (u32_at bytes 8) >>= with_group control owner in
     let with_control : ℕ → Result WholeDescriptor WireFault = λ control. trustee_read bytes (u32_at bytes 4) >>= with_owner control in
-    let control = bound (whole_control_read bytes) with_control d h in
+    let control = bound (header_read bytes) with_control d h in
     let owner = bound (trustee_read bytes (u32_at bytes 4)) (with_owner control.0) d control.2 in
     let group = bound (trustee_read bytes (u32_at bytes 8)) (with_group control.0 owner.0) d owner.2 in
     let sacl = bound (acl_read (is_set 0x0010 control.0) bytes (u32_at bytes 12)) (with_sacl control.0 owner.0 group.0) d group.2 in

@@ -1,7 +1,7 @@
 -- What stands in the bytes is read.
 use Rattle.sd_wire.proofs.Cited.{Absent, Ace, AceKind, AllByRecursion, Allow, AreEntries, Bool, Dacl, DaclStands, Deny, DescriptorValue, EntriesStand, EntryStands, Err, Holds, IfSome, IsAce, IsDacl, IsPresent, IsSid, IsWithout, List, ListStands, MatchBool-at_false, MatchBool-at_true, None, NoneIsHeldBesideAFault, Null, Ok, OneIsHeld, Option, SidValue, Some, Stands, TrusteeStands, WhatIsHeldIsRead, WireFault, [], add-zero, add_assoc, all_named, and_left, and_right, ap, arith, bad_sid, bit_and, bytes_of_sid, cases_Bool, drop, entry_parts, eq-eqb, false, from_le_bytes-to_le_bytes_2, from_le_bytes-to_le_bytes_4, get_or, inl, inr, is_outside, is_set, kind_byte, kind_read, le-ltb, length, length_of_sid, nat_lt, ne_eqb, not, refl, sid_read, sid_reading, sids_come_back, sym, take, to_le_bytes, true, u16_at, u32_at, w16, w32, ℕ, ◌%◌, ◌&&◌, ◌*◌, ◌++◌, ◌+◌, ◌-◌, ◌<◌, ◌==◌, ◌||◌, ◌∙◌, ◌∷◌, ◌≡◌, ◌≤◌}
 use Rattle.sd_acl.specs.declared.descriptor.DaclOf.TheVariants.{List as Entries}
-use Rattle.sd_wire.specs.Reading.{entry_read, entries_read, list_read, trustee_read, dacl_read, control_read, descriptor_read}
+use Rattle.sd_wire.specs.Reading.{entry_read, entries_read, list_read, trustee_read, dacl_read, header_read, control_read, descriptor_read}
 use Rattle.sd_wire.proofs.Found.{good, good_is}
 use Rattle.sd_wire.proofs.Places.{stands_at, stands_within, stands_second, stands_range}
 
@@ -92,7 +92,7 @@ dacl_is_read bytes o (Entries es) sound h =
 -- ---- descriptors
 
 control_is_read : (bytes : List ℕ) (d : DescriptorValue) → Holds bytes d → control_read bytes ≡ Ok (u16_at bytes 2)
-unfolding control_read
+unfolding control_read header_read
 control_is_read bytes d h =
     let long : nat_lt (length bytes) 20 ≡ false = le-ltb _ _ h.header in
     let no_sacl : (is_set 0x0010 (u16_at bytes 2) && not (u32_at bytes 12 == 0)) ≡ false = elim (cases_Bool (is_set 0x0010 (u16_at bytes 2))) [

@@ -1,7 +1,7 @@
 -- What is read stands in the bytes.
-use Rattle.sd_wire.proofs.Cited.{Absent, Ace, AceKind, Allow, Bool, Dacl, DaclStands, Deny, Descriptor, DescriptorValue, EntriesStand, EntryKind, EntrySize, EntryStands, Err, Gives, Holds, IfOk, List, ListStands, None, Null, Ok, Option, ReadingsAreHeld, Result, SidError, SidValue, Some, Stands, TrusteeStands, WireError, WireFault, [], add-zero, all_named, and_cases, ap, arith, bad_sid, bit_and, bytes_of_sid, cells, cells_fit, cond, descriptor_of, drop, entry_parts, eqb-true, false, get_or, inl, inr, is_outside, is_set, kind_byte, kind_read, length, length-take, length_of_sid, ltb-false, nat_lt, not, not-false, or_cases, or_parts, passed, refl, sid_read, sid_reading, sids_stand, subst, suc, sym, take, take-take, take_all, to_le_bytes, true, u16_at, u32_at, w16, w32, zero, ℕ, ◌%◌, ◌&&◌, ◌*◌, ◌++◌, ◌+◌, ◌-◌, ◌<◌, ◌==◌, ◌>>=◌, ◌∙◌, ◌∷◌, ◌≡◌, ◌≤◌}
+use Rattle.sd_wire.proofs.Cited.{Absent, Ace, AceKind, Allow, Bool, Dacl, DaclStands, Deny, Descriptor, DescriptorValue, EntriesStand, EntryKind, EntrySize, EntryStands, Err, Gives, HasSacl, Holds, IfOk, List, ListStands, None, Null, Ok, Option, ReadingsAreHeld, Result, SidError, SidValue, Some, Stands, TrusteeStands, WireError, WireFault, [], add-zero, all_named, and_cases, ap, arith, bad_sid, bit_and, bytes_of_sid, cells, cells_fit, cond, descriptor_of, drop, entry_parts, eqb-true, false, get_or, inl, inr, is_outside, is_set, kind_byte, kind_read, length, length-take, length_of_sid, ltb-false, nat_lt, not, not-false, or_cases, or_parts, passed, refl, sid_read, sid_reading, sids_stand, subst, suc, sym, take, take-take, take_all, to_le_bytes, true, u16_at, u32_at, w16, w32, zero, ℕ, ◌%◌, ◌&&◌, ◌*◌, ◌++◌, ◌+◌, ◌-◌, ◌<◌, ◌==◌, ◌>>=◌, ◌∙◌, ◌∷◌, ◌≡◌, ◌≤◌}
 use Rattle.sd_acl.specs.declared.descriptor.DaclOf.TheVariants.{List as Entries}
-use Rattle.sd_wire.specs.Reading.{entry_read, entries_read, list_read, trustee_read, dacl_read, control_read, descriptor_read}
+use Rattle.sd_wire.specs.Reading.{entry_read, entries_read, list_read, trustee_read, dacl_read, header_read, control_read, descriptor_read}
 use Rattle.sd_wire.proofs.Found.{good, good_is, chosen, bound}
 use Rattle.sd_wire.proofs.Places.{stands_join, u16_stands, u32_stands}
 
@@ -152,21 +152,23 @@ record Header (bytes : List ℕ) (control : ℕ) : Type 0 where
   bits : u16_at bytes 2 ≡ control
 
 header_is_held : (bytes : List ℕ) (control : ℕ) → control_read bytes ≡ Ok control → Header bytes control
-unfolding control_read
+unfolding control_read header_read
 header_is_held bytes control e =
-    let long = passed _ _ _ _ e in
+    let header = bound (header_read bytes) (λ (c : ℕ). cond (is_set 0x0010 c && not (u32_at bytes 12 == 0)) (Err HasSacl) (Ok c)) control e in
+    let sacl = passed (is_set 0x0010 header.0 && not (u32_at bytes 12 == 0)) HasSacl (Ok header.0) control header.2 in
+    let long = passed _ _ _ _ header.1 in
     let revision = passed _ _ _ _ long.1 in
     let self_relative = passed _ _ _ _ revision.1 in
-    let sacl = passed (is_set 0x0010 (u16_at bytes 2) && not (u32_at bytes 12 == 0)) _ _ _ self_relative.1 in
+    let is : u16_at bytes 2 ≡ header.0 = good_is (u16_at bytes 2) header.0 self_relative.1 in
     record {
       long = ltb-false _ _ long.0;
       revision = eqb-true _ _ (not-false _ revision.0);
       self_relative = not-false _ self_relative.0;
-      no_sacl = λ set. elim (and_cases (is_set 0x0010 (u16_at bytes 2)) (not (u32_at bytes 12 == 0)) sacl.0) [
-        | inl clear ↦ absurd (apart set clear)
+      no_sacl = λ set. elim (and_cases (is_set 0x0010 header.0) (not (u32_at bytes 12 == 0)) sacl.0) [
+        | inl clear ↦ absurd (apart (sym (ap (is_set 0x0010) is) ∙ set) clear)
         | inr none ↦ eqb-true _ _ (not-false _ none)
       ];
-      bits = good_is (u16_at bytes 2) control sacl.1;
+      bits = is ∙ good_is header.0 control sacl.1;
     }
   where
     apart : {b : Bool} → b ≡ true → b ≡ false → ⊥

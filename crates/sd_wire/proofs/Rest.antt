@@ -1,7 +1,7 @@
 -- The rest of a list, as a slice: what is read at its front is what is read at its place in the bytes.
-use Rattle.sd_wire.proofs.Cited.{Ace, List, Ok, [], ap, arith, cases_lt, drop, drop-drop, drop-take, entries_read, false, get_or, get_or-drop, get_or-take, inl, inr, le-ltb, length, length-drop, length-take-le, lt-ltb, nat_lt, refl, sym, take, take-take, u16_at, u32_at, zero-add, ℕ, ◌++◌, ◌+◌, ◌-◌, ◌<◌, ◌∙◌, ◌∷◌, ◌≡◌, ◌≤◌}
-use Rattle.sd_wire.specs.Reading.{entry_read}
-use Rattle.sd_wire.proofs.Loop.{behind, goes_on}
+use Rattle.sd_wire.proofs.Cited.{Ace, AceKind, EntrySize, Err, List, Ok, Result, SidValue, WireFault, [], all_named, ap, arith, bit_and, cases_lt, cond, drop, drop-drop, drop-take, false, front_read, get_or, get_or-drop, get_or-take, inl, inr, kind_read, le-ltb, length, length-drop, length-take-le, lt-ltb, ltb-false, nat_lt, not, passed, refl, sid_read, suc, sym, take, take-take, u16_at, u32_at, zero, zero-add, ℕ, ◌%◌, ◌++◌, ◌+◌, ◌-◌, ◌<◌, ◌==◌, ◌>>=◌, ◌∙◌, ◌∷◌, ◌≡◌, ◌≤◌}
+use Rattle.sd_wire.specs.Reading.{entries_of, entries_read, entry_read}
+use Rattle.sd_wire.proofs.Found.{bound, good, good_is}
 
 -- a part of a part
 pub part_of_rest : (xs : List ℕ) (at end i j : ℕ) → i ≤ j → j ≤ end - at
@@ -66,32 +66,48 @@ module _ (bytes : List ℕ) (at end : ℕ) where
         ]
   ]
 
--- the entries that were read, where the bytes go on with the rest
-pub record HasRead (bytes : List ℕ) (place end count k : ℕ) (rest : List ℕ) (IsSeen : List Ace → Type 0) : Type 0 where
-  pub at : ℕ
-  pub seen : List Ace
-  pub order : at ≤ end
-  pub is_rest : rest ≡ take (end - at) (drop at bytes)
-  pub all_read : behind seen (entries_read bytes at end (count - k)) ≡ entries_read bytes place end count
-  pub is_seen : IsSeen seen
+-- an entry that is read ends within its list
+entry_ends : (bytes : List ℕ) (at end : ℕ) (x : Ace × ℕ) → entry_read bytes at end ≡ Ok x → at + x.1 ≤ end
+unfolding entry_read
+entry_ends bytes at end x e =
+    let size = u16_at bytes (at + 2) in
+    let made : AceKind → SidValue → Ace × ℕ = λ kind sid. (record { kind = kind; flags = record { 0 = bit_and (get_or bytes (at + 1) 0) all_named }; mask = u32_at bytes (at + 4); sid = sid }, size) in
+    let with_sid : AceKind → Result (Ace × ℕ) WireFault = λ kind. sid_read bytes (at + 8) (at + size) >>= λ sid. Ok (made kind sid) in
+    let with_kind : AceKind → Result (Ace × ℕ) WireFault = λ kind. cond (nat_lt size 16) (Err EntrySize) (with_sid kind) in
+    let whole : Result (Ace × ℕ) WireFault = kind_read (get_or bytes at 0) >>= with_kind in
+    let within_list : Result (Ace × ℕ) WireFault = cond (nat_lt end (at + size)) (Err EntrySize) whole in
+    let aligned : Result (Ace × ℕ) WireFault = cond (not (size % 4 == 0)) (Err EntrySize) within_list in
+    let header = passed (nat_lt end (at + 4)) EntrySize (cond (nat_lt size 4) (Err EntrySize) aligned) x e in
+    let least = passed (nat_lt size 4) EntrySize aligned x header.1 in
+    let even = passed (not (size % 4 == 0)) EntrySize within_list x least.1 in
+    let within = passed (nat_lt end (at + size)) EntrySize whole x even.1 in
+    let kind = bound (kind_read (get_or bytes at 0)) with_kind x within.1 in
+    let room = passed (nat_lt size 16) EntrySize (with_sid kind.0) x kind.2 in
+    let sid = bound (sid_read bytes (at + 8) (at + size)) (λ sid. good (made kind.0 sid)) x room.1 in
+    let size_is : size ≡ x.1 = ap (λ (y : Ace × ℕ). y.1) (good_is (made kind.0 sid.0) x sid.2) in
+    omega (arith, ltb-false _ _ within.0)
 
-module _ (bytes : List ℕ) (place end count k : ℕ) (rest : List ℕ) (IsSeen : List Ace → Type 0) (room : end ≤ length bytes) (so_far : HasRead bytes place end count k rest IsSeen) where
-  pub long : length rest ≡ end - so_far.at
-  long = ap length so_far.is_rest ∙ length-take-le (end - so_far.at) (drop so_far.at bytes) (omega (arith, room, length-drop so_far.at bytes))
+-- the entries at the front of the rest are those at the place, if those behind the first are
+first_and_others : (bytes : List ℕ) (at end n : ℕ) → at ≤ end → end ≤ length bytes
+    → ((size : ℕ) → at + size ≤ end → entries_of front_read (take (end - (at + size)) (drop (at + size) bytes)) n ≡ entries_read bytes (at + size) end n)
+    → (read : Result (Ace × ℕ) WireFault) → entry_read bytes at end ≡ read → entries_of front_read (take (end - at) (drop at bytes)) (suc n) ≡ entries_read bytes at end (suc n)
+unfolding entries_of entries_read
+first_and_others bytes at end n order room others read is =
+    let xs = take (end - at) (drop at bytes) in
+    let long : length xs ≡ end - at = length-take-le (end - at) (drop at bytes) (omega (arith, length-drop at bytes)) in
+    let first : entry_read xs 0 (length xs) ≡ read = ap (entry_read xs 0) long ∙ entry_in_rest bytes at end order ∙ is in
+    elim read as (λ r. read ≡ r → entries_of front_read xs (suc n) ≡ entries_read bytes at end (suc n)) [
+      | Ok x ↦ λ found.
+          let within : at + x.1 ≤ end = entry_ends bytes at end x (is ∙ found) in
+          let split : end - at ≡ x.1 + (end - (at + x.1)) = omega arith in
+          let left : drop x.1 xs ≡ take (end - (at + x.1)) (drop (at + x.1) bytes) =
+          ap (λ k. drop x.1 (take k (drop at bytes))) split ∙ drop-take x.1 (end - (at + x.1)) (drop at bytes) ∙ ap (take (end - (at + x.1))) (drop-drop x.1 at bytes) in
+          rw (first ∙ found, is ∙ found, left, others x.1 within) refl
+      | Err fault ↦ λ found. rw (first ∙ found, is ∙ found) refl
+    ] refl
 
-  pub entry_there : entry_read rest 0 (length rest) ≡ entry_read bytes so_far.at end
-  entry_there =
-      ap (entry_read rest 0) long ∙ ap (λ xs. entry_read xs 0 (end - so_far.at)) so_far.is_rest ∙ entry_in_rest bytes so_far.at end so_far.order
-
-  pub read_one : (e : Ace) (size : ℕ) (IsSeenNow : List Ace → Type 0) → k < count → size ≤ length rest → entry_read rest 0 (length rest) ≡ Ok (e, size)
-      → IsSeenNow (so_far.seen ++ e ∷ []) → HasRead bytes place end count (k + 1) (take (length rest - size) (drop size rest)) IsSeenNow
-  read_one e size IsSeenNow more within read now = record {
-    at = so_far.at + size;
-    seen = so_far.seen ++ e ∷ [];
-    order = omega (arith, long, within, so_far.order);
-    is_rest = ap (λ xs. take (length rest - size) (drop size xs)) so_far.is_rest ∙ ap (λ n. take (n - size) (drop size (take (end - so_far.at) (drop so_far.at bytes)))) long
-        ∙ part_of_rest bytes so_far.at end size (end - so_far.at) (omega (arith, long, within)) (omega arith)
-        ∙ ap (λ n. take (n - (so_far.at + size)) (drop (so_far.at + size) bytes)) (let whole : so_far.at + (end - so_far.at) ≡ end = omega (arith, so_far.order) in whole);
-    all_read = goes_on bytes so_far.at end count k so_far.seen e size _ more (sym entry_there ∙ read) so_far.all_read;
-    is_seen = now;
-  }
+pub entries_in_rest : (bytes : List ℕ) (at end n : ℕ) → at ≤ end → end ≤ length bytes → entries_of front_read (take (end - at) (drop at bytes)) n ≡ entries_read bytes at end n
+unfolding entries_of entries_read
+entries_in_rest bytes at end zero order room = refl
+entries_in_rest bytes at end (suc n) order room =
+    first_and_others bytes at end n order room (λ size within. entries_in_rest bytes (at + size) end n within room) (entry_read bytes at end) refl

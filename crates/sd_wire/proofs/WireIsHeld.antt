@@ -9,25 +9,27 @@ use Rattle.sd_wire.proofs.HeldIsRead.{held_is_read}
 -- ---- the header
 
 -- the fields of a header, whatever stands behind it
-record Fields (bytes : List ℕ) (control owner group dacl : ℕ) : Type 0 where
-  long : 20 ≤ length bytes
-  revision : get_or bytes 0 0 ≡ 1
-  bits : u16_at bytes 2 ≡ control
-  owner_at : u32_at bytes 4 ≡ owner
-  group_at : u32_at bytes 8 ≡ group
-  sacl_at : u32_at bytes 12 ≡ 0
-  dacl_at : u32_at bytes 16 ≡ dacl
+pub record Fields (bytes : List ℕ) (manager control owner group sacl dacl : ℕ) : Type 0 where
+  pub long : 20 ≤ length bytes
+  pub revision : get_or bytes 0 0 ≡ 1
+  pub manager_at : get_or bytes 1 0 ≡ manager
+  pub bits : u16_at bytes 2 ≡ control
+  pub owner_at : u32_at bytes 4 ≡ owner
+  pub group_at : u32_at bytes 8 ≡ group
+  pub sacl_at : u32_at bytes 12 ≡ sacl
+  pub dacl_at : u32_at bytes 16 ≡ dacl
 
-header_fields : (control owner group dacl : ℕ) (rest : List ℕ) → control < 2 ^ 16 → owner < 2 ^ 32 → group < 2 ^ 32 → dacl < 2 ^ 32
-    → Fields (header_bytes control owner group dacl ++ rest) control owner group dacl
+pub header_fields : (manager control owner group sacl dacl : ℕ) (rest : List ℕ) → control < 2 ^ 16 → owner < 2 ^ 32 → group < 2 ^ 32 → sacl < 2 ^ 32 → dacl < 2 ^ 32
+    → Fields (header_bytes manager control owner group sacl dacl ++ rest) manager control owner group sacl dacl
 unfolding header_bytes
-header_fields control owner group dacl rest c o g d = record {
+header_fields manager control owner group sacl dacl rest c o g s d = record {
   long = omega arith;
   revision = refl;
+  manager_at = refl;
   bits = from_le_bytes-to_le_bytes_2 control c;
   owner_at = from_le_bytes-to_le_bytes_4 owner o;
   group_at = from_le_bytes-to_le_bytes_4 group g;
-  sacl_at = refl;
+  sacl_at = from_le_bytes-to_le_bytes_4 sacl s;
   dacl_at = from_le_bytes-to_le_bytes_4 dacl d;
 }
 
@@ -148,17 +150,17 @@ both_ways : (b : Bool) (P Q : Type 0) → (b ≡ true → P) → (b ≡ false �
 both_ways true P Q p q = p refl
 both_ways false P Q p q = q refl
 
-trustee_len : (t : Option SidValue) → IfSome t IsSid → length (trustee_part t) ≤ 68
+pub trustee_len : (t : Option SidValue) → IfSome t IsSid → length (trustee_part t) ≤ 68
 trustee_len None sound = omega arith
 trustee_len (Some s) sound = omega (arith, length_of_sid s, sound.few)
 
-offset_small : (b : Bool) (o : ℕ) → o < 2 ^ 32 → offset_of b o < 2 ^ 32
+pub offset_small : (b : Bool) (o : ℕ) → o < 2 ^ 32 → offset_of b o < 2 ^ 32
 offset_small true o h = h
 offset_small false o h = omega arith
 
 -- a header of 20 bytes whose fields are those of the descriptor, and the parts behind it
 parts_are_held : (header : List ℕ) (d : DescriptorValue) → length header ≡ 20 → IsDescriptor d → HaveNamedFlags d.dacl
-    → Fields (header ++ (trustee_part d.owner ++ (trustee_part d.group ++ dacl_part d.dacl))) (control_of d) (offset_of (is_some d.owner) 20) (offset_of (is_some d.group) (20 + length (trustee_part d.owner)))
+    → Fields (header ++ (trustee_part d.owner ++ (trustee_part d.group ++ dacl_part d.dacl))) 0 (control_of d) (offset_of (is_some d.owner) 20) (offset_of (is_some d.group) (20 + length (trustee_part d.owner))) 0
     (offset_of (is_list d.dacl) (20 + length (trustee_part d.owner) + length (trustee_part d.group)))
     → Holds (header ++ (trustee_part d.owner ++ (trustee_part d.group ++ dacl_part d.dacl))) d
 parts_are_held header d size sound known fields =
@@ -207,9 +209,9 @@ wire_is_held d sound known =
     let short_group = trustee_len d.group sound.group in
     let small : control_of d < 2 ^ 16 = (bits_are (is_absent d.dacl) d.auto_req d.auto_inherited d.protected).small in
     parts_are_held (header_of d) d (length_of_header d) sound known
-    (header_fields (control_of d) (offset_of (is_some d.owner) 20) (offset_of (is_some d.group) (20 + length (trustee_part d.owner))) (offset_of (is_list d.dacl) (20 + length (trustee_part d.owner) + length (trustee_part d.group)))
+    (header_fields 0 (control_of d) (offset_of (is_some d.owner) 20) (offset_of (is_some d.group) (20 + length (trustee_part d.owner))) 0 (offset_of (is_list d.dacl) (20 + length (trustee_part d.owner) + length (trustee_part d.group)))
     (trustee_part d.owner ++ (trustee_part d.group ++ dacl_part d.dacl)) small (offset_small (is_some d.owner) 20 (omega arith)) (offset_small (is_some d.group) (20 + length (trustee_part d.owner)) (omega arith))
-    (offset_small (is_list d.dacl) (20 + length (trustee_part d.owner) + length (trustee_part d.group)) (omega arith)))
+    (omega arith) (offset_small (is_list d.dacl) (20 + length (trustee_part d.owner) + length (trustee_part d.group)) (omega arith)))
 
 pub descriptors_come_back : DescriptorsComeBack
 descriptors_come_back d sound known = held_is_read (wire_of d) d sound (wire_is_held d sound known)

@@ -1,7 +1,7 @@
 -- How a self-relative descriptor is parsed: each part at its offset in the bytes, and the tests in their order
 -- ([MS-DTYP] 2.4.6, with 2.4.5 for the list, 2.4.4 for its entries, 2.4.2.2 for the SIDs).
 use Rattle.std.specs.Prelude.{◌≡◌, ℕ, zero, suc, ◌+◌, ◌%◌, Bool, false, not, ◌&&◌, ◌||◌, ◌==◌, nat_lt, List, [], ◌∷◌}
-use Rattle.std.specs.Prelude.{length, slice_index, slice_range, bit_and, Option, Some, None, Result, Ok, Err}
+use Rattle.std.specs.Prelude.{length, drop, slice_index, slice_range, bit_and, Option, Some, None, Result, Ok, Err}
 use Rattle.std.specs.Prelude.{if◌then◌else◌}
 use Rattle.std.specs.Int.{w16, from_le_bytes}
 use Rattle.sd_sid.specs.Sid.{SidValue}
@@ -83,6 +83,18 @@ entry_read bytes o end =
       u16_at bytes (o + 2),
     ))))
 
+-- so many entries at the front of the bytes, each where the AceSize of the one before it ends, by how one of them is
+-- read
+unfoldable pub entries_of : {A : Type 0} → (List ℕ → Result (A × ℕ) WireFault) → List ℕ → ℕ → Result (List A) WireFault
+entries_of read bytes zero = Ok []
+entries_of read bytes (suc n) =
+    read bytes >>= λ first.
+    (entries_of read (drop first.1 bytes) n >>= λ others. Ok (first.0 ∷ others))
+
+-- the entry at the front of the bytes
+abbrev pub front_read : List ℕ → Result (Ace × ℕ) WireFault
+front_read bytes = entry_read bytes 0 (length bytes)
+
 -- so many entries from an offset on, each where the AceSize of the one before it ends
 unfoldable pub entries_read : List ℕ → ℕ → ℕ → ℕ → Result (List Ace) WireFault
 entries_read bytes o end zero = Ok []
@@ -118,14 +130,19 @@ dacl_read bytes o =
     else if is_outside bytes o then Err BadOffset
     else (list_read bytes o >>= λ entries. Ok (Entries entries))
 
--- the control bits of a header that passes its tests: SR is set, and if SP is set OffsetSacl is 0
-unfoldable pub control_read : List ℕ → Result ℕ WireFault
-control_read bytes =
+-- the control bits of a header: SR is set
+unfoldable pub header_read : List ℕ → Result ℕ WireFault
+header_read bytes =
     if nat_lt (length bytes) 20 then Err Short
     else if not (slice_index bytes 0 == 1) then Err Revision
     else if not (is_set 0x8000 (u16_at bytes 2)) then Err NotSelfRelative
-    else if (is_set 0x0010 (u16_at bytes 2) && not (u32_at bytes 12 == 0)) then Err HasSacl
     else Ok (u16_at bytes 2)
+
+-- those of a descriptor without a SACL: if SP is set OffsetSacl is 0
+unfoldable pub control_read : List ℕ → Result ℕ WireFault
+control_read bytes =
+    header_read bytes >>= λ control.
+    (if (is_set 0x0010 control && not (u32_at bytes 12 == 0)) then Err HasSacl else Ok control)
 
 -- the descriptor: the header, the owner, the group, and if DP is set the DACL with PD, DC and DI
 unfoldable pub descriptor_read : List ℕ → Result DescriptorValue WireFault

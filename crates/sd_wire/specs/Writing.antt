@@ -60,20 +60,21 @@ control_of d =
     bit_or (bit_or (bit_or (bit_or 0x8000 (cond (is_absent d.dacl) 0 0x0004)) (cond d.auto_req 0x0100 0))
     (cond d.auto_inherited 0x0400 0)) (cond d.protected 0x1000 0)
 
--- the offsets of owner, group, SACL, which is always absent, and DACL
-abbrev pub offset_bytes : ℕ → ℕ → ℕ → List ℕ
-offset_bytes owner group dacl = to_le_bytes w32 owner
-    ++ (to_le_bytes w32 group ++ (to_le_bytes w32 0 ++ to_le_bytes w32 dacl))
+-- the offsets of owner, group, SACL and DACL
+abbrev pub offset_bytes : ℕ → ℕ → ℕ → ℕ → List ℕ
+offset_bytes owner group sacl dacl = to_le_bytes w32 owner
+    ++ (to_le_bytes w32 group ++ (to_le_bytes w32 sacl ++ to_le_bytes w32 dacl))
 
--- the header: revision 1, a zero, the control bits, the offsets
-unfoldable pub header_bytes : ℕ → ℕ → ℕ → ℕ → List ℕ
-header_bytes control owner group dacl = 1 ∷ 0 ∷ (to_le_bytes w16 control ++ offset_bytes owner group dacl)
+-- a header: revision 1, Sbz1, the control bits, the offsets
+unfoldable pub header_bytes : ℕ → ℕ → ℕ → ℕ → ℕ → ℕ → List ℕ
+header_bytes resource_manager control owner group sacl dacl =
+    1 ∷ resource_manager ∷ (to_le_bytes w16 control ++ offset_bytes owner group sacl dacl)
 
--- the header of a descriptor
+-- the header of a descriptor, whose SACL is always absent
 unfoldable pub header_of : DescriptorValue → List ℕ
 header_of d =
-    header_bytes (control_of d) (offset_of (is_some d.owner) 20)
-    (offset_of (is_some d.group) (20 + length (trustee_part d.owner)))
+    header_bytes 0 (control_of d) (offset_of (is_some d.owner) 20)
+    (offset_of (is_some d.group) (20 + length (trustee_part d.owner))) 0
     (offset_of (is_list d.dacl) (20 + length (trustee_part d.owner) + length (trustee_part d.group)))
 
 -- the written form

@@ -2,15 +2,17 @@
 
 ghost use Rattle.std.specs.Prelude.{◌≡◌, ◌+◌, ◌≤◌, ◌++◌, length, vec_len, vec_capacity, IfOk};
 ghost use Rattle.sd_acl.specs.Ace.{ace_size};
-ghost use Rattle.sd_wire.specs.Reading.{entry_read, kind_read};
+ghost use Rattle.sd_wire.specs.Reading.{entry_read, front_read, kind_read};
 ghost use Rattle.sd_wire.specs.Writing.{entry_bytes};
 
-use crate::fault::WireFault;
+use crate::entries::ListEntry;
+use crate::fault::{WireError, WireFault};
 use crate::number::{read_u16, read_u32};
 use crate::trustee::read_sid_at;
 use bitflags::Flags;
 use sd_acl::{Ace, AceFlags, AceKind, AceRef};
 use sd_sid::{Mask, SID_HEADER_BYTES, push_sid};
+use std::alloc::Global;
 
 /// AceType of an allow ([MS-DTYP] 2.4.4.1, ACCESS_ALLOWED_ACE_TYPE).
 const ALLOW: u8 = 0x00;
@@ -53,6 +55,20 @@ pub fn read_entry(bytes: &[u8], place: usize, end: usize) -> Result<(AceRef<'_>,
     let mask = Mask(read_u32(bytes, place + HEADER_BYTES));
     let sid = read_sid_at(bytes, place + SID_PLACE, place + size)?;
     Ok((AceRef::new(kind, flags, mask, sid), size))
+}
+
+impl ListEntry for Ace {
+    ghost reading = { front_read };
+
+    ghost taken = { ace_size };
+
+    ghost least = { 16 };
+
+    #[inline(always)]
+    fn read(_alloc: Global, bytes: &[u8]) -> Result<(Ace, usize), WireError> {
+        let (entry, size) = read_entry(bytes, 0, bytes.len())?;
+        Ok((entry.copied(), size))
+    }
 }
 
 /// The kind of an entry's type: an allow or a deny.

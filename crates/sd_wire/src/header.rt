@@ -2,7 +2,7 @@
 
 ghost use Rattle.std.specs.Prelude.{◌≡◌, ◌+◌, ◌≤◌, ◌<◌, ◌^◌, ◌++◌, cond, length, OnOk, vec_len, vec_capacity};
 ghost use Rattle.sd_acl.specs.Descriptor.{descriptor_of};
-ghost use Rattle.sd_wire.specs.Reading.{control_read, is_outside, is_set};
+ghost use Rattle.sd_wire.specs.Reading.{control_read, header_read, is_outside, is_set};
 ghost use Rattle.sd_wire.specs.Writing.{control_of, header_bytes, header_of, is_list, offset_bytes, offset_of};
 
 use crate::fault::WireFault;
@@ -63,10 +63,10 @@ pub fn has_bits(control: u16, bits: u16) -> bool
     control & bits != 0
 }
 
-/// The control bits, if the header passes its tests.
-#[tactic(auto, unfolding(crate::specs::Reading::control_read))]
-pub(crate) fn read_control(bytes: &[u8]) -> Result<u16, WireFault>
-    ensures read { result ≡ control_read bytes.now }
+/// The control bits of a self-relative descriptor's header, or the first test that it fails ([MS-DTYP] 2.4.6).
+#[tactic(auto, unfolding(crate::specs::Reading::header_read))]
+pub fn read_header(bytes: &[u8]) -> Result<u16, WireFault>
+    ensures read { result ≡ header_read bytes.now }
     ensures size { OnOk result (20 ≤ length bytes.now) }
 {
     if bytes.len() < HEADER_BYTES {
@@ -79,6 +79,16 @@ pub(crate) fn read_control(bytes: &[u8]) -> Result<u16, WireFault>
     if !has_bits(control, SELF_RELATIVE) {
         return Err(WireFault::NotSelfRelative);
     }
+    Ok(control)
+}
+
+/// The control bits, if the header passes its tests and there is no SACL.
+#[tactic(auto, unfolding(crate::specs::Reading::control_read))]
+pub(crate) fn read_control(bytes: &[u8]) -> Result<u16, WireFault>
+    ensures read { result ≡ control_read bytes.now }
+    ensures size { OnOk result (20 ≤ length bytes.now) }
+{
+    let control = read_header(bytes)?;
     if has_bits(control, SACL_PRESENT) && read_u32(bytes, SACL_PLACE) != 0 {
         return Err(WireFault::HasSacl);
     }
@@ -138,30 +148,48 @@ pub(crate) fn push_header(bytes: &mut Vec<u8>, descriptor: &Descriptor)
     let owner = part_offset(descriptor.owner.is_some(), HEADER_BYTES);
     let group = part_offset(descriptor.group.is_some(), group_place);
     let dacl = part_offset(has_list(&descriptor.dacl), dacl_place);
-    push_fields(bytes, control_bits(descriptor), owner, group, dacl);
+    push_fields(
+        bytes,
+        0,
+        control_bits(descriptor),
+        owner,
+        group,
+        NO_SACL,
+        dacl,
+    );
 }
 
-/// Appends the fields of a header, in their order.
+/// Appends the fields of a header, in their order ([MS-DTYP] 2.4.6): the offsets are those of the owner, the group, the
+/// SACL, the DACL. The capacity must suffice.
 #[tactic(auto, unfolding(crate::specs::Writing::header_bytes))]
-fn push_fields(bytes: &mut Vec<u8>, control: u16, owner: u32, group: u32, dacl: u32)
+pub fn push_fields(
+    bytes: &mut Vec<u8>,
+    resource_manager: u8,
+    control: u16,
+    owner: u32,
+    group: u32,
+    sacl: u32,
+    dacl: u32,
+)
     requires { vec_len bytes.old + 20 ≤ vec_capacity bytes.old }
-    ensures items { bytes.new.items ≡ bytes.old.items ++ header_bytes control owner group dacl }
+    ensures items { bytes.new.items ≡ bytes.old.items
+        ++ header_bytes resource_manager control owner group sacl dacl }
     ensures capacity { vec_capacity bytes.old ≤ vec_capacity bytes.new }
 {
     bytes.push(REVISION).unwrap();
-    bytes.push(0).unwrap();
+    bytes.push(resource_manager).unwrap();
     bytes.extend_from_slice(&control.to_le_bytes()).unwrap();
-    push_offsets(bytes, owner, group, dacl);
+    push_offsets(bytes, owner, group, sacl, dacl);
 }
 
-/// Appends the offsets of the owner, the group, the SACL, which is always absent, and the DACL.
-fn push_offsets(bytes: &mut Vec<u8>, owner: u32, group: u32, dacl: u32)
+/// Appends the offsets of the owner, the group, the SACL and the DACL.
+fn push_offsets(bytes: &mut Vec<u8>, owner: u32, group: u32, sacl: u32, dacl: u32)
     requires { vec_len bytes.old + 16 ≤ vec_capacity bytes.old }
-    ensures items { bytes.new.items ≡ bytes.old.items ++ offset_bytes owner group dacl }
+    ensures items { bytes.new.items ≡ bytes.old.items ++ offset_bytes owner group sacl dacl }
     ensures capacity { vec_capacity bytes.old ≤ vec_capacity bytes.new }
 {
     bytes.extend_from_slice(&owner.to_le_bytes()).unwrap();
     bytes.extend_from_slice(&group.to_le_bytes()).unwrap();
-    bytes.extend_from_slice(&NO_SACL.to_le_bytes()).unwrap();
+    bytes.extend_from_slice(&sacl.to_le_bytes()).unwrap();
     bytes.extend_from_slice(&dacl.to_le_bytes()).unwrap();
 }

@@ -14,6 +14,7 @@
 
 mod check;
 mod descriptor;
+mod entries;
 mod entry;
 mod fault;
 mod header;
@@ -26,11 +27,13 @@ mod trustee;
 
 pub use check::check_bytes;
 pub use descriptor::{read_descriptor, wire_len, write_descriptor};
+pub use entries::{ListEntry, read_entries};
 pub use entry::read_entry;
 pub use fault::{WireError, WireFault};
 pub use header::{
     CONTROL_PLACE, DACL_PLACE, DACL_PRESENT, GROUP_PLACE, HEADER_BYTES, OWNER_PLACE, REVISION,
     SACL_PLACE, SACL_PRESENT, SELF_RELATIVE, bits_when, has_bits, leads_outside, part_offset,
+    push_fields, read_header,
 };
 pub use laws::{
     descriptors_come_back, none_is_held_beside_a_fault, one_is_held, readings_are_held,

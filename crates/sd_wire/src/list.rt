@@ -1,15 +1,16 @@
 //! Lists of entries.
 
-ghost use Rattle.std.specs.Prelude.{◌≡◌, ◌+◌, ◌-◌, ◌/◌, ◌<◌, ◌≤◌, ◌++◌, min, length, sum_by, vec_len, vec_capacity};
+ghost use Rattle.std.specs.Prelude.{◌≡◌, ◌+◌, ◌≤◌, ◌++◌, length, sum_by, vec_len, vec_capacity};
 ghost use Rattle.std.specs.Prelude.{Err, IfErr, IfOk, IsErrOf};
 ghost use Rattle.std.specs.List.{flat_map};
 ghost use Rattle.sd_acl.specs.Ace.{ace_size, acl_size_of};
-ghost use Rattle.sd_wire.specs.Reading.{Gives, entries_read, list_read};
+ghost use Rattle.sd_wire.specs.Reading.{Gives, list_read};
 ghost use Rattle.sd_wire.specs.Memory.{HasEntries};
 ghost use Rattle.sd_wire.specs.Parts.{EntriesBegin};
 ghost use Rattle.sd_wire.specs.Writing.{entry_bytes, list_bytes};
 
-use crate::entry::{MIN_ENTRY_BYTES, push_entry, read_entry};
+use crate::entries::read_entries;
+use crate::entry::{MIN_ENTRY_BYTES, push_entry};
 use crate::fault::{WireError, WireFault};
 use crate::number::read_u16;
 use crate::parts::EntryPlaces;
@@ -26,14 +27,14 @@ const REVISION: u8 = 2;
 const REVISION_DS: u8 = 4;
 
 /// Parses the list at an offset.
-#[tactic(auto, unfolding(crate::specs::Reading::list_read))]
+#[tactic(auto, using(crate::proofs::Rest::entries_in_rest))]
 pub(crate) fn read_list(alloc: Global, bytes: &[u8], place: usize) -> Result<AceList, WireError>
     requires { place + 8 ≤ length bytes.now }
     ensures read { Gives (λ list. list) result (list_read bytes.now place) }
     ensures memory { IsErrOf result WireError.Memory → HasEntries bytes.now place }
 {
     let EntryPlaces { place, end, count } = find_entries(bytes, place)?;
-    let entries = read_entries(alloc, bytes, place, end, count)?;
+    let entries = read_entries::<Ace>(alloc, &bytes[place..end], count, MIN_ENTRY_BYTES)?;
     // AclSize has 16 bits, and the entries lie within it.
     Ok(AceList::new(entries).unwrap())
 }
@@ -57,33 +58,6 @@ pub(crate) fn find_entries(bytes: &[u8], place: usize) -> Result<EntryPlaces, Wi
         end: place + size,
         count: read_u16(bytes, place + 4) as usize,
     })
-}
-
-/// Parses so many entries from an offset to an end. There is one allocation, for no more of them than can fit.
-fn read_entries(
-    alloc: Global,
-    bytes: &[u8],
-    place: usize,
-    end: usize,
-    count: usize,
-) -> Result<Vec<Ace>, WireError>
-    requires place { place ≤ end }
-    requires end { end ≤ length bytes.now }
-    ensures read { Gives (λ entries. entries.items) result (entries_read bytes.now place end count) }
-    ensures size { IfOk result (λ entries. place + sum_by ace_size entries.items ≤ end) }
-    ensures capacity { IfOk result (λ entries. vec_capacity entries ≡ min count ((end - place) / 16)) }
-    ensures memory { IsErrOf result WireError.Memory → (0 < count) × (place + 16 ≤ end) }
-{
-    let room = (end - place) / MIN_ENTRY_BYTES;
-    let mut entries = Vec::with_capacity(alloc, count.min(room))?;
-    let mut at = place;
-    for _ in 0..count {
-        let (entry, size) = read_entry(bytes, at, end)?;
-        // A parsed entry has at least MIN_ENTRY_BYTES, so the allocated capacity suffices.
-        entries.push_reserved(entry.copied());
-        at += size;
-    }
-    Ok(entries)
 }
 
 /// Appends a list: revision 2, and the entries without gaps. The capacity must suffice.

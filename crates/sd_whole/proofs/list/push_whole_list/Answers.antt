@@ -1,6 +1,6 @@
 -- A list's entries are few enough for AceCount.
 use Rattle.sd_whole.proofs.Cited.{arith, whole_acl_size, ◌≤◌}
-use Rattle.sd_whole.proofs.Loop.{entries_take}
+use Rattle.sd_whole.proofs.Lengths.{entries_take}
 use Rattle.sd_whole.proofs.list.push_whole_list.Goals as goal
 
 pub overflow_cast-count : goal.overflow_cast-count
