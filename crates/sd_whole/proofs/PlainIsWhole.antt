@@ -6,10 +6,10 @@ use Rattle.sd_acl.specs.declared.descriptor.DaclOf.TheVariants.{List as Entries}
 use Rattle.sd_acl.specs.declared.ace.AceKind.TheVariants as plain
 use Rattle.sd_whole.specs.declared.kind.WholeKind.TheVariants.{Allow, Deny}
 use Rattle.sd_whole.specs.declared.list.ListRevision.TheVariants.{Standard, DirectoryService}
-use Rattle.sd_wire.specs.Reading.{control_read, dacl_read, descriptor_read, entries_of, entries_read, entry_read, header_read, list_read}
+use Rattle.sd_wire.specs.Reading.{control_read, dacl_read, descriptor_read, entries_of, entries_read, entry_read, front_read, header_read, list_read}
 use Rattle.sd_whole.specs.Layout.{types_read, layout_read}
 use Rattle.sd_whole.specs.Reading.{acl_read, body_read, whole_entry_read, whole_list_read, whole_read}
-use Rattle.sd_wire.proofs.Rest.{entry_in_rest}
+use Rattle.sd_wire.proofs.Rest.{entries_in_rest}
 use Rattle.sd_whole.proofs.EntryStands.{of_parts}
 use Rattle.sd_whole.proofs.ReadIsWhole.{good_sid}
 
@@ -81,7 +81,6 @@ record EntryToo (xs : List ℕ) (x : Ace × ℕ) : Type 0 where
   entry : WholeAce
   read : whole_entry_read xs ≡ Ok (entry, x.1)
   same : plain_form entry ≡ Some x.0
-  within : x.1 ≤ length xs
 
 whole_entry_of : (xs : List ℕ) (entry : WholeAce) → nat_lt (length xs) 4 ≡ false → nat_lt (u16_at xs 2) 4 ≡ false → not (u16_at xs 2 % 4 == 0) ≡ false → nat_lt (length xs) (u16_at xs 2) ≡ false
     → body_read (get_or xs 0 0) (get_or xs 1 0) (take (u16_at xs 2 - 4) (drop 4 xs)) ≡ Ok entry → whole_entry_read xs ≡ Ok (entry, u16_at xs 2)
@@ -120,7 +119,6 @@ entry_too xs x e =
       entry = too.entry;
       read = whole_entry_of xs too.entry header.0 least.0 even.0 inside too.read;
       same = too.same;
-      within = high;
     })
 
 -- what entries are parsed as, and their plain form
@@ -129,26 +127,17 @@ record EntriesToo (xs : List ℕ) (n : ℕ) (es : List Ace) : Type 0 where
   read : entries_of whole_entry_read xs n ≡ Ok entries
   same : map plain_form entries ≡ map (λ e. Some e) es
 
-entries_too : (bytes : List ℕ) (o end n : ℕ) (es : List Ace) → o ≤ end → end ≤ length bytes → entries_read bytes o end n ≡ Ok es → EntriesToo (take (end - o) (drop o bytes)) n es
-unfolding entries_read entries_of
-entries_too bytes o end zero es order room e = subst (EntriesToo (take (end - o) (drop o bytes)) 0) (good_is [] es e) (record { entries = []; read = refl; same = refl })
-entries_too bytes o end (suc n) es order room e =
-    let xs = take (end - o) (drop o bytes) in
-    let first = bound (entry_read bytes o end) (λ (x : Ace × ℕ). entries_read bytes (o + x.1) end n >>= λ others. Ok (x.0 ∷ others)) es e in
-    let others = bound (entries_read bytes (o + first.0.1) end n) (λ (others : List Ace). Ok (first.0.0 ∷ others)) es first.2 in
-    let is : first.0.0 ∷ others.0 ≡ es = good_is (first.0.0 ∷ others.0) es others.2 in
-    let size : ℕ = first.0.1 in
-    let long : length xs ≡ end - o = length-take-le (end - o) (drop o bytes) (omega (arith, length-drop o bytes)) in
-    let there : entry_read xs 0 (length xs) ≡ Ok first.0 = ap (entry_read xs 0) long ∙ entry_in_rest bytes o end order ∙ first.1 in
-    let one = entry_too xs first.0 there in
-    let short : size ≤ length xs = one.within in
-    let later : EntriesToo (take (end - (o + size)) (drop (o + size) bytes)) n others.0 = entries_too bytes (o + size) end n others.0 (omega arith) room others.1 in
-    let split : end - o ≡ size + (end - (o + size)) = omega arith in
-    let rest : drop size xs ≡ take (end - (o + size)) (drop (o + size) bytes) =
-    ap (λ k. drop size (take k (drop o bytes))) split ∙ drop-take size (end - (o + size)) (drop o bytes) ∙ ap (take (end - (o + size))) (drop-drop size o bytes) in
-    subst (EntriesToo xs (suc n)) is (record {
+entries_too : (xs : List ℕ) (n : ℕ) (es : List Ace) → entries_of front_read xs n ≡ Ok es → EntriesToo xs n es
+unfolding entries_of
+entries_too xs zero es e = subst (EntriesToo xs 0) (good_is [] es e) (record { entries = []; read = refl; same = refl })
+entries_too xs (suc n) es e =
+    let first = bound (front_read xs) (λ (x : Ace × ℕ). entries_of front_read (drop x.1 xs) n >>= λ others. Ok (x.0 ∷ others)) es e in
+    let others = bound (entries_of front_read (drop first.0.1 xs) n) (λ (others : List Ace). Ok (first.0.0 ∷ others)) es first.2 in
+    let one = entry_too xs first.0 first.1 in
+    let later = entries_too (drop first.0.1 xs) n others.0 others.1 in
+    subst (EntriesToo xs (suc n)) (good_is (first.0.0 ∷ others.0) es others.2) (record {
       entries = one.entry ∷ later.entries;
-      read = rw (one.read, rest, later.read) refl;
+      read = rw (one.read, later.read) refl;
       same = rw (one.same, later.same) refl;
     })
 
@@ -189,7 +178,8 @@ list_too bytes o es e =
     let r = revision_there (get_or bytes o 0) revision.0 in
     let low : 8 ≤ size = ltb-false _ _ least.0 in
     let high : o + size ≤ length bytes = ltb-false _ _ inside.0 in
-    let too = entries_too bytes (o + 8) (o + size) (u16_at bytes (o + 4)) es (omega arith) high inside.1 in
+    let entries = entries_in_rest bytes (o + 8) (o + size) (u16_at bytes (o + 4)) (omega arith) high ∙ inside.1 in
+    let too = entries_too (take (o + size - (o + 8)) (drop (o + 8) bytes)) (u16_at bytes (o + 4)) es entries in
     let front : get_or (drop o bytes) 0 0 ≡ get_or bytes o 0 = get_or-drop o bytes 0 0 ∙ ap (λ k. get_or bytes k 0) (add-zero o) in
     let room : nat_lt (length (drop o bytes)) size ≡ false = le-ltb _ _ (omega (arith, length-drop o bytes)) in
     let cut : size - 8 ≡ o + size - (o + 8) = omega arith in
