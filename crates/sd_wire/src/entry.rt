@@ -1,8 +1,8 @@
 //! Entries of a list: header, mask and SID.
 
-ghost use Rattle.std.specs.Prelude.{◌≡◌, ◌+◌, ◌≤◌, ◌++◌, length, vec_len, vec_capacity, IfOk};
+ghost use Rattle.std.specs.Prelude.{◌≡◌, ◌+◌, ◌≤◌, ◌++◌, length, vec_len, vec_capacity, IfOk, IsErrOf};
 ghost use Rattle.sd_acl.specs.Ace.{ace_size};
-ghost use Rattle.sd_wire.specs.Reading.{entry_read, front_read, kind_read};
+ghost use Rattle.sd_wire.specs.Reading.{Gives, entry_read, front_read, kind_read};
 ghost use Rattle.sd_wire.specs.Writing.{entry_bytes};
 
 use crate::entries::ListEntry;
@@ -64,8 +64,13 @@ impl ListEntry for Ace {
 
     ghost least = { 16 };
 
+    /// Allocates nothing, so the error is a fault ([MS-DTYP] 2.4.4).
     #[inline(always)]
-    fn read(_alloc: Global, bytes: &[u8]) -> Result<(Ace, usize), WireError> {
+    fn read(_alloc: Global, bytes: &[u8]) -> Result<(Ace, usize), WireError>
+        ensures read { Gives (λ x. x) result (front_read bytes.now) }
+        ensures size { IfOk result (λ x. (16 ≤ ace_size x.0) × (ace_size x.0 ≤ x.1) × (x.1 ≤ length bytes.now)) }
+        ensures memory { ¬ IsErrOf result WireError.Memory }
+    {
         let (entry, size) = read_entry(bytes, 0, bytes.len())?;
         Ok((entry.copied(), size))
     }
