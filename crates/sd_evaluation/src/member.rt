@@ -1,0 +1,1 @@
+//! Member_of and its family.
