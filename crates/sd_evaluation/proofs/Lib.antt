@@ -1,0 +1,3 @@
+pub mod Kleene
+pub mod Forms
+pub mod Parts

@@ -30,12 +30,12 @@ same_or_different true = Same
 same_or_different false = Different
 
 -- numbers by value, texts and octets from the first unit that differs on
-abbrev pub relation : Bool → Datum → Datum → Relation
-relation with_case (Number a) (Number b) = ordered (int_cmp a b)
-relation with_case (Text a) (Text b) = ordered (text_order with_case a b)
-relation with_case (Octets a) (Octets b) = ordered (slice_cmp nat_cmp a b)
-relation with_case (Sid a) (Sid b) = same_or_different (same_sid a b)
-relation with_case a b = Unlike
+abbrev pub relation_of : Bool → Datum → Datum → Relation
+relation_of with_case (Number a) (Number b) = ordered (int_cmp a b)
+relation_of with_case (Text a) (Text b) = ordered (text_order with_case a b)
+relation_of with_case (Octets a) (Octets b) = ordered (slice_cmp nat_cmp a b)
+relation_of with_case (Sid a) (Sid b) = same_or_different (same_sid a b)
+relation_of with_case a b = Unlike
 
 abbrev pub is_same : Relation → Truth
 is_same Less = truths.False
@@ -66,7 +66,7 @@ is_greater Unlike = truths.Unknown
 -- the value is one of these
 abbrev pub is_among : Bool → List Datum → Datum → Truth
 is_among with_case [] v = truths.False
-is_among with_case (a ∷ these) v = or_truth (is_same (relation with_case a v)) (is_among with_case these v)
+is_among with_case (a ∷ these) v = or_truth (is_same (relation_of with_case a v)) (is_among with_case these v)
 
 -- each of the others is one of these
 abbrev pub has_each : Bool → List Datum → List Datum → Truth
@@ -82,17 +82,17 @@ has_some with_case these (v ∷ others) = or_truth (is_among with_case these v) 
 
 -- two values, or two lists in which are the same values; a value is unlike a list
 abbrev pub equals : Bool → Values → Values → Truth
-equals with_case (One a) (One b) = is_same (relation with_case a b)
+equals with_case (One a) (One b) = is_same (relation_of with_case a b)
 equals with_case (Many these) (Many others) =
     and_truth (has_each with_case these others) (has_each with_case others these)
 equals with_case (One a) (Many others) = truths.Unknown
 equals with_case (Many these) (One b) = truths.Unknown
 
 -- a list has no order
-abbrev pub compares : (Relation → Truth) → Bool → Values → Values → Truth
-compares test with_case (One a) (One b) = test (relation with_case a b)
-compares test with_case (One a) (Many others) = truths.Unknown
-compares test with_case (Many these) right = truths.Unknown
+abbrev pub compares_with : Bool → Values → Values → Relation
+compares_with with_case (One a) (One b) = relation_of with_case a b
+compares_with with_case (One a) (Many others) = Unlike
+compares_with with_case (Many these) right = Unlike
 
 -- each value on the right is one on the left; unknown if there is none on the right
 abbrev pub contains : Bool → Values → Values → Truth
@@ -105,10 +105,10 @@ any_of with_case left right = has_some with_case (listed left) (listed right)
 abbrev pub compared : Operator → Bool → Values → Values → Truth
 compared operators.Equal with_case left right = equals with_case left right
 compared operators.NotEqual with_case left right = not_truth (equals with_case left right)
-compared operators.Less with_case left right = compares is_less with_case left right
-compared operators.LessOrEqual with_case left right = not_truth (compares is_greater with_case left right)
-compared operators.Greater with_case left right = compares is_greater with_case left right
-compared operators.GreaterOrEqual with_case left right = not_truth (compares is_less with_case left right)
+compared operators.Less with_case left right = is_less (compares_with with_case left right)
+compared operators.LessOrEqual with_case left right = not_truth (is_greater (compares_with with_case left right))
+compared operators.Greater with_case left right = is_greater (compares_with with_case left right)
+compared operators.GreaterOrEqual with_case left right = not_truth (is_less (compares_with with_case left right))
 compared operators.Contains with_case left right = contains with_case left right
 compared operators.NotContains with_case left right = not_truth (contains with_case left right)
 compared operators.AnyOf with_case left right = any_of with_case left right

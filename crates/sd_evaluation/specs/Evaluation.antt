@@ -62,13 +62,19 @@ two_truth f kind operators.And left right = and_truth (part_truth f kind left) (
 two_truth f kind operators.Or left right = or_truth (part_truth f kind left) (part_truth f kind right)
 two_truth f kind operator left right = comparison operator (part_operand f kind left) (part_operand f kind right)
 
+abbrev pub over_one : FactsValue → AceKind → Pass → Operator → Part → Part
+over_one f kind pass operator part = Came (one_truth f kind pass operator part)
+
+abbrev pub over_two : FactsValue → AceKind → Operator → Part → Part → Part
+over_two f kind operator left right = Came (two_truth f kind operator left right)
+
 -- ---- the tree
 
 abbrev pub part_of : FactsValue → AceKind → Pass → Tree → Part
 part_of f kind pass (Operand token) = Leaf token
-part_of f kind pass (One operator tree) = Came (one_truth f kind pass operator (part_of f kind pass tree))
+part_of f kind pass (One operator tree) = over_one f kind pass operator (part_of f kind pass tree)
 part_of f kind pass (Two operator left right) =
-    Came (two_truth f kind operator (part_of f kind pass left) (part_of f kind pass right))
+    over_two f kind operator (part_of f kind pass left) (part_of f kind pass right)
 
 abbrev pub truth_of : FactsValue → AceKind → Pass → Tree → Truth
 truth_of f kind pass tree = part_truth f kind (part_of f kind pass tree)

@@ -10,6 +10,7 @@ use sd_sid::{Sid, read_sid};
 use sd_text::{Aliases, Cursor};
 
 /// A value, as comparisons see it: of a literal, or of a claim.
+#[derive(Clone, Copy)]
 pub(crate) enum Datum<'a> {
     Number(i128),
     Text(&'a [u16]),

@@ -1,8 +1,9 @@
 //! Operands of comparisons.
 
-ghost use Rattle.std.specs.Prelude.{◌≡◌, ◌<◌, ◌+◌, ◌∷◌, length, drop, option_map};
-ghost use Rattle.sd_evaluation.specs.Seen.{items_of, seen, seen_operand};
-ghost use Rattle.sd_evaluation.specs.Value.{claim_operand, listed, operand_of};
+ghost use Rattle.std.specs.Prelude.{◌≡◌, ◌<◌, ◌+◌, ◌∷◌, length, drop, IfSome, None};
+ghost use Rattle.std.specs.Option.{option_map};
+ghost use Rattle.sd_evaluation.specs.Seen.{seen, seen_operand, seen_values};
+ghost use Rattle.sd_evaluation.specs.Value.{claim_operand, claim_values, listed, operand_of};
 
 use crate::attribute::{attribute_claim, is_case_sensitive};
 use crate::datum::{Datum, claim_datum, literal_datum};
@@ -14,10 +15,9 @@ use sd_condition::{Token, Value};
 /// The values of an operand: one, or a list.
 #[derive(Clone, Copy)]
 pub(crate) enum Values<'a> {
-    Literal(&'a Value),
+    One(Datum<'a>),
     Literals(&'a [Value]),
-    OfClaim(&'a InClaim),
-    ManyOfClaim(&'a [InClaim]),
+    OfClaim(&'a [InClaim]),
 }
 
 /// An operand of a comparison.
@@ -26,4 +26,73 @@ pub(crate) struct Operand<'a> {
     pub(crate) values: Values<'a>,
     /// Whether its texts compare with case.
     pub(crate) with_case: bool,
+}
+
+impl<'a> Values<'a> {
+    /// How many values there are.
+    pub(crate) fn len(&self) -> usize
+        ensures { result ≡ length (listed (seen_values self.now)) }
+    {
+        match self {
+            Values::One(_) => 1,
+            Values::Literals(values) => values.len(),
+            Values::OfClaim(values) => values.len(),
+        }
+    }
+
+    /// The value at a place.
+    pub(crate) fn at(&self, i: usize) -> Datum<'a>
+        requires { i < length (listed (seen_values self.now)) }
+        ensures { drop i (listed (seen_values self.now))
+            ≡ seen result ∷ drop (i + 1) (listed (seen_values self.now)) }
+    {
+        match self {
+            Values::One(datum) => *datum,
+            Values::Literals(values) => literal_datum(&values[i]),
+            Values::OfClaim(values) => claim_datum(&values[i]),
+        }
+    }
+}
+
+/// The values of a claim: one, or a list.
+fn claim_values(values: &[InClaim]) -> Values<'_>
+    ensures { seen_values result ≡ claim_values values.now }
+{
+    match values {
+        [value] => Values::One(claim_datum(value)),
+        _ => Values::OfClaim(values),
+    }
+}
+
+/// The operand that a claim is.
+fn claim_operand(claim: &Claim) -> Operand<'_>
+    ensures { seen_operand result ≡ claim_operand claim.now }
+{
+    Operand {
+        values: claim_values(claim.values()),
+        with_case: is_case_sensitive(claim),
+    }
+}
+
+/// The operand that a token is: a literal as it stands, an attribute as its claim, if that is there.
+pub(crate) fn operand_of<'a>(
+    facts: &Facts<'a>,
+    kind: AceKind,
+    token: &'a Token,
+) -> Option<Operand<'a>>
+    ensures { option_map seen_operand result ≡ operand_of facts.now kind token.now }
+{
+    let values = match token {
+        Token::Value(value) => Values::One(literal_datum(value)),
+        Token::List(list) => Values::Literals(list.values()),
+        Token::Attribute(attribute) => {
+            let claim = attribute_claim(facts, kind, attribute)?;
+            return Some(claim_operand(claim));
+        }
+        Token::Operator(_) => return None,
+    };
+    Some(Operand {
+        values,
+        with_case: false,
+    })
 }
