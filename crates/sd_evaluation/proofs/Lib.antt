@@ -1,3 +1,4 @@
 pub mod Kleene
 pub mod Forms
 pub mod Parts
+pub mod Listed

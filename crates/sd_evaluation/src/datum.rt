@@ -20,6 +20,20 @@ pub(crate) enum Datum<'a> {
     Unreadable,
 }
 
+impl<'a> Datum<'a> {
+    pub(crate) fn copied(&self) -> Datum<'a>
+        ensures { seen result ≡ seen self.now }
+    {
+        match self {
+            Datum::Number(number) => Datum::Number(*number),
+            Datum::Text(text) => Datum::Text(text),
+            Datum::Octets(octets) => Datum::Octets(octets),
+            Datum::Sid(sid) => Datum::Sid(*sid),
+            Datum::Unreadable => Datum::Unreadable,
+        }
+    }
+}
+
 /// The value of a literal.
 pub(crate) fn literal_datum(value: &Value) -> Datum<'_>
     ensures { seen result ≡ literal_datum value.now }

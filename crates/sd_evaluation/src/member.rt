@@ -70,11 +70,15 @@ fn has_all(facts: &Facts<'_>, kind: AceKind, subject: Subject, values: &[Value])
     if values.is_empty() {
         return Truth::Unknown;
     }
-    Truth::of(
-        values
-            .iter()
-            .all(|value| is_of(facts, kind, subject, value)),
-    )
+    Truth::of(are_all_of(facts, kind, subject, values))
+}
+
+fn are_all_of(facts: &Facts<'_>, kind: AceKind, subject: Subject, values: &[Value]) -> bool
+    ensures { result ≡ list_all (is_of facts.now kind subject) values.now }
+{
+    values
+        .iter()
+        .all(|value| is_of(facts, kind, subject, value))
 }
 
 /// Whether the subject has one of the SIDs.
@@ -84,11 +88,15 @@ fn has_any(facts: &Facts<'_>, kind: AceKind, subject: Subject, values: &[Value])
     if values.is_empty() {
         return Truth::Unknown;
     }
-    Truth::of(
-        values
-            .iter()
-            .any(|value| is_of(facts, kind, subject, value)),
-    )
+    Truth::of(is_any_of(facts, kind, subject, values))
+}
+
+fn is_any_of(facts: &Facts<'_>, kind: AceKind, subject: Subject, values: &[Value]) -> bool
+    ensures { result ≡ list_any (is_of facts.now kind subject) values.now }
+{
+    values
+        .iter()
+        .any(|value| is_of(facts, kind, subject, value))
 }
 
 /// The values of a literal.

@@ -1,9 +1,10 @@
 //! Operands of comparisons.
 
-ghost use Rattle.std.specs.Prelude.{◌≡◌, ◌<◌, ◌+◌, ◌∷◌, length, drop, IfSome, None};
+ghost use Rattle.std.specs.Prelude.{◌≡◌, ◌<◌, ◌+◌, ◌∷◌, length, drop, map};
 ghost use Rattle.std.specs.Option.{option_map};
 ghost use Rattle.sd_evaluation.specs.Seen.{seen, seen_operand, seen_values};
-ghost use Rattle.sd_evaluation.specs.Value.{claim_operand, claim_values, listed, operand_of};
+ghost use Rattle.sd_evaluation.specs.Value.{claim_datum, claim_operand, claim_values, listed};
+ghost use Rattle.sd_evaluation.specs.Value.{literal_datum, operand_of};
 
 use crate::attribute::{attribute_claim, is_case_sensitive};
 use crate::datum::{Datum, claim_datum, literal_datum};
@@ -28,6 +29,24 @@ pub(crate) struct Operand<'a> {
     pub(crate) with_case: bool,
 }
 
+/// The literal at a place.
+#[tactic(auto, using(crate::proofs::Listed::mapped_at))]
+fn literal_at(values: &[Value], i: usize) -> Datum<'_>
+    requires { i < length values.now }
+    ensures { drop i (map literal_datum values.now) ≡ seen result ∷ drop (i + 1) (map literal_datum values.now) }
+{
+    literal_datum(&values[i])
+}
+
+/// The value of a claim at a place.
+#[tactic(auto, using(crate::proofs::Listed::mapped_at))]
+fn claim_at(values: &[InClaim], i: usize) -> Datum<'_>
+    requires { i < length values.now }
+    ensures { drop i (map claim_datum values.now) ≡ seen result ∷ drop (i + 1) (map claim_datum values.now) }
+{
+    claim_datum(&values[i])
+}
+
 impl<'a> Values<'a> {
     /// How many values there are.
     pub(crate) fn len(&self) -> usize
@@ -41,15 +60,16 @@ impl<'a> Values<'a> {
     }
 
     /// The value at a place.
+    #[tactic(auto, using(crate::proofs::Listed::mapped_length))]
     pub(crate) fn at(&self, i: usize) -> Datum<'a>
         requires { i < length (listed (seen_values self.now)) }
         ensures { drop i (listed (seen_values self.now))
             ≡ seen result ∷ drop (i + 1) (listed (seen_values self.now)) }
     {
         match self {
-            Values::One(datum) => *datum,
-            Values::Literals(values) => literal_datum(&values[i]),
-            Values::OfClaim(values) => claim_datum(&values[i]),
+            Values::One(datum) => datum.copied(),
+            Values::Literals(values) => literal_at(values, i),
+            Values::OfClaim(values) => claim_at(values, i),
         }
     }
 }
