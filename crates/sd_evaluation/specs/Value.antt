@@ -1,5 +1,5 @@
 -- The values of operands: of a literal ([MS-DTYP] 2.4.4.17.5), and of a claim (2.4.10.1).
-use Rattle.std.specs.Prelude.{ℕ, ℤ, pos, Bool, true, false, not, ◌||◌, ◌==◌, List, [], ◌∷◌, map, length, Option}
+use Rattle.std.specs.Prelude.{ℕ, ℤ, pos, Bool, false, ◌&&◌, ◌==◌, nat_lt, List, [], ◌∷◌, map, length, Option}
 use Rattle.std.specs.Prelude.{Some, None, Result, Ok, Err, codes, take, ◌-◌, slice_index, if◌then◌else◌}
 use Rattle.std.specs.Option.{option_map}
 use Rattle.sd_sid.specs.Sid.{SidValue}
@@ -40,10 +40,16 @@ abbrev pub whole_bytes : ℕ → Result (SidValue × ℕ) SidError → Option Si
 whole_bytes n (Ok x) = if x.1 == n then Some x.0 else None
 whole_bytes n (Err e) = None
 
--- text, in full, or else bytes (2.4.2.2)
+-- without a zero that ends them
+abbrev pub unterminated : List ℕ → List ℕ
+unterminated octets =
+    if nat_lt 0 (length octets) && slice_index octets (length octets - 1) == 0 then take (length octets - 1) octets
+    else octets
+
+-- text in full (2.4.2.1), which a zero may end, or else bytes (2.4.2.2)
 unfoldable pub sid_of : List ℕ → Option SidValue
 sid_of octets =
-    if begins octets (codes "S-1-") then whole_text (find (sid (in_domain None)) octets)
+    if begins octets (codes "S-1-") then whole_text (find (sid (in_domain None)) (unterminated octets))
     else whole_bytes (length octets) (sid_reading octets)
 
 abbrev pub sid_datum : Option SidValue → Datum

@@ -1,8 +1,13 @@
 //! Values, as comparisons see them.
 
-ghost use Rattle.std.specs.Prelude.{◌≡◌};
+ghost use Rattle.std.specs.Prelude.{◌≡◌, length, None};
+ghost use Rattle.sd_sid.specs.SidBytes.{sid_reading};
+ghost use Rattle.sd_text.specs.Alias.{in_domain};
+ghost use Rattle.sd_text.specs.Finding.{find};
+ghost use Rattle.sd_text.specs.Sid.{sid};
 ghost use Rattle.sd_evaluation.specs.Seen.{seen};
-ghost use Rattle.sd_evaluation.specs.Value.{claim_datum, literal_datum, sid_datum, sid_of};
+ghost use Rattle.sd_evaluation.specs.Value.{claim_datum, literal_datum, sid_datum, sid_of, unterminated};
+ghost use Rattle.sd_evaluation.specs.Value.{whole_bytes, whole_text};
 
 use sd_claim::Value as InClaim;
 use sd_condition::Value;
@@ -70,24 +75,48 @@ fn sid_datum(octets: &[u8]) -> Datum<'_>
     }
 }
 
-/// The SID of a claim: its text in full, or its bytes ([MS-DTYP] 2.4.2.2).
+/// The octets without a zero that ends them.
+fn unterminated(octets: &[u8]) -> &[u8]
+    ensures { result.now ≡ unterminated octets.now }
+{
+    if !octets.is_empty() && octets[octets.len() - 1] == 0 {
+        &octets[..octets.len() - 1]
+    } else {
+        octets
+    }
+}
+
+/// The SID that all of the text is ([MS-DTYP] 2.4.2.1).
+fn sid_of_text(text: &[u8]) -> Option<Sid>
+    ensures { result ≡ whole_text (find (sid (in_domain None)) text.now) }
+{
+    let mut cursor = Cursor { rest: text };
+    let sid = cursor.sid(Aliases::in_domain(None)).ok()?;
+    if !cursor.rest.is_empty() {
+        return None;
+    }
+    Some(sid)
+}
+
+/// The SID that all of the bytes are ([MS-DTYP] 2.4.2.2).
+fn sid_of_bytes(bytes: &[u8]) -> Option<Sid>
+    ensures { result ≡ whole_bytes (length bytes.now) (sid_reading bytes.now) }
+{
+    let (sid, size) = read_sid(bytes).ok()?;
+    if size != bytes.len() as u64 {
+        return None;
+    }
+    Some(sid)
+}
+
+/// The SID of a claim: as text in full, or as bytes.
 #[tactic(auto, unfolding(crate::specs::Value::sid_of))]
 fn sid_of(octets: &[u8]) -> Option<Sid>
     ensures { result ≡ sid_of octets.now }
 {
-    let mut cursor = Cursor { rest: octets };
-    if cursor.begins(b"S-1-") {
-        let sid = cursor.sid(Aliases::in_domain(None)).ok()?;
-        return if cursor.rest.is_empty() {
-            Some(sid)
-        } else {
-            None
-        };
-    }
-    let (sid, size) = read_sid(octets).ok()?;
-    if size == octets.len() as u64 {
-        Some(sid)
+    if (Cursor { rest: octets }).begins(b"S-1-") {
+        sid_of_text(unterminated(octets))
     } else {
-        None
+        sid_of_bytes(octets)
     }
 }
