@@ -1,5 +1,5 @@
 -- Parsing entries one after the other, as a loop does.
-use Rattle.sd_wire.proofs.Cited.{Err, Fails, Fault, List, Memory, Ok, Result, WireError, WireFault, [], ap, append-nil, append_assoc, arith, drop, length, length-drop, min, refl, subst, suc, sum_by, sum_by_push, sym, take, take_all, ℕ, ◌*◌, ◌++◌, ◌+◌, ◌-◌, ◌/◌, ◌<◌, ◌>>=◌, ◌∙◌, ◌∷◌, ◌≡◌, ◌≤◌}
+use Rattle.sd_wire.proofs.Cited.{Err, Fails, Fault, List, Memory, Ok, Result, WireError, WireFault, [], ap, append-nil, append_assoc, arith, drop, length, length-drop, refl, subst, suc, sum_by, sum_by_push, sym, take, take_all, ℕ, ◌++◌, ◌+◌, ◌-◌, ◌<◌, ◌>>=◌, ◌∙◌, ◌∷◌, ◌≡◌, ◌≤◌}
 use Rattle.sd_wire.specs.Reading.{entries_of}
 
 -- the entries that were parsed before, and those that are left

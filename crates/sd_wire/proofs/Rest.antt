@@ -1,5 +1,5 @@
 -- The rest of a list, as a slice: what is read at its front is what is read at its place in the bytes.
-use Rattle.sd_wire.proofs.Cited.{Ace, AceKind, EntrySize, Err, List, Ok, Result, SidValue, WireFault, [], all_named, ap, arith, bit_and, cases_lt, cond, drop, drop-drop, drop-take, false, front_read, get_or, get_or-drop, get_or-take, inl, inr, kind_read, le-ltb, length, length-drop, length-take-le, lt-ltb, ltb-false, nat_lt, not, passed, refl, sid_read, suc, sym, take, take-take, u16_at, u32_at, zero, zero-add, ℕ, ◌%◌, ◌++◌, ◌+◌, ◌-◌, ◌<◌, ◌==◌, ◌>>=◌, ◌∙◌, ◌∷◌, ◌≡◌, ◌≤◌}
+use Rattle.sd_wire.proofs.Cited.{Ace, AceKind, EntrySize, Err, List, Ok, Result, SidValue, WireFault, all_named, ap, arith, bit_and, cases_lt, cond, drop, drop-drop, drop-take, false, front_read, get_or, get_or-drop, get_or-take, inl, inr, kind_read, le-ltb, length, length-drop, length-take-le, lt-ltb, ltb-false, nat_lt, not, passed, refl, sid_read, suc, sym, take, take-take, u16_at, u32_at, zero, zero-add, ℕ, ◌%◌, ◌+◌, ◌-◌, ◌<◌, ◌==◌, ◌>>=◌, ◌∙◌, ◌≡◌, ◌≤◌}
 use Rattle.sd_wire.specs.Reading.{entries_of, entries_read, entry_read}
 use Rattle.sd_wire.proofs.Found.{bound, good, good_is}
 

@@ -138,7 +138,7 @@ header_read bytes =
     else if not (is_set 0x8000 (u16_at bytes 2)) then Err NotSelfRelative
     else Ok (u16_at bytes 2)
 
--- those of a descriptor without a SACL: if SP is set OffsetSacl is 0
+-- the control bits of a header without a SACL: if SP is set OffsetSacl is 0
 unfoldable pub control_read : List ℕ → Result ℕ WireFault
 control_read bytes =
     header_read bytes >>= λ control.

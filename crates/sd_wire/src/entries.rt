@@ -1,6 +1,7 @@
 //! The entries of a list, one after another, of any type that can be in one.
 
-ghost use Rattle.std.specs.Prelude.{◌≡◌, ◌/◌, ◌<◌, ◌≤◌, ℕ, List, Result, min, length, sum_by, vec_capacity, IfOk, IsErrOf};
+ghost use Rattle.std.specs.Prelude.{◌≡◌, ◌/◌, ◌<◌, ◌≤◌, ℕ, List, Result, min, length, sum_by, vec_capacity};
+ghost use Rattle.std.specs.Prelude.{IfOk, IsErrOf};
 ghost use Rattle.sd_wire.specs.Reading.{Gives, entries_of};
 ghost use Rattle.sd_wire.specs.declared.fault.WireFault.{WireFault};
 

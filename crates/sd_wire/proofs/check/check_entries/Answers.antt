@@ -1,5 +1,5 @@
 -- Each turn reads the next entry and goes on with it, or ends with its fault.
-use Rattle.sd_wire.proofs.Cited.{Ok, Option, Some, [], ap, drop, entries_of, err_from_is_err_and, front_read, option_map_id, refl, sym, take, verdict, ◌++◌, ◌-◌, ◌∙◌, ◌∷◌}
+use Rattle.sd_wire.proofs.Cited.{Ok, Option, Some, [], ap, drop, err_from_is_err_and, front_read, option_map_id, refl, sym, take, verdict, ◌++◌, ◌-◌, ◌∙◌, ◌∷◌}
 use Rattle.sd_check.proofs.Cited.{SidValue}
 use Rattle.sd_wire.proofs.Loop.{begins, ends, goes_on, is_done}
 use Rattle.sd_wire.proofs.Rest.{entries_in_rest}

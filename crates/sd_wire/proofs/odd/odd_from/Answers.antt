@@ -1,5 +1,5 @@
 -- Each turn passes over an allow or a deny.
-use Rattle.sd_wire.proofs.Cited.{List, Option, arith, le-ltb, length, odd_from, refl, slice_index, suc, sym, u16_at, w16, ℕ, ◌+◌, ◌-◌, ◌<◌, ◌∙◌, ◌≡◌, ◌≤◌}
+use Rattle.sd_wire.proofs.Cited.{List, Option, arith, le-ltb, length, odd_from, refl, slice_index, suc, sym, u16_at, ℕ, ◌+◌, ◌-◌, ◌<◌, ◌∙◌, ◌≡◌, ◌≤◌}
 use Rattle.sd_wire.proofs.odd.odd_from.Goals as goal
 
 passed : (bytes : List ℕ) (at count i : ℕ) (total : Option (ℕ × ℕ)) → i < count → at + 4 ≤ length bytes → slice_index bytes at ≤ 1

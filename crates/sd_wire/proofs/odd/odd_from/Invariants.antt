@@ -1,5 +1,5 @@
 -- What is found from here on is what is found from the start on.
-use Rattle.sd_wire.proofs.Cited.{length, odd_from, ◌*◌, ◌+◌, ◌-◌, ◌≡◌, ◌≤◌}
+use Rattle.sd_wire.proofs.Cited.{length, odd_from, ◌+◌, ◌-◌, ◌≡◌, ◌≤◌}
 use Rattle.sd_wire.proofs.odd.odd_from.Given as goal
 
 abbrev pub invariant-loop-i : goal.invariant-loop-i
