@@ -1,5 +1,5 @@
 -- What the stack machine leaves of parts is the part of the tree that it leaves of trees.
-use Rattle.std.proofs.Common.{List, None, Option, Some, [], ap, cond, is_some, map, refl, sym, true, ◌∙◌, ◌∷◌, ◌≡◌}
+use Rattle.std.proofs.Common.{List, None, Option, Some, [], ap, map, refl, sym, true, ◌∙◌, ◌∷◌, ◌≡◌}
 use Rattle.std.specs.Option.{option_map}
 use Rattle.sd_acl.specs.declared.ace.AceKind.{AceKind}
 use Rattle.sd_check.specs.declared.grounds.Pass.{Pass}

@@ -1,5 +1,5 @@
 -- The comparisons ([MS-DTYP] 2.4.4.17.6). Unlike values make them unknown, and so does a missing attribute.
-use Rattle.std.specs.Prelude.{ℕ, ℤ, Bool, true, false, not, ◌||◌, ◌==◌, List, [], ◌∷◌, length, Option, Some, None}
+use Rattle.std.specs.Prelude.{Bool, true, false, ◌||◌, ◌==◌, List, [], ◌∷◌, length, Option, Some, None}
 use Rattle.std.specs.Prelude.{if◌then◌else◌}
 use Rattle.std.specs.Cmp.Lexicographic.{slice_cmp}
 use Rattle.std.specs.Ordering.{nat_cmp, int_cmp}
@@ -9,8 +9,8 @@ use Rattle.sd_sid.specs.Sid.{same_sid}
 use Rattle.sd_condition.specs.declared.operator.Operator.{Operator}
 use Rattle.sd_condition.specs.declared.operator.Operator.TheVariants as operators
 use Rattle.sd_evaluation.specs.Case.{text_order}
-use Rattle.sd_evaluation.specs.Truth.{and_truth, not_truth, or_truth, truth_if}
-use Rattle.sd_evaluation.specs.Value.{Datum, Number, Text, Octets, Sid, Unreadable}
+use Rattle.sd_evaluation.specs.Truth.{and_truth, not_truth, or_truth}
+use Rattle.sd_evaluation.specs.Value.{Datum, Number, Text, Octets, Sid}
 use Rattle.sd_evaluation.specs.Value.{OperandValue, Values, One, Many, listed}
 use Rattle.sd_evaluation.specs.declared.comparison.Relation.{Relation}
 use Rattle.sd_evaluation.specs.declared.comparison.Relation.TheVariants.{Less, Equal, Greater, Same, Different, Unlike}

@@ -1,6 +1,6 @@
 -- What a condition is for who asks, over its tree ([MS-DTYP] 2.5.3.1.5, EvaluateAceCondition; the operators 2.4.4.17.6,
 -- 2.4.4.17.7).
-use Rattle.std.specs.Prelude.{ℤ, pos, Bool, not, ◌==◌, is_some, List, [], length, Option, Some, None}
+use Rattle.std.specs.Prelude.{pos, not, ◌==◌, is_some, List, length, Option, Some, None}
 use Rattle.std.specs.Option.{option_map}
 use Rattle.std.specs.Ordering.{int_eq}
 use Rattle.sd_acl.specs.declared.ace.AceKind.{AceKind}

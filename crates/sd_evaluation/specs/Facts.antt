@@ -1,5 +1,5 @@
 -- What a condition can ask about ([MS-DTYP] 2.5.3.1.5), and which attribute a name in it means (2.4.4.17.8).
-use Rattle.std.specs.Prelude.{ℕ, Bool, true, false, not, ◌&&◌, ◌||◌, ◌==◌, bit_and, List, length, Option}
+use Rattle.std.specs.Prelude.{Bool, true, false, not, ◌&&◌, ◌||◌, ◌==◌, bit_and, List, length, Option}
 use Rattle.std.specs.List.{find}
 use Rattle.sd_sid.specs.Sid.{SidValue}
 use Rattle.sd_acl.specs.declared.ace.AceKind.{AceKind}
@@ -51,4 +51,5 @@ is_there kind c = not (is_disabled c) && ((is_deny kind || not (is_for_deny_only
 
 -- the first claim of the scope that is there and has the name, without case
 abbrev pub attribute_claim : FactsValue → AceKind → Attribute → Option ClaimValue
-attribute_claim f kind a = find (λ (c : ClaimValue). is_there kind c && same_text false c.name a.name) (claims_of f a.scope)
+attribute_claim f kind a =
+    find (λ (c : ClaimValue). is_there kind c && same_text false c.name a.name) (claims_of f a.scope)

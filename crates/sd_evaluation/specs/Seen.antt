@@ -1,5 +1,5 @@
 -- The values of this crate's types that borrow, as contracts see them.
-use Rattle.std.specs.Prelude.{List, [], ◌∷◌, map}
+use Rattle.std.specs.Prelude.{map}
 use Rattle.sd_evaluation.specs.Evaluation.{Part as SeenPart}
 use Rattle.sd_evaluation.specs.Evaluation as parts
 use Rattle.sd_evaluation.specs.Value.{Datum as SeenDatum, Values as SeenValues, OperandValue, claim_datum}

@@ -45,7 +45,11 @@ impl Relation {
     fn same_or_different(same: bool) -> Relation
         ensures { result ≡ same_or_different same }
     {
-        if same { Relation::Same } else { Relation::Different }
+        if same {
+            Relation::Same
+        } else {
+            Relation::Different
+        }
     }
 
     fn is_same(self) -> Truth

@@ -70,7 +70,7 @@ fn run<'a>(
 ) -> Result<bool, AllocError>
     ensures exact { IfOk result (λ found. (if found then Some (map seen_part stack.new.items) else None)
         ≡ after_tokens Leaf (over_one facts.now kind pass) (over_two facts.now kind) tokens.now
-            (map seen_part stack.old.items)) }
+        (map seen_part stack.old.items)) }
     ensures memory { IsErr result → 0 < length tokens.now }
 {
     for token in tokens {
@@ -91,7 +91,7 @@ fn step<'a>(
 ) -> Result<bool, AllocError>
     ensures { IfOk result (λ found. (if found then Some (map seen_part stack.new.items) else None)
         ≡ after_token Leaf (over_one facts.now kind pass) (over_two facts.now kind) token.now
-            (map seen_part stack.old.items)) }
+        (map seen_part stack.old.items)) }
 {
     match token {
         Token::Operator(operator) => apply(facts, kind, pass, stack, *operator),
@@ -127,7 +127,7 @@ fn apply<'a>(
 ) -> Result<bool, AllocError>
     ensures { IfOk result (λ found. (if found then Some (map seen_part stack.new.items) else None)
         ≡ after_token Leaf (over_one facts.now kind pass) (over_two facts.now kind) (tokens.Operator operator)
-            (map seen_part stack.old.items)) }
+        (map seen_part stack.old.items)) }
 {
     if is_over_one(operator) {
         let Some(part) = stack.pop_front() else {

@@ -5,7 +5,7 @@
 //! recursion, so no condition runs out of stack, and the one allocation is for its operands. Nothing is copied.
 //!
 //! ```text
-//! let facts = Facts { token: &token, device_groups: &[], local: &[], user: &claims, device: &[], resource: &attributes };
+//! let facts = Facts { token, device_groups, local, user, device, resource };
 //! let truth = evaluate(alloc, &facts, AceKind::Allow, Pass::First, &condition)?;
 //! if applies(truth, AceKind::Allow) { .. }
 //! ```

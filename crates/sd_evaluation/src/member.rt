@@ -17,7 +17,7 @@ use std::slice;
 /// Whose SIDs are asked for.
 #[derive(Clone, Copy, Debug, PartialEq, Eq)]
 pub(crate) enum Subject {
-    /// Those of who asks, in a pass.
+    /// Who asks, in a pass.
     User(Pass),
     Device,
 }

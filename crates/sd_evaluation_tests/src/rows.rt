@@ -1,5 +1,5 @@
-//! Conditions, and what they are for the facts of the tests: by [MS-DTYP] 2.5.3.1.5. Samba 4.22 was asked about each row
-//! for an allow entry. It differs in these points, where its answer is Unknown unless said otherwise:
+//! Conditions, and what they are for the facts of the tests, by [MS-DTYP] 2.5.3.1.5. Samba 4.22 was asked about the
+//! rows of allow entries in the first pass. It differs in these points, and its answer is Unknown unless said otherwise:
 //!
 //! - an unsigned number above 2^63 - 1 is no value;
 //! - `Exists`, `Not_Exists` and an attribute alone;
@@ -162,7 +162,11 @@ pub const ROWS: [(&str, Asked, Truth); 163] = [
     ("(Exists @USER.deny)", Deny, True),
     ("(Member_of {SID(BA)})", Allow, True),
     ("(Member_of SID(BA))", Allow, True),
-    ("(Member_of {SID(BA), SID(S-1-5-21-1-2-3-1000)})", Allow, True),
+    (
+        "(Member_of {SID(BA), SID(S-1-5-21-1-2-3-1000)})",
+        Allow,
+        True,
+    ),
     ("(Member_of {SID(BA), SID(BG)})", Allow, False),
     ("(Member_of_Any {SID(BG), SID(BA)})", Allow, True),
     ("(Member_of_Any {SID(BG)})", Allow, False),
@@ -187,27 +191,107 @@ pub const ROWS: [(&str, Asked, Truth); 163] = [
     ("(Member_of {SID(S-1-5-21-1-2-3-1000)})", Again, False),
     ("(Member_of {SID(AU)})", Allow, False),
     ("(Device_Member_of {SID(BO)})", Again, True),
-    ("((Member_of {SID(BA)}) && (Member_of {SID(BA)}))", Allow, True),
-    ("((Member_of {SID(BA)}) || (Member_of {SID(BA)}))", Allow, True),
-    ("((Member_of {SID(BA)}) && (Member_of {SID(BG)}))", Allow, False),
-    ("((Member_of {SID(BA)}) || (Member_of {SID(BG)}))", Allow, True),
-    ("((Member_of {SID(BA)}) && (@USER.nobody == 1))", Allow, Unknown),
-    ("((Member_of {SID(BA)}) || (@USER.nobody == 1))", Allow, True),
-    ("((Member_of {SID(BG)}) && (Member_of {SID(BA)}))", Allow, False),
-    ("((Member_of {SID(BG)}) || (Member_of {SID(BA)}))", Allow, True),
-    ("((Member_of {SID(BG)}) && (Member_of {SID(BG)}))", Allow, False),
-    ("((Member_of {SID(BG)}) || (Member_of {SID(BG)}))", Allow, False),
-    ("((Member_of {SID(BG)}) && (@USER.nobody == 1))", Allow, False),
-    ("((Member_of {SID(BG)}) || (@USER.nobody == 1))", Allow, Unknown),
-    ("((@USER.nobody == 1) && (Member_of {SID(BA)}))", Allow, Unknown),
-    ("((@USER.nobody == 1) || (Member_of {SID(BA)}))", Allow, True),
-    ("((@USER.nobody == 1) && (Member_of {SID(BG)}))", Allow, False),
-    ("((@USER.nobody == 1) || (Member_of {SID(BG)}))", Allow, Unknown),
-    ("((@USER.nobody == 1) && (@USER.nobody == 1))", Allow, Unknown),
-    ("((@USER.nobody == 1) || (@USER.nobody == 1))", Allow, Unknown),
+    (
+        "((Member_of {SID(BA)}) && (Member_of {SID(BA)}))",
+        Allow,
+        True,
+    ),
+    (
+        "((Member_of {SID(BA)}) || (Member_of {SID(BA)}))",
+        Allow,
+        True,
+    ),
+    (
+        "((Member_of {SID(BA)}) && (Member_of {SID(BG)}))",
+        Allow,
+        False,
+    ),
+    (
+        "((Member_of {SID(BA)}) || (Member_of {SID(BG)}))",
+        Allow,
+        True,
+    ),
+    (
+        "((Member_of {SID(BA)}) && (@USER.nobody == 1))",
+        Allow,
+        Unknown,
+    ),
+    (
+        "((Member_of {SID(BA)}) || (@USER.nobody == 1))",
+        Allow,
+        True,
+    ),
+    (
+        "((Member_of {SID(BG)}) && (Member_of {SID(BA)}))",
+        Allow,
+        False,
+    ),
+    (
+        "((Member_of {SID(BG)}) || (Member_of {SID(BA)}))",
+        Allow,
+        True,
+    ),
+    (
+        "((Member_of {SID(BG)}) && (Member_of {SID(BG)}))",
+        Allow,
+        False,
+    ),
+    (
+        "((Member_of {SID(BG)}) || (Member_of {SID(BG)}))",
+        Allow,
+        False,
+    ),
+    (
+        "((Member_of {SID(BG)}) && (@USER.nobody == 1))",
+        Allow,
+        False,
+    ),
+    (
+        "((Member_of {SID(BG)}) || (@USER.nobody == 1))",
+        Allow,
+        Unknown,
+    ),
+    (
+        "((@USER.nobody == 1) && (Member_of {SID(BA)}))",
+        Allow,
+        Unknown,
+    ),
+    (
+        "((@USER.nobody == 1) || (Member_of {SID(BA)}))",
+        Allow,
+        True,
+    ),
+    (
+        "((@USER.nobody == 1) && (Member_of {SID(BG)}))",
+        Allow,
+        False,
+    ),
+    (
+        "((@USER.nobody == 1) || (Member_of {SID(BG)}))",
+        Allow,
+        Unknown,
+    ),
+    (
+        "((@USER.nobody == 1) && (@USER.nobody == 1))",
+        Allow,
+        Unknown,
+    ),
+    (
+        "((@USER.nobody == 1) || (@USER.nobody == 1))",
+        Allow,
+        Unknown,
+    ),
     ("(!(Member_of {SID(BA)}))", Allow, False),
     ("(!(Member_of {SID(BG)}))", Allow, True),
     ("(!(@USER.nobody == 1))", Allow, Unknown),
-    ("(@USER.n == 5 && @USER.s == \"abc\" || @USER.nobody == 1)", Allow, True),
-    ("(!(@USER.n == 6) && (Member_of {SID(BG)} || @USER.list Contains 2))", Allow, True),
+    (
+        "(@USER.n == 5 && @USER.s == \"abc\" || @USER.nobody == 1)",
+        Allow,
+        True,
+    ),
+    (
+        "(!(@USER.n == 6) && (Member_of {SID(BG)} || @USER.list Contains 2))",
+        Allow,
+        True,
+    ),
 ];

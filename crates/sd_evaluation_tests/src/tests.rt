@@ -3,7 +3,7 @@
 use crate::rows::{DEVICE, LOCAL, RESOURCE, ROWS, USER};
 use sd_acl::AceKind;
 use sd_check::{GroupState, Pass, Privileges, Token};
-use sd_claim::Claim;
+use sd_claim::{Claim, Octets, Utf16, Value, ValueType};
 use sd_claim_text::{ClaimError, parse_claim};
 use sd_condition::Condition;
 use sd_condition_parse::{ConditionError, parse_condition};
@@ -92,6 +92,35 @@ fn token(alloc: Global) -> Result<Option<Token>, AllocError> {
     Ok(if all { Some(token) } else { None })
 }
 
+/// The groups of the device: Backup Operators, and Print Operators for deny entries alone.
+fn device_groups(alloc: Global) -> Result<Vec<(Sid, GroupState)>, AllocError> {
+    let mut groups = Vec::new(alloc);
+    for (relative, state) in [(551, GroupState::Enabled), (550, GroupState::DenyOnly)] {
+        if let Some(one) = group(relative, state) {
+            groups.push(one)?;
+        }
+    }
+    Ok(groups)
+}
+
+/// The claims of each scope.
+#[derive(Drop)]
+struct Claims {
+    local: Vec<Claim>,
+    user: Vec<Claim>,
+    device: Vec<Claim>,
+    resource: Vec<Claim>,
+}
+
+fn all_claims(alloc: Global) -> Result<Claims, AllocError> {
+    Ok(Claims {
+        local: parse_claims(alloc, &LOCAL)?,
+        user: parse_claims(alloc, &USER)?,
+        device: parse_claims(alloc, &DEVICE)?,
+        resource: parse_claims(alloc, &RESOURCE)?,
+    })
+}
+
 /// What the condition of the text is, if it is one.
 fn truth_of(
     alloc: Global,
@@ -108,30 +137,108 @@ fn truth_of(
     }
 }
 
+/// The text of the first row whose condition isn't what the row says.
+fn first_failed(
+    alloc: Global,
+    facts: &Facts<'_>,
+    rows: &[(&'static str, Asked, Truth)],
+) -> Result<Option<&'static str>, AllocError> {
+    for (text, asked, wanted) in rows {
+        if truth_of(alloc, facts, text, *asked)? != Some(*wanted) {
+            return Ok(Some(text));
+        }
+    }
+    Ok(None)
+}
+
 #[test]
 fn evaluates_conditions(rt: HostRuntime) -> Result<(), Fail> {
     let alloc = rt.alloc();
     let token = token(alloc)?.expect(&rt, "the SIDs are SIDs");
-    let mut device_groups = Vec::new(alloc);
-    device_groups.push(group(551, GroupState::Enabled).expect(&rt, "a SID"))?;
-    device_groups.push(group(550, GroupState::DenyOnly).expect(&rt, "a SID"))?;
-    let local = parse_claims(alloc, &LOCAL)?;
-    let user = parse_claims(alloc, &USER)?;
-    let device = parse_claims(alloc, &DEVICE)?;
-    let resource = parse_claims(alloc, &RESOURCE)?;
-    assert!(rt; user.len() == USER.len() && resource.len() == RESOURCE.len());
+    let device_groups = device_groups(alloc)?;
+    let claims = all_claims(alloc)?;
+    assert!(rt; claims.user.len() == USER.len() && claims.resource.len() == RESOURCE.len());
     let facts = Facts {
         token: &token,
         device_groups: &device_groups,
-        local: &local,
-        user: &user,
-        device: &device,
-        resource: &resource,
+        local: &claims.local,
+        user: &claims.user,
+        device: &claims.device,
+        resource: &claims.resource,
     };
-    for (text, asked, wanted) in ROWS {
-        let truth = truth_of(alloc, &facts, text, asked)?;
-        assert!(rt; truth == Some(wanted), "{text}: {truth:?}");
+    let failed = first_failed(alloc, &facts, &ROWS)?;
+    assert!(rt; failed.is_none(), "{failed:?}");
+    Ok(())
+}
+
+/// A claim `g` of a SID in these octets.
+fn sid_claim(alloc: Global, octets: &[u8]) -> Result<Vec<Claim>, AllocError> {
+    let name = Vec::from_slice(alloc, &[0x67])?;
+    let mut values = Vec::new(alloc);
+    values.push(Value::Sid(Octets::new(Vec::from_slice(alloc, octets)?)))?;
+    let mut claims = Vec::new(alloc);
+    if let Some(claim) = Claim::new(Utf16::new(name), 0, ValueType::Sid, values) {
+        claims.push(claim)?;
     }
+    Ok(claims)
+}
+
+/// What the condition of the text is for the token, and a user with these claims.
+fn truth_with(alloc: Global, user: &[Claim], text: &str) -> Result<Option<Truth>, AllocError> {
+    let Some(token) = token(alloc)? else {
+        return Ok(None);
+    };
+    let facts = Facts {
+        token: &token,
+        device_groups: &[],
+        local: &[],
+        user,
+        device: &[],
+        resource: &[],
+    };
+    truth_of(alloc, &facts, text, Asked::Allow)
+}
+
+/// Whether a claim of a SID in these octets is Administrators.
+fn is_administrators(alloc: Global, octets: &[u8]) -> Result<Option<Truth>, AllocError> {
+    let user = sid_claim(alloc, octets)?;
+    truth_with(alloc, &user, "(@USER.g == SID(BA))")
+}
+
+#[test]
+fn reads_sids_of_claims(rt: HostRuntime) -> Result<(), Fail> {
+    let alloc = rt.alloc();
+    let bytes = b"\x01\x02\0\0\0\0\0\x05\x20\0\0\0\x20\x02\0\0";
+    assert!(rt; is_administrators(alloc, b"S-1-5-32-544")? == Some(Truth::True));
+    assert!(rt; is_administrators(alloc, b"S-1-5-32-544\0")? == Some(Truth::True));
+    assert!(rt; is_administrators(alloc, bytes)? == Some(Truth::True));
+    assert!(rt; is_administrators(alloc, b"S-1-5-32-545")? == Some(Truth::False));
+    assert!(rt; is_administrators(alloc, b"BA")? == Some(Truth::Unknown));
+    assert!(rt; is_administrators(alloc, b"")? == Some(Truth::Unknown));
+    Ok(())
+}
+
+/// A condition with so many `!` before it.
+fn deep_text(alloc: Global, depth: usize) -> Result<String, AllocError> {
+    let mut text = String::from_str(alloc, "(")?;
+    for _ in 0..depth {
+        text.push_str("!(")?;
+    }
+    text.push_str("Member_of SID(BA)")?;
+    for _ in 0..depth {
+        text.push(')')?;
+    }
+    text.push(')')?;
+    Ok(text)
+}
+
+#[test]
+fn evaluates_deep_conditions(rt: HostRuntime) -> Result<(), Fail> {
+    let alloc = rt.alloc();
+    let even = deep_text(alloc, 50_000)?;
+    let odd = deep_text(alloc, 50_001)?;
+    assert!(rt; truth_with(alloc, &[], even.as_str())? == Some(Truth::True));
+    assert!(rt; truth_with(alloc, &[], odd.as_str())? == Some(Truth::False));
     Ok(())
 }
 

@@ -9,5 +9,5 @@ use Rattle.sd_evaluation.proofs.attribute.attribute_claim.Given as goal
 abbrev pub invariant-loop-claim : goal.invariant-loop-claim
 invariant-loop-claim l =
     find (λ (c : ClaimValue). is_there l.kind c && same_text false c.name l.attribute.name)
-        (drop l.claim-index l.claim-items)
+    (drop l.claim-index l.claim-items)
     ≡ attribute_claim l.facts l.kind l.attribute

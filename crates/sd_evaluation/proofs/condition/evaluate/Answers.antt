@@ -1,4 +1,4 @@
-use Rattle.std.proofs.Common.{None, Some, ap, sym, ◌∙◌, ◌≡◌}
+use Rattle.std.proofs.Common.{Some, ap, sym, ◌∙◌}
 use Rattle.std.specs.Option.{option_map}
 use Rattle.sd_condition_text.specs.Stack.{left_by}
 use Rattle.sd_evaluation.proofs.Parts.{left_is_the_truth, something_is_left}

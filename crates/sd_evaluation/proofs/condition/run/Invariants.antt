@@ -8,6 +8,6 @@ use Rattle.sd_evaluation.proofs.condition.run.Given as goal
 abbrev pub invariant-loop-token : goal.invariant-loop-token
 invariant-loop-token l =
     after_tokens Leaf (over_one l.facts l.kind l.pass) (over_two l.facts l.kind) (drop l.token-index l.tokens)
-        (map seen_part l.stack.items)
+    (map seen_part l.stack.items)
     ≡ after_tokens Leaf (over_one l.facts l.kind l.pass) (over_two l.facts l.kind) l.tokens
-        (map seen_part l.fn.stack.items)
+    (map seen_part l.fn.stack.items)

@@ -1,5 +1,5 @@
 -- The order of what is left is the order of the whole.
-use Rattle.std.proofs.Common.{length, map, ◌≡◌}
+use Rattle.std.proofs.Common.{length, ◌≡◌}
 use Rattle.sd_evaluation.specs.Case.{text_order}
 use Rattle.sd_evaluation.proofs.text.text_order.Given as goal
 
