@@ -1,0 +1,8 @@
+pub mod Lists
+pub mod Grants
+pub mod PlainStays
+pub mod Parts
+pub mod Denies
+pub mod Chains
+pub mod Labels
+pub mod Unknowns

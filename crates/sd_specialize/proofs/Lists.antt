@@ -1,0 +1,72 @@
+-- The entries of a list, one by one.
+use Rattle.std.proofs.Common.{◌≡◌, ℕ, ◌+◌, ◌++◌, ◌∷◌, [], List, Result, Ok, Err, ap, arith, refl}
+use Rattle.sd_acl.specs.Ace.{acl_size_of}
+use Rattle.sd_acl.specs.declared.ace.Ace.{Ace}
+use Rattle.sd_whole.specs.declared.ace.WholeAce.{WholeAce}
+use Rattle.sd_specialize.specs.Context.{ContextValue}
+use Rattle.sd_specialize.specs.Entry.{entry_for}
+use Rattle.sd_specialize.specs.Specialize.{entries_for, fitting, numbered, specialized_list, ◌>>=◌}
+use Rattle.sd_specialize.specs.declared.fault.RefusedKind.{RefusedKind}
+use Rattle.sd_specialize.specs.declared.fault.SpecializeFault.{SpecializeFault}
+
+-- what is found is this entry
+abbrev pub Is : Result Ace RefusedKind → Ace → Type 0
+Is r p = r ≡ Ok p
+
+-- a list that is found has a first entry and others
+pub record Found (r : Result Ace RefusedKind) (others : Result (List Ace) SpecializeFault) (plain : List Ace) : Type 0 where
+  pub first : Ace
+  pub rest : List Ace
+  pub is_first : r ≡ Ok first
+  pub are_rest : others ≡ Ok rest
+  pub are : plain ≡ first ∷ rest
+
+pub found : (n : ℕ) (r : Result Ace RefusedKind) (others : Result (List Ace) SpecializeFault) (plain : List Ace)
+    → (numbered n r >>= λ first. (others >>= λ rest. Ok (first ∷ rest))) ≡ Ok plain → Found r others plain
+found n (Ok e) (Ok rest) plain h = record { first = e; rest = rest; is_first = refl; are_rest = refl; are = cc }
+found n (Ok e) (Err fault) plain h = absurd cc
+found n (Err kind) others plain h = absurd cc
+
+fits_is : (es plain : List Ace) → fitting es ≡ Ok plain → es ≡ plain
+fits_is es plain h = grind (arith, h)
+
+-- a list that is found within the size is what its entries are
+pub listed : (found : Result (List Ace) SpecializeFault) (plain : List Ace) → (found >>= fitting) ≡ Ok plain → found ≡ Ok plain
+listed (Ok es) plain h = ap Ok (fits_is es plain h)
+listed (Err fault) plain h = absurd cc
+
+-- the entries don't depend on their numbers
+pub numbers : (c : ContextValue) (m n : ℕ) (es : List WholeAce) (xs ys : List Ace)
+    → entries_for c m es ≡ Ok xs → entries_for c n es ≡ Ok ys → xs ≡ ys
+numbers c m n [] xs ys h k = cc
+numbers c m n (e ∷ es) xs ys h k =
+    let f = found m (entry_for c e) (entries_for c (m + 1) es) xs h in
+    let l = found n (entry_for c e) (entries_for c (n + 1) es) ys k in
+    let same = numbers c (m + 1) (n + 1) es f.rest l.rest f.are_rest l.are_rest in
+    cc (f.are, l.are, f.is_first, l.is_first, same)
+
+-- ---- one entry more
+
+pub record Split (p : Ace) (with without : List Ace) : Type 0 where
+  pub front : List Ace
+  pub back : List Ace
+  pub with_it : with ≡ front ++ p ∷ back
+  pub without_it : without ≡ front ++ back
+
+pub split : (c : ContextValue) (m n : ℕ) (before after : List WholeAce) (e : WholeAce) (p : Ace) (with without : List Ace)
+    → entry_for c e ≡ Ok p → entries_for c m (before ++ e ∷ after) ≡ Ok with → entries_for c n (before ++ after) ≡ Ok without
+    → Split p with without
+split c m n [] after e p with without is h k =
+    let f = found m (entry_for c e) (entries_for c (m + 1) after) with h in
+    let same = numbers c (m + 1) n after f.rest without f.are_rest k in
+    record { front = []; back = without; with_it = cc (f.are, f.is_first, is, same); without_it = refl }
+split c m n (x ∷ before) after e p with without is h k =
+    let f = found m (entry_for c x) (entries_for c (m + 1) (before ++ e ∷ after)) with h in
+    let l = found n (entry_for c x) (entries_for c (n + 1) (before ++ after)) without k in
+    let s = split c (m + 1) (n + 1) before after e p f.rest l.rest is f.are_rest l.are_rest in
+    record {
+      front = f.first ∷ s.front;
+      back = s.back;
+      with_it = cc (f.are, s.with_it);
+      without_it = cc (l.are, l.is_first, f.is_first, s.without_it);
+    }

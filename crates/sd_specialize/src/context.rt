@@ -1,0 +1,101 @@
+//! What a question says beside the descriptor.
+
+ghost use Rattle.std.specs.Prelude.{◌≡◌};
+ghost use Rattle.std.specs.Str.{bytes_eq};
+ghost use Rattle.sd_sid.specs.Sid.{same_sid};
+ghost use Rattle.sd_specialize.specs.Context.{context_of};
+ghost use Rattle.sd_specialize.specs.Entry.{allows_type, denies_type, is_asked, plain_for, principal_self, trustee};
+ghost use Rattle.sd_specialize.specs.Entry.{without_part};
+
+use bitflags::Flags;
+use sd_acl::{Ace, AceFlags, AceKind};
+use sd_evaluation::Facts;
+use sd_sid::{Mask, Sid};
+use sd_whole::Guid;
+
+/// One question about a whole descriptor: who asks, about which object types, and which object it is ([MS-DTYP]
+/// 2.5.3.2).
+#[derive(Drop)]
+pub struct Context<'a> {
+    /// Who asks, and what the conditions of entries can ask about.
+    pub facts: &'a Facts<'a>,
+    /// The object types asked about, from the class to the property set and the property, or an extended right. Empty:
+    /// the question is about the whole object.
+    pub chain: &'a [Guid],
+    /// The SID that PRINCIPAL SELF stands for: that of the object asked about, if it has one.
+    pub principal_self: Option<Sid>,
+}
+
+impl Context<'_> {
+    /// The SID that an entry for this SID is for.
+    fn trustee(&self, sid: Sid) -> Sid
+        ensures { result ≡ trustee (context_of self.now) sid }
+    {
+        if !is_principal_self(&sid) {
+            return sid;
+        }
+        match self.principal_self {
+            Some(named) => named,
+            None => sid,
+        }
+    }
+
+    /// An allow or a deny for its trustee, with its named flags.
+    pub(crate) fn plain_ace(&self, kind: AceKind, flags: AceFlags, mask: Mask, sid: Sid) -> Ace
+        ensures { result ≡ plain_for (context_of self.now) kind flags.0 mask sid }
+    {
+        Ace {
+            kind,
+            flags: AceFlags::from_bits_retain(flags.bits() & AceFlags::NAMED_BITS),
+            mask,
+            sid: self.trustee(sid),
+        }
+    }
+
+    /// An entry without a part in the question: it names no right.
+    pub(crate) fn without_part(&self, flags: AceFlags, sid: Sid) -> Ace
+        ensures { result ≡ without_part (context_of self.now) flags.0 sid }
+    {
+        self.plain_ace(AceKind::Allow, flags, Mask(0), sid)
+    }
+
+    /// Whether an allow for the object type is for what is asked about.
+    pub(crate) fn allows_type(&self, object: Option<Guid>) -> bool
+        ensures { result ≡ allows_type (context_of self.now).chain object }
+    {
+        match object {
+            None => true,
+            Some(object) => is_asked(self.chain, object),
+        }
+    }
+
+    /// Whether a deny for the object type is for what is asked about.
+    pub(crate) fn denies_type(&self, object: Option<Guid>) -> bool
+        ensures { result ≡ denies_type (context_of self.now).chain object }
+    {
+        match object {
+            None => true,
+            Some(object) => self.chain.is_empty() || is_asked(self.chain, object),
+        }
+    }
+}
+
+/// Whether the SID is PRINCIPAL SELF, S-1-5-10 ([MS-DTYP] 2.4.2.4).
+fn is_principal_self(sid: &Sid) -> bool
+    ensures { result ≡ same_sid sid.now principal_self }
+{
+    sid.authority() == 5 && sid.subs() == [10].as_slice()
+}
+
+/// Whether the object type is one of those asked about.
+fn is_asked(chain: &[Guid], object: Guid) -> bool
+    ensures { result ≡ is_asked chain.now object }
+{
+    chain.iter().any(|asked| same_guid(asked, &object))
+}
+
+fn same_guid(one: &Guid, other: &Guid) -> bool
+    ensures { result ≡ bytes_eq one.now.bytes other.now.bytes }
+{
+    one.as_slice() == other.as_slice()
+}

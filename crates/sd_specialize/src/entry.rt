@@ -1,0 +1,156 @@
+//! What an entry is for one question.
+
+ghost use Rattle.std.specs.Prelude.{◌≡◌, false, IfOk};
+ghost use Rattle.sd_specialize.specs.Context.{context_of};
+ghost use Rattle.sd_specialize.specs.Entry.{GivesEntry, applies_in, decides, deciding_for, effective_for, entry_for};
+ghost use Rattle.sd_specialize.specs.Entry.{for_children_alone, nobody, other_for, passes_agree, typed_for};
+
+use crate::condition::condition_applies;
+use crate::context::Context;
+use crate::fault::{EntryError, RefusedKind};
+use bitflags::Flags;
+use sd_acl::{Ace, AceFlags, AceKind};
+use sd_check::Pass;
+use sd_sid::Sid;
+use sd_whole::{OddKind, OpaqueAce, TypedAce, WholeAce, WholeKind};
+use std::alloc::{AllocError, Global};
+
+/// The plain allow or deny that the entry is for the question ([MS-DTYP] 2.5.3.2), or why it is refused.
+pub(crate) fn entry_for(
+    alloc: Global,
+    context: &Context<'_>,
+    entry: &WholeAce,
+) -> Result<Ace, EntryError>
+    ensures { GivesEntry result (entry_for (context_of context.now) entry.now) }
+{
+    match entry {
+        WholeAce::Plain(ace) => Ok(context.plain_ace(ace.kind, ace.flags, ace.mask, ace.sid)),
+        WholeAce::Typed(ace) => match ace.kind.plain() {
+            Some(kind) => Ok(context.plain_ace(kind, ace.flags, ace.mask, ace.sid)),
+            None => other_for(alloc, context, ace),
+        },
+        WholeAce::Opaque(ace) => opaque_for(context, ace),
+    }
+}
+
+/// An entry without a layout: it is refused unless it is for children alone.
+fn opaque_for(context: &Context<'_>, ace: &OpaqueAce) -> Result<Ace, EntryError>
+    ensures { GivesEntry result (entry_for (context_of context.now) (WholeAce.Opaque ace.now)) }
+{
+    if !for_children_alone(ace.flags) {
+        return Err(EntryError::Refused(RefusedKind::Odd(OddKind::OpaqueAce)));
+    }
+    Ok(context.without_part(ace.flags, nobody()))
+}
+
+/// An entry with a layout that isn't plain.
+fn other_for(alloc: Global, context: &Context<'_>, ace: &TypedAce) -> Result<Ace, EntryError>
+    ensures { GivesEntry result (other_for (context_of context.now) ace.now) }
+{
+    if for_children_alone(ace.flags) {
+        return Ok(context.without_part(ace.flags, ace.sid));
+    }
+    match decides(ace.kind) {
+        None => Err(EntryError::Refused(RefusedKind::Odd(OddKind::SystemAce))),
+        Some(kind) => deciding_for(alloc, context, kind, ace),
+    }
+}
+
+/// An effective entry that allows or denies.
+fn deciding_for(
+    alloc: Global,
+    context: &Context<'_>,
+    kind: AceKind,
+    ace: &TypedAce,
+) -> Result<Ace, EntryError>
+    ensures { GivesEntry result (deciding_for (context_of context.now) kind ace.now) }
+{
+    let applies = applies_in(alloc, context, Pass::First, ace)?;
+    if !passes_agree(alloc, context, applies, ace)? {
+        return Err(EntryError::Refused(RefusedKind::PassesDiffer));
+    }
+    if !applies {
+        return Ok(context.without_part(ace.flags, ace.sid));
+    }
+    Ok(context.plain_ace(kind, ace.flags, ace.mask, ace.sid))
+}
+
+/// Whether the entry applies in both passes or in neither, from whether it does in the first; or there is one pass.
+fn passes_agree(
+    alloc: Global,
+    context: &Context<'_>,
+    first: bool,
+    ace: &TypedAce,
+) -> Result<bool, AllocError>
+    requires { first ≡ applies_in (context_of context.now) Pass.First ace.now }
+    ensures { IfOk result (λ agree. agree ≡ passes_agree (context_of context.now) ace.now) }
+{
+    let facts = context.facts;
+    if !facts.token.is_restricted() {
+        return Ok(true);
+    }
+    let second = applies_in(alloc, context, Pass::Second, ace)?;
+    Ok(second == first)
+}
+
+/// Whether the entry applies in the pass ([MS-DTYP] 2.5.3.2): to the object types asked about, and by its condition.
+fn applies_in(
+    alloc: Global,
+    context: &Context<'_>,
+    pass: Pass,
+    ace: &TypedAce,
+) -> Result<bool, AllocError>
+    ensures { IfOk result (λ applies. applies ≡ applies_in (context_of context.now) pass ace.now) }
+{
+    let object = ace.types.object;
+    let bytes = ace.trailing.as_slice();
+    match ace.kind {
+        WholeKind::Allow | WholeKind::Deny => Ok(true),
+        WholeKind::ObjectAllow => Ok(context.allows_type(object)),
+        WholeKind::ObjectDeny => Ok(context.denies_type(object)),
+        WholeKind::CallbackAllow => {
+            condition_applies(alloc, context, pass, AceKind::Allow, bytes)
+        }
+        WholeKind::CallbackDeny => condition_applies(alloc, context, pass, AceKind::Deny, bytes),
+        WholeKind::CallbackObjectAllow => {
+            let applies = condition_applies(alloc, context, pass, AceKind::Allow, bytes)?;
+            Ok(applies && context.allows_type(object))
+        }
+        WholeKind::CallbackObjectDeny => {
+            let applies = condition_applies(alloc, context, pass, AceKind::Deny, bytes)?;
+            Ok(applies && context.denies_type(object))
+        }
+        _ => Ok(false),
+    }
+}
+
+/// What an entry of the type decides, if it isn't one of SACLs.
+fn decides(kind: WholeKind) -> Option<AceKind>
+    ensures { result ≡ decides kind }
+{
+    match kind {
+        WholeKind::Allow
+        | WholeKind::ObjectAllow
+        | WholeKind::CallbackAllow
+        | WholeKind::CallbackObjectAllow => Some(AceKind::Allow),
+        WholeKind::Deny
+        | WholeKind::ObjectDeny
+        | WholeKind::CallbackDeny
+        | WholeKind::CallbackObjectDeny => Some(AceKind::Deny),
+        _ => None,
+    }
+}
+
+/// Whether the entry is inherit-only: it is for children alone ([MS-DTYP] 2.4.4.1, INHERIT_ONLY_ACE).
+pub(crate) fn for_children_alone(flags: AceFlags) -> bool
+    ensures { result ≡ for_children_alone flags.0 }
+{
+    flags.contains(AceFlags::IO)
+}
+
+/// NULL SID, nobody's, S-1-0-0 ([MS-DTYP] 2.4.2.4).
+fn nobody() -> Sid
+    ensures { result ≡ nobody }
+{
+    Sid::new(0, &[0]).unwrap()
+}

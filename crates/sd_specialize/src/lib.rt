@@ -1,0 +1,31 @@
+//! Whole DACLs for one question: [MS-DTYP] 2.5.3.1 and 2.5.3.2, and of object types [MS-ADTS] 5.1.3.
+//!
+//! A whole DACL has entries for object types, and entries with conditions. For one question each of these is a plain
+//! allow or deny, or has no part. `specialized` makes that plain descriptor, and `sd_check` answers the question from
+//! it, as do `sd_explain` and whatever else is asked about that question; an entry has the same number in both lists.
+//! The rules are in specs/Entry.antt, and in words in docs/CHECK.md.
+//!
+//! The plain descriptor is for checks of this object by this token. What children inherit follows from the whole one.
+//!
+//! ```text
+//! let plain = specialized(alloc, &context, &whole)?;
+//! let verdict = check(&plain, &mapping, &token, asked);
+//! ```
+#![tactic(auto)]
+
+mod condition;
+mod context;
+mod descriptor;
+mod entry;
+mod fault;
+mod label;
+mod laws;
+
+pub use context::Context;
+pub use descriptor::specialized;
+pub use fault::{RefusedEntry, RefusedKind, SpecializeError, SpecializeFault};
+pub use label::Label;
+pub use laws::{
+    deny_never_grants, no_part_changes_nothing, plain_stays_plain, unknown_fails_closed,
+    whole_is_every_part,
+};

@@ -1,0 +1,7 @@
+//! Tests of whole DACLs for one question.
+#![tactic(auto)]
+
+#[cfg(test)]
+mod rows;
+#[cfg(test)]
+mod tests;

@@ -1,0 +1,130 @@
+//! Questions about whole DACLs, and what [MS-DTYP] 2.5.3.2 and [MS-ADTS] 5.1.3 make of them.
+
+/// Each question: the descriptor; the object types asked about; whom PRINCIPAL SELF stands for; groups of the user; a
+/// mask; then the plain descriptor, and the verdict. A line without columns says why for the rows after it. `%` stands
+/// for the user, S-1-5-21-1-2-3-1001, whose claim Grade is 5; `~` for the class user, `^` for its property set
+/// Personal-Information, `$` for a property in it, Telephone-Number, and `#` for another property, Description.
+pub(crate) const ROWS: &str = "\
+an allow or a deny is what it is, whatever is asked about (2.4.4.2, 2.4.4.4)
+D:(A;;FR;;;BU) | - | - | BU | 0x1 | D:(A;;FR;;;BU) | granted 0x1
+D:(D;;FW;;;BU)(A;;FA;;;BU) | ~ ^ $ | - | BU | 0x2 | D:(D;;FW;;;BU)(A;;FA;;;BU) | denied 0x2
+D:PAI(A;OICI;FR;;;BU)(A;OICIIO;GA;;;BU) | - | - | BU | 0x3 | D:PAI(A;OICI;FR;;;BU)(A;OICIIO;GA;;;BU) | denied 0x2
+O:BAG:SYD: | - | - | BU | 0x1 | O:BAG:SYD: | denied 0x1
+D:NO_ACCESS_CONTROL | $ | - | BU | 0x1 | D:NO_ACCESS_CONTROL | granted 0x1
+O:BA | $ | - | BU | 0x1 | O:BA | granted 0x1
+an object allow without an ObjectType allows the whole object ([MS-ADTS] 5.1.3.2)
+D:(OA;;FR;;;BU) | - | - | BU | 0x1 | D:(A;;FR;;;BU) | granted 0x1
+D:(OA;;FR;;;BU) | ~ ^ $ | - | BU | 0x1 | D:(A;;FR;;;BU) | granted 0x1
+D:(OA;;FR;;~;BU) | - | - | BU | 0x1 | D:(A;;FR;;;BU) | granted 0x1
+D:(OA;;FR;;~;BU) | # | - | BU | 0x1 | D:(A;;FR;;;BU) | granted 0x1
+one with an ObjectType allows that type alone, and nothing where no type is asked about
+D:(OA;;FR;$;;BU) | - | - | BU | 0x1 | D:(A;;0x0;;;BU) | denied 0x1
+D:(OA;;FR;$;;BU) | ~ ^ $ | - | BU | 0x1 | D:(A;;FR;;;BU) | granted 0x1
+D:(OA;;FR;^;;BU) | ~ ^ $ | - | BU | 0x1 | D:(A;;FR;;;BU) | granted 0x1
+D:(OA;;FR;~;;BU) | ~ ^ $ | - | BU | 0x1 | D:(A;;FR;;;BU) | granted 0x1
+D:(OA;;FR;#;;BU) | ~ ^ $ | - | BU | 0x1 | D:(A;;0x0;;;BU) | denied 0x1
+D:(OA;;FR;$;;BU) | ~ ^ | - | BU | 0x1 | D:(A;;0x0;;;BU) | denied 0x1
+D:(OA;;FR;$;~;BU) | $ | - | BU | 0x1 | D:(A;;FR;;;BU) | granted 0x1
+D:(OA;;0x1;$;;BU)(OA;;0x2;#;;BU) | ~ # | - | BU | 0x3 | D:(A;;0x0;;;BU)(A;;0x2;;;BU) | denied 0x1
+an object deny without an ObjectType denies the whole object
+D:(OD;;FR;;;BU)(A;;FA;;;BU) | - | - | BU | 0x3 | D:(D;;FR;;;BU)(A;;FA;;;BU) | denied 0x1
+D:(OD;;FR;;;BU)(A;;FA;;;BU) | ~ ^ $ | - | BU | 0x3 | D:(D;;FR;;;BU)(A;;FA;;;BU) | denied 0x1
+one with an ObjectType denies that type, and the whole object where no type is asked about
+D:(OD;;FR;$;;BU)(A;;FA;;;BU) | - | - | BU | 0x3 | D:(D;;FR;;;BU)(A;;FA;;;BU) | denied 0x1
+D:(OD;;FR;$;;BU)(A;;FA;;;BU) | ~ ^ $ | - | BU | 0x3 | D:(D;;FR;;;BU)(A;;FA;;;BU) | denied 0x1
+D:(OD;;FR;^;;BU)(A;;FA;;;BU) | ~ ^ $ | - | BU | 0x3 | D:(D;;FR;;;BU)(A;;FA;;;BU) | denied 0x1
+D:(OD;;FR;#;;BU)(A;;FA;;;BU) | ~ ^ $ | - | BU | 0x3 | D:(A;;0x0;;;BU)(A;;FA;;;BU) | granted 0x3
+D:(OD;;FR;$;;BU)(A;;FA;;;BU) | ~ ^ | - | BU | 0x3 | D:(A;;0x0;;;BU)(A;;FA;;;BU) | granted 0x3
+D:(OD;;FR;$;;BG)(A;;FA;;;BU) | - | - | BU | 0x3 | D:(D;;FR;;;BG)(A;;FA;;;BU) | granted 0x3
+D:(A;;FR;;;BU)(OD;;FR;$;;BU) | - | - | BU | 0x1 | D:(A;;FR;;;BU)(D;;FR;;;BU) | granted 0x1
+a conditional allow applies only if its condition is true, a conditional deny unless it is false (2.5.3.1.5)
+D:(XA;;FR;;;BU;(@User.Level >= 5)) | - | - | BU | 0x1 | D:(A;;0x0;;;BU) | denied 0x1
+D:(XD;;FR;;;BU;(@User.Level >= 5))(A;;FA;;;BU) | - | - | BU | 0x3 | D:(D;;FR;;;BU)(A;;FA;;;BU) | denied 0x1
+D:(XA;;FR;;;BU;(!(@User.Level >= 5))) | - | - | BU | 0x1 | D:(A;;0x0;;;BU) | denied 0x1
+D:(XD;;FR;;;BU;(!(@User.Level >= 5)))(A;;FA;;;BU) | - | - | BU | 0x1 | D:(D;;FR;;;BU)(A;;FA;;;BU) | denied 0x1
+D:(ZA;;FR;$;;BU;(@User.Level >= 5)) | ~ ^ $ | - | BU | 0x1 | D:(A;;0x0;;;BU) | denied 0x1
+D:(ZA;;FR;;;BU;(@User.Level >= 5)) | - | - | BU | 0x1 | D:(A;;0x0;;;BU) | denied 0x1
+D:(XA;;FR;;;BU;(@User.Grade >= 5)) | - | - | BU | 0x1 | D:(A;;FR;;;BU) | granted 0x1
+D:(XA;;FR;;;BU;(@User.Grade > 5)) | - | - | BU | 0x1 | D:(A;;0x0;;;BU) | denied 0x1
+D:(XD;;FR;;;BU;(@User.Grade < 5))(A;;FA;;;BU) | - | - | BU | 0x1 | D:(A;;0x0;;;BU)(A;;FA;;;BU) | granted 0x1
+D:(XA;;FR;;;BU;(Exists @User.Level)) | - | - | BU | 0x1 | D:(A;;0x0;;;BU) | denied 0x1
+D:(XA;;FR;;;BU;(Not_Exists @User.Level)) | - | - | BU | 0x1 | D:(A;;FR;;;BU) | granted 0x1
+D:(XD;;FR;;;BU;(Exists @User.Level))(A;;FA;;;BU) | - | - | BU | 0x1 | D:(A;;0x0;;;BU)(A;;FA;;;BU) | granted 0x1
+D:(XA;;FR;;;WD;(Member_of {SID(BU)})) | - | - | WD BU | 0x1 | D:(A;;FR;;;WD) | granted 0x1
+D:(XA;;FR;;;WD;(Member_of {SID(BU)})) | - | - | WD BU=deny | 0x1 | D:(A;;0x0;;;WD) | denied 0x1
+D:(XD;;FR;;;WD;(Member_of {SID(BU)}))(A;;FA;;;WD) | - | - | WD BU=deny | 0x1 | D:(D;;FR;;;WD)(A;;FA;;;WD) | denied 0x1
+D:(XD;;FR;;;WD;(Member_of {SID(BG)}))(A;;FA;;;WD) | - | - | WD BU | 0x1 | D:(A;;0x0;;;WD)(A;;FA;;;WD) | granted 0x1
+a conditional object entry applies where both rules let it
+D:(ZA;;FR;$;;BU;(@User.Grade == 5)) | ~ ^ $ | - | BU | 0x1 | D:(A;;FR;;;BU) | granted 0x1
+D:(ZA;;FR;$;;BU;(@User.Grade == 5)) | - | - | BU | 0x1 | D:(A;;0x0;;;BU) | denied 0x1
+D:(ZA;;FR;$;;BU;(@User.Grade == 5)) | ~ # | - | BU | 0x1 | D:(A;;0x0;;;BU) | denied 0x1
+D:(ZA;;FR;$;;BU;(@User.Grade == 6)) | ~ ^ $ | - | BU | 0x1 | D:(A;;0x0;;;BU) | denied 0x1
+PRINCIPAL SELF is the SID that the question names, and nobody's where it names none (2.5.3.1.1)
+D:(A;;FR;;;PS) | - | % | - | 0x1 | D:(A;;FR;;;%) | granted 0x1
+D:(A;;FR;;;PS) | - | - | - | 0x1 | D:(A;;FR;;;PS) | denied 0x1
+D:(A;;FR;;;PS) | - | S-1-5-21-1-2-3-1002 | BU | 0x1 | D:(A;;FR;;;S-1-5-21-1-2-3-1002) | denied 0x1
+D:(A;;FR;;;PS) | - | BU | BU | 0x1 | D:(A;;FR;;;BU) | granted 0x1
+D:(OA;;FR;$;;PS) | ~ ^ $ | % | - | 0x1 | D:(A;;FR;;;%) | granted 0x1
+D:(OA;;FR;$;;PS) | - | % | - | 0x1 | D:(A;;0x0;;;%) | denied 0x1
+D:(D;;FR;;;PS)(A;;FA;;;BU) | - | % | BU | 0x3 | D:(D;;FR;;;%)(A;;FA;;;BU) | denied 0x1
+D:(D;;FR;;;PS)(A;;FA;;;BU) | - | BG | BU | 0x3 | D:(D;;FR;;;BG)(A;;FA;;;BU) | granted 0x3
+an inherit-only entry has no part in a check (2.4.4.1)
+D:(OA;CIIO;FR;$;;BU) | ~ ^ $ | - | BU | 0x1 | D:(A;CIIO;0x0;;;BU) | denied 0x1
+D:(OD;CIIO;FR;;~;BU)(A;;FA;;;BU) | - | - | BU | 0x1 | D:(A;CIIO;0x0;;;BU)(A;;FA;;;BU) | granted 0x1
+D:(XD;CIIO;FR;;;BU;(@User.Level >= 5))(A;;FA;;;BU) | - | - | BU | 0x1 | D:(A;CIIO;0x0;;;BU)(A;;FA;;;BU) | granted 0x1
+D:(AU;CIIOSA;FA;;;WD)(A;;FA;;;BU) | - | - | BU | 0x1 | D:(A;CIIOSA;0x0;;;WD)(A;;FA;;;BU) | granted 0x1
+an effective entry for OWNER RIGHTS limits the owner, whether it applies or not (2.5.3.2)
+O:%D:(A;;FR;;;BU) | - | - | BU | 0x40000 | O:%D:(A;;FR;;;BU) | granted 0x40000
+O:%D:(OA;;RC;$;;OW) | - | - | - | 0x60000 | O:%D:(A;;0x0;;;OW) | denied 0x60000
+O:%D:(OA;;RC;$;;OW) | ~ ^ $ | - | - | 0x60000 | O:%D:(A;;RC;;;OW) | denied 0x40000
+O:%D:(XA;;RC;;;OW;(@User.Level >= 5)) | - | - | - | 0x60000 | O:%D:(A;;0x0;;;OW) | denied 0x60000
+O:%D:(OA;CIIO;RC;$;;OW) | - | - | - | 0x60000 | O:%D:(A;CIIO;0x0;;;OW) | granted 0x60000
+a restricted token is granted what both passes grant (2.5.3.2)
+D:(OA;;FR;$;;BU)(A;;FR;;;RC) | ~ ^ $ | - | BU RC=restrict | 0x1 | D:(A;;FR;;;BU)(A;;FR;;;RC) | granted 0x1
+D:(OA;;FR;$;;BU)(A;;FR;;;RC) | - | - | BU RC=restrict | 0x1 | D:(A;;0x0;;;BU)(A;;FR;;;RC) | denied 0x1
+D:(OD;;FR;$;;RC)(A;;FA;;;BU) | - | - | BU RC=restrict | 0x1 | D:(D;;FR;;;RC)(A;;FA;;;BU) | denied 0x1
+D:(XA;;FR;;;WD;(Member_of {SID(BU)})) | - | - | WD BU WD=restrict BU=restrict | 0x1 | D:(A;;FR;;;WD) | granted 0x1
+D:(XA;CIIO;FR;;;WD;(Member_of {SID(BU)})) | - | - | WD BU WD=restrict | 0x1 | D:(A;CIIO;0x0;;;WD) | denied 0x1
+D:(ZA;;FR;$;;WD;(Member_of {SID(BU)})) | - | - | WD BU WD=restrict | 0x1 | D:(A;;0x0;;;WD) | denied 0x1
+";
+
+/// Questions that are refused: as above, and then the entry that is refused, with the number and the name of why.
+pub(crate) const REFUSED: &str = "\
+entries of a SACL decide nothing in a DACL
+D:(AU;SA;FA;;;WD) | - | - | BU | 1 3 SystemAce
+D:(A;;FA;;;BU)(OU;SA;FA;$;;WD) | $ | - | BU | 2 3 SystemAce
+D:(A;;FA;;;BU)(A;;FA;;;WD)(ML;;NW;;;ME) | - | - | BU | 3 3 SystemAce
+D:(A;;FA;;;BU)(RA;;;;;WD;(\"a\",TI,0,1))(AU;SA;FA;;;WD) | - | - | BU | 2 3 SystemAce
+a condition that differs between the passes of a restricted token
+D:(XA;;FR;;;WD;(Member_of {SID(BU)})) | - | - | WD BU WD=restrict | 1 5 PassesDiffer
+D:(A;;FR;;;BU)(XD;;FR;;;WD;(Member_of {SID(RC)})) | - | - | WD WD=restrict RC=restrict | 2 5 PassesDiffer
+";
+
+/// Labels: the descriptor, the token's level, and what is taken of the mapping of files (2.5.3.3). There GENERIC_READ
+/// is 0x120089, GENERIC_WRITE 0x120116, GENERIC_EXECUTE 0x1200A0.
+pub(crate) const LABELS: &str = "\
+without a label an object is Medium, no write up: what GENERIC_READ and GENERIC_EXECUTE are mapped to is left
+D: | 8192 | 0x0
+D: | 4096 | 0x116
+S: | 8191 | 0x116
+S:NO_ACCESS_CONTROL | 4096 | 0x116
+S:(AU;SA;FA;;;WD) | 0 | 0x116
+each policy takes what its right is mapped to, but for what another is that it doesn't take
+S:(ML;;NW;;;HI) | 8192 | 0x116
+S:(ML;;NR;;;HI) | 8192 | 0x9
+S:(ML;;NX;;;HI) | 8192 | 0x20
+S:(ML;;NWNR;;;HI) | 8192 | 0x11f
+S:(ML;;NWNRNX;;;HI) | 8192 | 0x1201bf
+S:(ML;;0x0;;;HI) | 8192 | 0x0
+a token of the object's level or of a higher one loses nothing
+S:(ML;;NWNRNX;;;HI) | 12288 | 0x0
+S:(ML;;NWNRNX;;;HI) | 16384 | 0x0
+S:(ML;;NWNRNX;;;LW) | 8192 | 0x0
+the first effective label counts
+S:(ML;;NR;;;LW)(ML;;NW;;;HI) | 8192 | 0x0
+S:(AU;SA;FA;;;WD)(ML;;NW;;;SI) | 12288 | 0x116
+S:(ML;OIIO;NWNRNX;;;HI) | 8192 | 0x0
+S:(ML;OIIO;NWNRNX;;;HI)(ML;;NX;;;HI) | 8192 | 0x20
+a SID that is no integrity SID is above every level
+S:(ML;;NW;;;WD) | 16384 | 0x116
+";
