@@ -1,5 +1,6 @@
 //! Conditions, and what they are for the facts of the tests, by [MS-DTYP] 2.5.3.1.5. Samba 4.22 was asked about the
-//! rows of allow entries in the first pass. It differs in these points, and its answer is Unknown unless said otherwise:
+//! rows of allow entries in the first pass. It differs in these points, where it answers Unknown unless another answer
+//! is named:
 //!
 //! - an unsigned number above 2^63 - 1 is no value;
 //! - `Exists`, `Not_Exists` and an attribute alone;
