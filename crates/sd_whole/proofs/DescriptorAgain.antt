@@ -1,5 +1,5 @@
 -- A descriptor that is written is parsed again.
-use Rattle.sd_whole.proofs.Cited.{Absent, Null, Bool, IfSome, IsSid, IsWholeAcl, IsWholeDescriptor, IsWholeList, List, ListRevision, None, Ok, Option, SidValue, Some, WholeAcl, WholeDescriptor, WholeDescriptorsComeBack, WholeListValue, [], acl_part, and_assoc, and_le_r, and_or_apart, and_or_self, ap, append-nil, append_assoc, arith, bad_sid, bit_and, bit_or, bytes_of_sid, cond, dacl_place, drop, drop_at, false, flat_map, from_le_bytes-to_le_bytes_2, from_le_bytes-to_le_bytes_4, get_or, group_place, has_entries, is_outside, is_set, is_some, is_without, kept_bits, le-ltb, length, length-append, length_of_sid, nat_lt, ne_eqb, not, offset_of, or_of_16, refl, revision_number, revision_read, sacl_place, sid_read, sid_reading, sids_come_back, subst, sym, take, take_all, take_at, true, trustee_part, u16_at, u32_at, whole_acl_size, whole_control_of, whole_entry_bytes, ℕ, ◌++◌, ◌+◌, ◌-◌, ◌<◌, ◌==◌, ◌^◌, ◌∙◌, ◌≡◌, ◌≤◌}
+use Rattle.sd_whole.proofs.Cited.{Absent, Null, Bool, IfSome, IsSid, IsWholeAcl, IsWholeDescriptor, IsWholeList, List, ListRevision, None, Ok, Option, SidValue, Some, WholeAcl, WholeDescriptor, WholeDescriptorsComeBack, WholeListValue, [], acl_part, and_assoc, and_le_r, and_or_apart, and_or_self, ap, append-nil, append_assoc, arith, bad_sid, bit_and, bit_or, bytes_of_sid, cond, dacl_place, drop, drop_at, false, flat_map, from_le_bytes-to_le_bytes_2, get_or, group_place, has_entries, is_outside, is_set, is_some, is_without, kept_bits, le-ltb, length, length-append, length_of_sid, nat_lt, ne_eqb, not, offset_of, or_of_16, refl, revision_number, revision_read, sacl_place, sid_read, sid_reading, sids_come_back, subst, sym, take, take_all, take_at, true, trustee_part, u16_at, u32_at, whole_acl_size, whole_control_of, whole_entry_bytes, ℕ, ◌++◌, ◌+◌, ◌-◌, ◌<◌, ◌==◌, ◌^◌, ◌∙◌, ◌≡◌, ◌≤◌}
 use Rattle.sd_acl.specs.declared.descriptor.DaclOf.TheVariants.{List as Entries}
 use Rattle.sd_whole.specs.declared.list.ListRevision.TheVariants.{Standard, DirectoryService}
 use Rattle.sd_wire.proofs.WireIsHeld.{Fields, header_fields, offset_small, trustee_len}

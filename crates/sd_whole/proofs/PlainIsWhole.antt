@@ -1,5 +1,5 @@
 -- A descriptor that is plain is parsed as a whole one, too.
-use Rattle.sd_whole.proofs.Cited.{Absent, Ace, AceKind, AclRevision, AclSize, BadOffset, Bool, Dacl, DescriptorValue, EntrySize, Err, HasSacl, IsPlainOf, Layout, NotSelfRelative, Revision, Short, List, ListRevision, Null, Ok, Option, PlainDescriptorsAreWhole, Result, SidValue, Some, TypedAce, WholeAce, WholeAcl, WholeDescriptor, WholeListValue, WireFault, [], add-zero, add_assoc, all_named, and_assoc, ap, arith, bit_and, bound, cases_Bool, chosen, cond, drop, drop-drop, drop-take, eqb-true, false, get_or, get_or-drop, get_or-take, good, good_is, has_entries, inl, inr, is_outside, is_set, is_without, kept_bits, kind_read, le-ltb, length, length-drop, length-take-le, ltb-false, map, nat_lt, no_types, not, not-false, of_layout, or_cases, passed, plain_as, plain_form, plain_kind, plain_or_typed, refl, revision_read, sid_read, sid_reading, slice_range, subst, suc, sym, take, true, trustee_read, u16_at, u32_at, zero, zero-add, ℕ, ◌%◌, ◌&&◌, ◌+◌, ◌-◌, ◌<◌, ◌==◌, ◌>>=◌, ◌||◌, ◌∙◌, ◌∷◌, ◌≡◌, ◌≤◌}
+use Rattle.sd_whole.proofs.Cited.{Absent, Ace, AceKind, AclRevision, AclSize, BadOffset, Bool, Dacl, DescriptorValue, EntrySize, Err, HasSacl, IsPlainOf, Layout, List, ListRevision, Null, Ok, Option, PlainDescriptorsAreWhole, Result, SidValue, Some, TypedAce, WholeAce, WholeAcl, WholeDescriptor, WholeListValue, WireFault, [], add-zero, add_assoc, all_named, and_assoc, ap, arith, bit_and, bound, cases_Bool, chosen, cond, drop, drop-drop, drop-take, eqb-true, false, get_or, get_or-drop, get_or-take, good, good_is, has_entries, inl, inr, is_outside, is_set, is_without, kept_bits, kind_read, le-ltb, length, length-drop, length-take-le, ltb-false, map, nat_lt, no_types, not, not-false, of_layout, or_cases, passed, plain_as, plain_form, plain_kind, plain_or_typed, refl, revision_read, sid_read, sid_reading, slice_range, subst, suc, sym, take, true, trustee_read, u16_at, u32_at, zero, zero-add, ℕ, ◌%◌, ◌&&◌, ◌+◌, ◌-◌, ◌<◌, ◌==◌, ◌>>=◌, ◌||◌, ◌∙◌, ◌∷◌, ◌≡◌, ◌≤◌}
 use Rattle.sd_whole.proofs.PlainForms.{plain_listed}
 use Rattle.sd_whole.specs.Plain.{plain_acl}
 use Rattle.sd_acl.specs.declared.descriptor.DaclOf.TheVariants.{List as Entries}
