@@ -32,22 +32,22 @@ truth_alone (Some operand) = value_truth operand.values
 
 -- ---- the parts of a condition
 
--- what a part is to the operator over it: an operand, or what it came to
+-- what a part is to the operator over it: an operand, or the truth that an operator left
 pub data Part : Type 0 where
   Leaf : Token → Part
-  Came : Truth → Part
+  Evaluated : Truth → Part
 
 abbrev pub part_truth : FactsValue → AceKind → Part → Truth
 part_truth f kind (Leaf token) = truth_alone (operand_of f kind token)
-part_truth f kind (Came truth) = truth
+part_truth f kind (Evaluated truth) = truth
 
 abbrev pub part_operand : FactsValue → AceKind → Part → Option OperandValue
 part_operand f kind (Leaf token) = operand_of f kind token
-part_operand f kind (Came truth) = None
+part_operand f kind (Evaluated truth) = None
 
 abbrev pub part_membership : FactsValue → AceKind → Pass → Operator → Part → Truth
 part_membership f kind pass operator (Leaf token) = membership f kind pass operator (literals_of token)
-part_membership f kind pass operator (Came truth) = Unknown
+part_membership f kind pass operator (Evaluated truth) = Unknown
 
 -- an operator over one part. An attribute exists or doesn't, which is never unknown
 abbrev pub one_truth : FactsValue → AceKind → Pass → Operator → Part → Truth
@@ -63,10 +63,10 @@ two_truth f kind operators.Or left right = or_truth (part_truth f kind left) (pa
 two_truth f kind operator left right = comparison operator (part_operand f kind left) (part_operand f kind right)
 
 abbrev pub over_one : FactsValue → AceKind → Pass → Operator → Part → Part
-over_one f kind pass operator part = Came (one_truth f kind pass operator part)
+over_one f kind pass operator part = Evaluated (one_truth f kind pass operator part)
 
 abbrev pub over_two : FactsValue → AceKind → Operator → Part → Part → Part
-over_two f kind operator left right = Came (two_truth f kind operator left right)
+over_two f kind operator left right = Evaluated (two_truth f kind operator left right)
 
 -- ---- the tree
 

@@ -30,4 +30,4 @@ seen_operand o = record { values = seen_values o.values; with_case = o.with_case
 
 abbrev pub seen_part : Part → SeenPart
 seen_part (the_parts.Leaf token) = parts.Leaf token.now
-seen_part (the_parts.Came truth) = parts.Came truth
+seen_part (the_parts.Evaluated truth) = parts.Evaluated truth

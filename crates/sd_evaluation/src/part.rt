@@ -22,7 +22,7 @@ pub(crate) enum Part<'a> {
     /// An operand.
     Leaf(&'a Token),
     /// What an operator left.
-    Came(Truth),
+    Evaluated(Truth),
 }
 
 /// The truth of values that stand alone.
@@ -53,7 +53,7 @@ impl<'a> Part<'a> {
     {
         match self {
             Part::Leaf(token) => truth_alone(&operand_of(facts, kind, token)),
-            Part::Came(truth) => *truth,
+            Part::Evaluated(truth) => *truth,
         }
     }
 
@@ -63,7 +63,7 @@ impl<'a> Part<'a> {
     {
         match self {
             Part::Leaf(token) => operand_of(facts, kind, token),
-            Part::Came(_) => None,
+            Part::Evaluated(_) => None,
         }
     }
 
@@ -73,7 +73,7 @@ impl<'a> Part<'a> {
     {
         match self {
             Part::Leaf(token) => membership(facts, kind, pass, operator, literals_of(token)),
-            Part::Came(_) => Truth::Unknown,
+            Part::Evaluated(_) => Truth::Unknown,
         }
     }
 }
@@ -88,7 +88,7 @@ pub(crate) fn over_one<'a>(
 ) -> Part<'a>
     ensures { seen_part result ≡ over_one facts.now kind pass operator (seen_part part.now) }
 {
-    Part::Came(match operator {
+    Part::Evaluated(match operator {
         Operator::Not => part.truth(facts, kind).not(),
         Operator::Exists => Truth::of(part.operand(facts, kind).is_some()),
         Operator::NotExists => Truth::of(part.operand(facts, kind).is_none()),
@@ -106,7 +106,7 @@ pub(crate) fn over_two<'a>(
 ) -> Part<'a>
     ensures { seen_part result ≡ over_two facts.now kind operator (seen_part left.now) (seen_part right.now) }
 {
-    Part::Came(match operator {
+    Part::Evaluated(match operator {
         Operator::And => left.truth(facts, kind).and(right.truth(facts, kind)),
         Operator::Or => left.truth(facts, kind).or(right.truth(facts, kind)),
         _ => comparison(
