@@ -1,6 +1,5 @@
 //! Conditions, and what they are for the facts of the tests, by [MS-DTYP] 2.5.3.1.5. Samba 4.22 was asked about the
-//! rows of allow entries in the first pass. It differs in these points, where it answers Unknown unless another answer
-//! is named:
+//! rows of allow entries in the first pass. In these points it differs, and is Unknown unless said otherwise:
 //!
 //! - an unsigned number above 2^63 - 1 is no value;
 //! - `Exists`, `Not_Exists` and an attribute alone;
