@@ -28,6 +28,7 @@ use std::alloc::AllocError;
 impl CommandContext<'_> {
     /// Whom rights are granted to by a descriptor, where the mask and the base are the arguments; or the fault of the
     /// first from the left that is invalid.
+    #[inline(never)]
     pub(crate) fn who(&self, descriptor: &Descriptor, arguments: &[&str]) -> Answered
         ensures { IfOk result (λ answer. AnswersOn self.now.settings.now DescriptorCommand.Who arguments.now
             (descriptor_of descriptor.now) (answer_of answer)) }
@@ -99,6 +100,7 @@ impl CommandContext<'_> {
 
     /// What tokens gain and lose where the new descriptor takes the place of the old one, where the new one and the
     /// base are the arguments; or the fault of the first from the left that is invalid.
+    #[inline(never)]
     pub(crate) fn compare(&self, old: Descriptor, arguments: &[&str]) -> Answered
         ensures { IfOk result (λ answer. AnswersOn self.now.settings.now DescriptorCommand.Compare arguments.now
             (descriptor_of old) (answer_of answer)) }

@@ -71,6 +71,7 @@ pub struct Answer {
 
 impl Answer {
     /// What was asked for was done, and standard error says nothing.
+    #[inline(always)]
     pub fn done(alloc: Global, lines: Vec<Line>) -> Answer
         ensures { AreDone lines.items (answer_of result) }
     {
@@ -78,6 +79,7 @@ impl Answer {
     }
 
     /// What was asked for was done, of which this is the one line, and standard error says nothing.
+    #[inline(always)]
     pub(crate) fn line(alloc: Global, line: Line) -> Answered
         ensures { IfOk result (λ answer. IsDone line (answer_of answer)) }
     {
@@ -86,6 +88,7 @@ impl Answer {
     }
 
     /// Standard error says nothing beside the lines.
+    #[inline(always)]
     pub(crate) fn of(alloc: Global, lines: Vec<Line>, outcome: Outcome) -> Answer
         ensures { IsAnswer lines.items [] outcome (answer_of result) }
     {
@@ -104,14 +107,13 @@ pub(crate) type Answered = Result<Answer, AllocError>;
 /// The answer of a command to a text and the arguments after it. The only error is out of memory.
 pub fn answer_question(
     alloc: Global,
-    settings: Settings,
+    settings: &Settings,
     question: TextCommand,
     text: &str,
     arguments: &[&str],
 ) -> Result<Answer, AllocError>
-    ensures { IfOk result (λ answer. AnswersQuestion settings question text.now arguments.now (answer_of answer)) }
+    ensures { IfOk result (λ answer. AnswersQuestion settings.now question text.now arguments.now (answer_of answer)) }
 {
-    let settings = &settings;
     let command = CommandContext { alloc, settings };
     match question {
         TextCommand::Descriptor(question) => command.answer_descriptor(question, text, arguments),
@@ -154,6 +156,7 @@ pub(crate) fn fault_told(alloc: Global, line: Line, told: String) -> Answered
 }
 
 /// A value alone, in a line of no kind.
+#[inline(always)]
 pub(crate) fn value_line(alloc: Global, value: Value) -> Result<Line, AllocError>
     ensures { IfOk result (λ line. line ≡ value_line value) }
 {
@@ -209,6 +212,7 @@ impl CommandContext<'_> {
         Ok(note_left_out_sacl(self.alloc, name, left_out, answer)?)
     }
 
+    // (What few ask of each of many lines isn't inlined, so that `print` and verdicts stay short.)
     fn answer_on(&self, question: DescriptorCommand, on: Descriptor, arguments: &[&str]) -> Answered
         ensures { IfOk result (λ answer. AnswersOn self.now.settings.now question arguments.now (descriptor_of on)
             (answer_of answer)) }

@@ -24,6 +24,7 @@ use std::alloc::{AllocError, Global};
 
 impl CommandContext<'_> {
     /// A descriptor.
+    #[inline(always)]
     pub(crate) fn print(&self, descriptor: Descriptor) -> Answered
         ensures { IfOk result (λ answer. IsDone (descriptor_line (descriptor_of descriptor)) (answer_of answer)) }
     {
@@ -31,6 +32,7 @@ impl CommandContext<'_> {
     }
 
     /// The answer that is this value.
+    #[inline(always)]
     fn value(&self, value: Value) -> Answered
         ensures { IfOk result (λ answer. IsDone (value_line value) (answer_of answer)) }
     {
@@ -38,6 +40,7 @@ impl CommandContext<'_> {
     }
 
     /// The self-relative form of a descriptor, in hexadecimal.
+    #[inline(never)]
     pub(crate) fn to_binary(&self, descriptor: &Descriptor) -> Answered
         ensures { IfOk result (λ answer. IsDone (text_line (encode_lower (wire_of (descriptor_of descriptor.now))))
             (answer_of answer)) }

@@ -1,5 +1,5 @@
 //! The descriptor that an argument's text is, or the plain part of it where whole descriptors are taken.
-ghost use Rattle.std.specs.Prelude.{◌≡◌, IfOk, option_map, string_bytes};
+ghost use Rattle.std.specs.Prelude.{◌≡◌, true, IfOk, option_map, string_bytes};
 ghost use Rattle.sd_commands.specs.Required.{missing_dacl};
 ghost use Rattle.sd_commands.specs.Answer.{IsNoted, answer_of};
 ghost use Rattle.sd_commands.specs.CommandAnswer.{IsEntryFault, IsGiven, IsObjectNoted};
@@ -83,20 +83,30 @@ pub(crate) fn missing_dacl<L>(settings: &Settings, dacl: &DaclOf<L>) -> Option<&
 }
 
 /// The answer, and before what else standard error says, that a SACL was left out of the argument, where one was.
+#[inline(always)]
 #[tactic(auto, unfolding(crate::specs::Answer::IsNoted))]
 pub(crate) fn note_left_out_sacl(
     alloc: Global,
     name: &str,
     left_out: bool,
-    mut answer: Answer,
+    answer: Answer,
 ) -> Answered
     ensures { IfOk result (λ noted. IsNoted name.now left_out (answer_of answer) (answer_of noted)) }
 {
     if left_out {
-        let mut told = told_line(alloc, name, "the SACL is left out")?;
-        told.push_str(answer.told.as_str())?;
-        answer.told = told;
+        note_sacl(alloc, name, answer)
+    } else {
+        Ok(answer)
     }
+}
+
+#[tactic(auto, unfolding(crate::specs::Answer::IsNoted))]
+fn note_sacl(alloc: Global, name: &str, mut answer: Answer) -> Answered
+    ensures { IfOk result (λ noted. IsNoted name.now true (answer_of answer) (answer_of noted)) }
+{
+    let mut told = told_line(alloc, name, "the SACL is left out")?;
+    told.push_str(answer.told.as_str())?;
+    answer.told = told;
     Ok(answer)
 }
 

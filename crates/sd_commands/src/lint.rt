@@ -19,6 +19,7 @@ use std::alloc::AllocError;
 impl CommandContext<'_> {
     /// The findings in a descriptor, or `clean`, where each token has the base that the words are; or the fault of the
     /// first word that is invalid.
+    #[inline(never)]
     pub(crate) fn lint(&self, descriptor: Descriptor, words: &[&str]) -> Answered
         ensures { IfOk result (λ answer. AnswersOfBase self.now.settings.now words.now
             (AnswersFindings self.now.settings.now (descriptor_of descriptor)) (answer_of answer)) }

@@ -17,6 +17,7 @@ use std::alloc::{AllocError, Global};
 
 impl CommandContext<'_> {
     /// A descriptor with its DACL in canonical order ([MS-DTYP] 2.4.5).
+    #[inline(never)]
     pub(crate) fn sort(&self, descriptor: &Descriptor) -> Answered
         ensures { IfOk result (λ answer. IsSorted self.now.settings.now (descriptor_of descriptor.now)
             (answer_of answer)) }

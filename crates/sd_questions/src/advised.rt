@@ -25,15 +25,15 @@ use std::alloc::{AllocError, Global};
 /// The answer of a command to a text, and advice on it. The only error is out of memory.
 pub(crate) fn advised(
     alloc: Global,
-    settings: Settings,
+    settings: &Settings,
     request: TextRequest<'_>,
     text: &str,
 ) -> Result<Answer, AllocError>
-    ensures { IfOk result (λ answer. Advising (AnswersText settings (request_of request.entry) text.now)
+    ensures { IfOk result (λ answer. Advising (AnswersText settings.now (request_of request.entry) text.now)
         (answer_of answer)) }
 {
     let answer = answer_text(alloc, settings, request, text)?;
-    let advice = advice_on(alloc, &settings, &request, text, &answer)?;
+    let advice = advice_on(alloc, settings, &request, text, &answer)?;
     with_advice(answer, advice.as_str())
 }
 

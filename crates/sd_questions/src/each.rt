@@ -112,6 +112,7 @@ impl LineQuestion<'_> {
     }
 
     /// An answer, and what follows it.
+    #[inline(always)]
     fn ended(&self, alloc: Global, answer: Answer) -> Result<Answered, AllocError>
         ensures { IfOk result (λ ended. (ended.lines.items
             ≡ (answer_of answer).lines ++ after_answer self.now.request.question)
@@ -140,9 +141,9 @@ impl LineQuestion<'_> {
         if is_blank(bytes) {
             return fault(alloc, "blank", String::new(alloc));
         }
-        match self.settings {
+        match &self.settings {
             Ok(settings) => answer_text(alloc, settings, self.request, text),
-            Err(bad) => bad_value(alloc, bad),
+            Err(bad) => bad_value(alloc, *bad),
         }
     }
 }

@@ -17,12 +17,12 @@ use std::str::from_utf8;
 /// a fault. The only error is out of memory.
 pub(crate) fn answer_input(
     alloc: Global,
-    settings: Settings,
+    settings: &Settings,
     request: TextRequest<'_>,
     input: &[u8],
 ) -> Result<Answer, AllocError>
     ensures { IfOk result
-        (λ answer. AnswersInput settings (request_of request.entry) input.now (answer_of answer)) }
+        (λ answer. AnswersInput settings.now (request_of request.entry) input.now (answer_of answer)) }
 {
     let bytes = decoded(alloc, input)?;
     match from_utf8(without_end(&bytes)) {

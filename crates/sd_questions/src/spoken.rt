@@ -15,12 +15,12 @@ use std::alloc::{AllocError, Global};
 /// The only error is out of memory.
 pub(crate) fn answer_text(
     alloc: Global,
-    settings: Settings,
+    settings: &Settings,
     request: TextRequest<'_>,
     text: &str,
 ) -> Result<Answer, AllocError>
     ensures { IfOk result
-        (λ answer. AnswersText settings (request_of request.entry) text.now (answer_of answer)) }
+        (λ answer. AnswersText settings.now (request_of request.entry) text.now (answer_of answer)) }
 {
     let (question, arguments) = (request.question, request.arguments);
     if let Some(name) = blank_name(question, text, arguments) {

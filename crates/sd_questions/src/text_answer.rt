@@ -35,7 +35,7 @@ pub fn answer_to<R: Read>(
         → ReadsPart (R.remaining (inner_of reader.old)) (R.remaining (inner_of reader.new)) RunError.TooLong }
     ensures unused { is_some text.entry ≡ true → reader.new ≡ reader.old }
 {
-    let settings = match options.settings() {
+    let settings = &match options.settings() {
         Ok(settings) => settings,
         Err(bad) => return Ok(advised_value(alloc, bad)?),
     };
