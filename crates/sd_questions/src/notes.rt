@@ -16,6 +16,9 @@ use sd_whole::{WholeAce, WholeAcl, WholeKind};
 use sd_whole_parse::{read_sddl_part, read_whole_sddl};
 use std::alloc::{AllocError, Global};
 
+/// CR, the one flag of an entry that plain lists don't have (CRITICAL_ACE_FLAG).
+const CRITICAL: u8 = 0x20;
+
 /// The notes on an answer that is no fault. The only error is out of memory.
 pub(crate) fn notes_on(
     alloc: Global,
@@ -40,6 +43,13 @@ pub(crate) fn notes_on(
             push_limits(alloc, settings, text, &mut notes)?;
             push_mask(alloc, mask, words, &mut notes)?;
             push_children(alloc, settings, text, &mut notes)?;
+        }
+        (TextCommand::Descriptor(DescriptorCommand::Compare), [new, ..]) => {
+            push_critical(alloc, settings, "OLD", text, &mut notes)?;
+            push_critical(alloc, settings, "NEW", new, &mut notes)?;
+        }
+        (TextCommand::Descriptor(DescriptorCommand::Lint), _) => {
+            push_critical(alloc, settings, "SDDL", text, &mut notes)?;
         }
         _ => {}
     }
@@ -132,6 +142,34 @@ fn limit_in(entry: &WholeAce) -> Option<(&'static str, &Sid)> {
         _ => return None,
     };
     Some((what, &ace.sid))
+}
+
+/// Notes that entries of the DACL of the argument of this name have CR, by which no right is granted or denied.
+fn push_critical(
+    alloc: Global,
+    settings: &Settings,
+    name: &str,
+    text: &str,
+    notes: &mut String,
+) -> Result<(), AllocError> {
+    if !settings.whole {
+        return Ok(());
+    }
+    let Ok(descriptor) = read_whole_sddl(alloc, settings.aliases, text) else {
+        return Ok(());
+    };
+    let WholeAcl::List(list) = &descriptor.dacl else {
+        return Ok(());
+    };
+    if list.entries().iter().any(is_critical) {
+        let note = told_line(alloc, name, "the flag CR of entries is left out")?;
+        notes.push_str(note.as_str())?;
+    }
+    Ok(())
+}
+
+fn is_critical(entry: &WholeAce) -> bool {
+    entry.flags().bits() & CRITICAL != 0
 }
 
 /// Notes entries of the DACL that are inherited by what is made in a container ([MS-DTYP] 2.4.4.1), where only the

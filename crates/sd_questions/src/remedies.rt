@@ -226,7 +226,7 @@ pub(crate) const EACH: RemedyRow = (
 
 /// What is left out under `--whole`, where lines are answered.
 pub(crate) const SACLS: &str =
-    "a line's SACL is left out, by whose labels and filters Windows may deny what is granted here";
+    "a line's SACL, by which Windows may deny what is granted here, and CR of its entries are left out";
 
 /// What `--without-bits` leaves out, where lines are answered.
 pub(crate) const NO_BITS: &str = "what a line's header has that SDDL has no word for is left out";
