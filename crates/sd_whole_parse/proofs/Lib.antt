@@ -5,3 +5,4 @@ pub mod GuidTexts
 pub mod Loop
 pub mod PlainEntries
 pub mod PlainTexts
+pub mod Parts

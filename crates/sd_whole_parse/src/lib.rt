@@ -24,4 +24,4 @@ mod stop;
 
 pub use descriptor::read_whole_sddl;
 pub use laws::{guids_come_back, plain_texts_are_read_alike, plain_texts_come_back};
-pub use part::{PartError, read_sddl_part};
+pub use part::{LeftOut, PartError, TextPart, read_sddl_part, read_text_part};
