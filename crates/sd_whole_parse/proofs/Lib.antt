@@ -6,3 +6,6 @@ pub mod Loop
 pub mod PlainEntries
 pub mod PlainTexts
 pub mod Parts
+pub mod PlainFlags
+pub mod PlainParts
+pub mod AllThere

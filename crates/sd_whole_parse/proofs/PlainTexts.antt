@@ -27,7 +27,7 @@ use Rattle.sd_whole_parse.specs.Spaces.{at_entry, to_entry}
 use Rattle.sd_whole_parse.proofs.PlainEntries.{items_alike, plain_ones, stays_here}
 
 -- plain entries have no object types
-none_is_object : (es : List Ace) → list_any is_object (plain_ones es) ≡ false
+pub none_is_object : (es : List Ace) → list_any is_object (plain_ones es) ≡ false
 none_is_object [] = refl
 none_is_object (e ∷ es) = none_is_object es
 

@@ -23,5 +23,8 @@ mod spaces;
 mod stop;
 
 pub use descriptor::read_whole_sddl;
-pub use laws::{guids_come_back, plain_texts_are_read_alike, plain_texts_come_back};
+pub use laws::{
+    guids_come_back, nothing_else_is_left_out, plain_texts_are_read_alike,
+    plain_texts_are_their_part, plain_texts_come_back,
+};
 pub use part::{LeftOut, PartError, TextPart, read_sddl_part, read_text_part};
