@@ -1,7 +1,7 @@
 //! What standard error notes beside an answer: a word with two meanings, a text that is empty, a label that is left
 //! out, a token that lacks what most have. It is for people: rows of tests show each text, and no definition says one.
 
-use crate::remedies::CHILDREN;
+use crate::remedies::{CHILDREN, UNNAMED_BITS};
 use bitflags::Flags;
 use sd_acl::{Ace, AceFlags};
 use sd_answer::{entries_in, read_token, verdict_line};
@@ -50,6 +50,10 @@ pub(crate) fn notes_on(
         }
         (TextCommand::Descriptor(DescriptorCommand::Lint), _) => {
             push_critical(alloc, settings, "SDDL", text, &mut notes)?;
+        }
+        (TextCommand::FromBinary, _) if settings.without_bits && !settings.whole => {
+            let note = told_line(alloc, "--without-bits", UNNAMED_BITS)?;
+            notes.push_str(note.as_str())?;
         }
         _ => {}
     }

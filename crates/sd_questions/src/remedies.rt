@@ -231,6 +231,10 @@ pub(crate) const SACLS: &str =
 /// What `--without-bits` leaves out, where lines are answered.
 pub(crate) const NO_BITS: &str = "what a line's header has that SDDL has no word for is left out";
 
+/// What `--without-bits` leaves out without `--whole`.
+pub(crate) const UNNAMED_BITS: &str =
+    "what the header has that SDDL has no word for is left out: --whole names it";
+
 /// What `--object` leaves out, where lines are answered.
 pub(crate) const NO_CHILDREN: &str =
     "what a line's entries pass on to what is made in a container is left out";
