@@ -315,8 +315,8 @@ Statuses:
 const EACH_NOTES: &str = "\
 Each line of standard input is the first argument of COMMAND, as a descriptor, and has one answer,
 in order, a fault too. Every complete line is answered before more input is read: a program can
-write a line, wait for its answer, and write the next. Answers of 'why', 'who', 'compare' and
-'lint', which may have several lines, end with an empty line.
+write a line, wait for its answer, and write the next. Answers of 'why', 'who', 'compare',
+'lint', 'show' and 'diff', which may have several lines, end with an empty line.
 
 A line ends with a line feed, and one carriage return before it is dropped; with '-0' it ends with a
 zero byte. The last line may lack its end. A byte order mark before the first line is dropped. A
