@@ -1,5 +1,5 @@
 -- What is granted on the whole object is granted on each part of it.
-use Rattle.std.proofs.Common.{◌≡◌, ℕ, ◌+◌, ◌∷◌, [], List, Bool, true, false, not, ◌&&◌, ◌⊎◌, Option, Some, None, Ok, Err, arith, refl, sym, ◌∙◌, inl, inr}
+use Rattle.std.proofs.Common.{◌≡◌, ℕ, ◌+◌, ◌∷◌, [], List, Bool, true, false, not, ◌⊎◌, Option, Some, None, Ok, Err, arith, refl, sym, ◌∙◌, inl, inr}
 use Rattle.std.specs.Prelude.{if◌then◌else◌}
 use Rattle.std.proofs.lemmas.Bool.{cases_Bool, false≢true}
 use Rattle.sd_acl.specs.Ace.{is_allow}

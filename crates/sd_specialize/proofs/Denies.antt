@@ -6,7 +6,7 @@ use Rattle.sd_acl.specs.Ace.{is_allow}
 use Rattle.sd_acl.specs.declared.ace.Ace.{Ace}
 use Rattle.sd_acl.specs.declared.ace.AceKind.{AceKind}
 use Rattle.sd_acl.specs.declared.ace.AceKind.TheVariants.{Allow, Deny}
-use Rattle.sd_check.specs.Check.{decides, first, is_allowed_by, is_granted, is_limit, limits_owner}
+use Rattle.sd_check.specs.Check.{decides, first, is_allowed_by, is_granted, limits_owner}
 use Rattle.sd_check.specs.Token.{TokenValue}
 use Rattle.sd_check.specs.declared.grounds.Pass.TheVariants.{First}
 use Rattle.sd_sid.specs.Mapping.{MappingValue}
@@ -24,7 +24,6 @@ use Rattle.sd_specialize.specs.Entry.{applies_in, effective_for, entry_for, for_
 use Rattle.sd_specialize.specs.Entry as whole
 use Rattle.sd_specialize.specs.Laws.{DenyNeverGrants, decision}
 use Rattle.sd_specialize.specs.Specialize.{entries_for}
-use Rattle.sd_specialize.specs.declared.fault.RefusedKind.{RefusedKind}
 use Rattle.sd_specialize.specs.declared.fault.RefusedKind.TheVariants.{PassesDiffer}
 
 -- without an entry that allows nothing, what was allowed still is

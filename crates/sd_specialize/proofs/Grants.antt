@@ -1,15 +1,13 @@
 -- What a list grants, from what each entry decides.
-use Rattle.std.proofs.Common.{◌≡◌, ℕ, ◌<◌, ◌^◌, ◌++◌, ◌∷◌, [], List, Bool, true, false, ◌&&◌, ◌||◌, ◌==◌, not, Option, Some, None, ap, arith, refl, sym, ◌∙◌, inl, inr}
+use Rattle.std.proofs.Common.{◌≡◌, ℕ, ◌<◌, ◌^◌, List, Bool, true, false, ◌==◌, Option, Some, ap, arith, ◌∙◌, inl, inr}
 use Rattle.std.proofs.lemmas.Bool.{or_cases, or_left, or_right}
 use Rattle.std.proofs.lemmas.Nat.Bits.{bit_at-zero}
-use Rattle.std.specs.List.{list_any}
 use Rattle.sd_acl.specs.declared.ace.Ace.{Ace}
 use Rattle.sd_acl.specs.declared.ace.AceKind.{AceKind}
-use Rattle.sd_acl.specs.Ace.{is_allow, is_inherit_only}
 use Rattle.sd_check.proofs.LowMasks.{mapped_is_itself}
-use Rattle.sd_check.specs.Check.{applies, applies_again, decides, first, is_allowed_by, is_given, is_granted, is_limit, is_listed, limits_owner}
+use Rattle.sd_check.specs.Check.{applies, applies_again, decides, first, is_allowed_by, is_given, is_granted, is_listed, limits_owner}
 use Rattle.sd_check.specs.Token.{TokenValue}
-use Rattle.sd_sid.specs.Mapping.{MappingValue, mapped}
+use Rattle.sd_sid.specs.Mapping.{MappingValue}
 use Rattle.sd_sid.specs.Mask.{holds}
 use Rattle.sd_sid.specs.Sid.{SidValue}
 

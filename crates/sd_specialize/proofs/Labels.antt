@@ -1,5 +1,5 @@
 -- Masks that are joined step by step.
-use Rattle.std.proofs.Common.{◌≡◌, ℕ, ◌<◌, Bool, ◌&&◌, ◌||◌, not, cond, arith, ap, ◌∙◌, sym}
+use Rattle.std.proofs.Common.{◌≡◌, ℕ, ◌<◌, Bool, ◌&&◌, ◌||◌, not, cond, arith, ap, ◌∙◌}
 use Rattle.sd_sid.proofs.Masks.{holds_place, holds_when, mask_of-alike}
 use Rattle.sd_sid.specs.Mapping.{MappingValue, mapped}
 use Rattle.sd_sid.specs.Mask.{holds, mask_of}

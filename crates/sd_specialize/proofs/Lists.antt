@@ -1,11 +1,10 @@
 -- The entries of a list, one by one.
 use Rattle.std.proofs.Common.{◌≡◌, ℕ, ◌+◌, ◌++◌, ◌∷◌, [], List, Result, Ok, Err, ap, arith, refl}
-use Rattle.sd_acl.specs.Ace.{acl_size_of}
 use Rattle.sd_acl.specs.declared.ace.Ace.{Ace}
 use Rattle.sd_whole.specs.declared.ace.WholeAce.{WholeAce}
 use Rattle.sd_specialize.specs.Context.{ContextValue}
 use Rattle.sd_specialize.specs.Entry.{entry_for}
-use Rattle.sd_specialize.specs.Specialize.{entries_for, fitting, numbered, specialized_list, ◌>>=◌}
+use Rattle.sd_specialize.specs.Specialize.{entries_for, fitting, numbered, ◌>>=◌}
 use Rattle.sd_specialize.specs.declared.fault.RefusedKind.{RefusedKind}
 use Rattle.sd_specialize.specs.declared.fault.SpecializeFault.{SpecializeFault}
 

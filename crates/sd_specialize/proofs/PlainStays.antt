@@ -1,7 +1,7 @@
 -- A descriptor with a plain part is that part.
-use Rattle.std.proofs.Common.{◌≡◌, ℕ, zero, ◌+◌, ◌<◌, ◌≤◌, ◌∷◌, [], List, Bool, true, false, length, nat_lt, ◌⊎◌, Option, Some, None, Ok, Err, Result, ap, arith, refl, sym, ◌∙◌, inl, inr, map}
+use Rattle.std.proofs.Common.{◌≡◌, ℕ, ◌+◌, ◌<◌, ◌≤◌, ◌∷◌, [], List, Bool, true, false, length, ◌⊎◌, Option, Some, None, Ok, Err, Result, ap, arith, refl, ◌∙◌, inl, inr, map}
 use Rattle.std.specs.Prelude.{if◌then◌else◌}
-use Rattle.std.proofs.lemmas.Bool.{cases_Bool, le-ltb, lt-ltb}
+use Rattle.std.proofs.lemmas.Bool.{le-ltb, lt-ltb}
 use Rattle.std.specs.List.{filter_map, position_or_len}
 use Rattle.std.specs.Result.{result_map_both}
 use Rattle.std.proofs.lemmas.Option.{slice_get_cases}

@@ -1,7 +1,6 @@
 -- The plain descriptor that a whole one is for one question: each entry of its DACL by the rules of Entry.antt
 -- ([MS-DTYP] 2.5.3.2). The check answers the question from it.
 use Rattle.std.specs.Prelude.{◌≡◌, ℕ, ◌+◌, ◌<◌, nat_lt, codes, List, [], ◌∷◌, length, Result, Ok, Err, if◌then◌else◌}
-use Rattle.std.specs.Result.{result_map_both}
 use Rattle.sd_acl.specs.Ace.{acl_size_of}
 use Rattle.sd_acl.specs.Dacl.{Dacl}
 use Rattle.sd_acl.specs.Descriptor.{DescriptorValue}
@@ -13,7 +12,6 @@ use Rattle.sd_whole.specs.Plain.{odd_name, odd_number, with_dacl}
 use Rattle.sd_whole.specs.Reading.{WholeAcl}
 use Rattle.sd_specialize.specs.Context.{ContextValue}
 use Rattle.sd_specialize.specs.Entry.{entry_for}
-use Rattle.sd_specialize.specs.declared.fault.RefusedEntry.{RefusedEntry}
 use Rattle.sd_specialize.specs.declared.fault.RefusedKind.{RefusedKind}
 use Rattle.sd_specialize.specs.declared.fault.RefusedKind.TheVariants.{Odd, PassesDiffer}
 use Rattle.sd_specialize.specs.declared.fault.SpecializeError.{SpecializeError}
