@@ -76,7 +76,7 @@ pub use Rattle.sd_script.specs.Output.{IsAnswered, IsDone, IsMade, IsNext, IsOpe
 pub use Rattle.sd_script.specs.Paths.{IsPath, path_word}
 pub use Rattle.sd_script.specs.Printed.{IsNextServed, style_in, tag_in}
 pub use Rattle.sd_script.specs.Question.{for_reader, outcome_of}
-pub use Rattle.sd_script.specs.Reply.{alone, check_line, counted_line, node_why_lines, ok_line, plain_line, refused_line, reply_line, seen_line, seen_lines, shown_line, start_error_line}
+pub use Rattle.sd_script.specs.Reply.{alone, check_line, counted_line, node_why_lines, ok_line, plain_line, refused_line, reply_line, seen_line, seen_lines, shown_line, start_error_line, trimmed_line}
 pub use Rattle.sd_script.specs.Review.{AreNodeLines, AreTold, IsCompared, IsNodeReview, IsReviewOf, gone_lines, has_no_words, reviewed_line, trees_in}
 pub use Rattle.sd_script.specs.ScriptCounts.{tallied}
 pub use Rattle.sd_script.specs.View.{IsViewed}
@@ -87,7 +87,8 @@ pub use Rattle.sd_script.specs.declared.fault.LineFault.{LineFault}
 pub use Rattle.sd_script.specs.declared.fault.LineStop.{LineStop}
 pub use Rattle.sd_script.specs.declared.fault.LineStop.TheVariants.{Fault, Memory}
 pub use Rattle.sd_script.specs.declared.line_request.LineRequest.{LineRequest}
-pub use Rattle.sd_script.specs.declared.line_request.LineRequest.TheVariants.{Asking, Importing, Moving, Opening, Viewing}
+pub use Rattle.sd_script.specs.declared.line_request.LineRequest.TheVariants.{Asking, Importing, Moving, Opening, Trimming, Viewing}
+pub use Rattle.sd_script.specs.declared.importing.Given.{Given}
 pub use Rattle.sd_script.specs.declared.paths.PathSpelling.{PathSpelling}
 pub use Rattle.sd_script.specs.declared.paths.PathSpelling.TheVariants.{Percent, Plain}
 pub use Rattle.sd_script.specs.declared.question.NodeQuestion.TheVariants.{Delete, Why}

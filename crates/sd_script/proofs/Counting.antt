@@ -22,12 +22,14 @@ use Rattle.sd_script.specs.declared.script_counts.ScriptCounts.{ScriptCounts}
 
 -- of no kind that is counted
 abbrev pub Quiet : LineOf → Type 0
-Quiet l = (is_of (codes "fault") l ≡ false) × (is_of (codes "refused") l ≡ false) × (is_of (codes "ok") l ≡ false)
+Quiet l =
+    (is_of (codes "fault") l ≡ false) × (is_of (codes "refused") l ≡ false) × (is_of (codes "ok") l ≡ false)
+    × (is_of (codes "opened") l ≡ false)
 
 quiet_first : (line : List ℕ) (ls : List LineOf) (t : ScriptCounts) → All Quiet ls → tallied line [] t ≡ tallied line ls t
 quiet_first line [] t all = refl
 quiet_first line (l ∷ ls) t all =
-    let quiet = All-head Quiet l ls all in rw (quiet.0, quiet.1, quiet.2) refl
+    let quiet = All-head Quiet l ls all in rw (quiet.0, quiet.1, quiet.2, quiet.3) refl
 
 -- of an answer its first lines are counted, where those after them are quiet
 pub said_counts : (line : List ℕ) (said quiet : List LineOf) (t : ScriptCounts) → All Quiet quiet → tallied line said t ≡ tallied line (said ++ quiet) t
@@ -41,8 +43,8 @@ one l quiet = All-cons Quiet l [] quiet (All-nil Quiet)
 
 node_quiet : (paths : PathSpelling) (kind : NodeKind) (path : Names) (d : Option DescriptorValue) → All Quiet (node_lines paths kind path d)
 node_quiet paths kind path None = All-nil Quiet
-node_quiet paths Container path (Some d) = one _ (refl, refl, refl)
-node_quiet paths Object path (Some d) = one _ (refl, refl, refl)
+node_quiet paths Container path (Some d) = one _ (refl, refl, refl, refl)
+node_quiet paths Object path (Some d) = one _ (refl, refl, refl, refl)
 
 where_quiet : (b : Bool) (ls : List LineOf) → All Quiet ls → All Quiet (if b then ls else [])
 where_quiet true ls all = all
@@ -50,7 +52,7 @@ where_quiet false ls all = All-nil Quiet
 
 at_quiet : (paths : PathSpelling) (g : MappingValue) (t : PlainTree) (which : NodeFilter) (node : Names × NodeRow) → All Quiet (lines_at paths g t which node)
 at_quiet paths g t filters.All node = node_quiet paths node.1.kind node.0 (descriptor_at g t node.0)
-at_quiet paths g t (filters.Granting token asked) node = where_quiet (grants (reply_in g t node.0 token asked)) _ (one _ (refl, refl, refl))
+at_quiet paths g t (filters.Granting token asked) node = where_quiet (grants (reply_in g t node.0 token asked)) _ (one _ (refl, refl, refl, refl))
 
 pieces_quiet : {A : Type 0} (f : A → List LineOf) → ((e : A) → All Quiet (f e)) → (es : List A) → All Quiet (flat_map f es)
 pieces_quiet f each [] = All-nil Quiet
@@ -58,9 +60,9 @@ pieces_quiet f each (e ∷ es) = All-append Quiet (f e) (flat_map f es) (each e)
 
 making_quiet : (paths : PathSpelling) (readers : ℕ) (root : Bool) (kind : NodeKind) (opens adds : List Value)
     → Quiet (if root then line_of (form OPEN) opens else line_of (adding_form kind) adds)
-making_quiet paths readers true kind opens adds = (refl, refl, refl)
-making_quiet paths readers false Container opens adds = (refl, refl, refl)
-making_quiet paths readers false Object opens adds = (refl, refl, refl)
+making_quiet paths readers true kind opens adds = (refl, refl, refl, refl)
+making_quiet paths readers false Container opens adds = (refl, refl, refl, refl)
+making_quiet paths readers false Object opens adds = (refl, refl, refl, refl)
 
 each_quiet : (paths : PathSpelling) (readers : ℕ) (es : List (Names × NodeRow)) → All Quiet (map (making_line paths readers) es)
 each_quiet paths readers [] = All-nil Quiet
@@ -74,12 +76,12 @@ made_quiet (made.Nodes n) =
     let g = n.value.tree.opening.mapping in
     pieces_quiet (lines_below n.value.paths g t n.value.top n.value.which) (λ node. where_quiet (is_within n.value.top node.0) _ (at_quiet n.value.paths g t n.value.which node)) (entries t)
 made_quiet (made.Dump d) =
-    All-append Quiet _ _ (each_quiet d.value.notation.paths d.value.readers (entries (replay d.value.tree.opening d.value.tree.journal))) (one _ (refl, refl, refl))
+    All-append Quiet _ _ (each_quiet d.value.notation.paths d.value.readers (entries (replay d.value.tree.opening d.value.tree.journal))) (one _ (refl, refl, refl, refl))
 
 ends_quiet : (ends : List LineOf) → All (λ l. l ≡ line_with [] []) ends → All Quiet ends
 ends_quiet [] all = All-nil Quiet
 ends_quiet (l ∷ ls) all =
-    All-cons Quiet l ls (rw (All-head (λ l. l ≡ line_with [] []) l ls all) (refl, refl, refl)) (ends_quiet ls (All-tail (λ l. l ≡ line_with [] []) l ls all))
+    All-cons Quiet l ls (rw (All-head (λ l. l ≡ line_with [] []) l ls all) (refl, refl, refl, refl)) (ends_quiet ls (All-tail (λ l. l ≡ line_with [] []) l ls all))
 
 -- none of the lines after an answer's first ones is counted
 pub answer_counts : (line : List ℕ) (lines ends : List LineOf) (m : Made) (t : ScriptCounts) → All (λ l. l ≡ line_with [] []) ends

@@ -1,6 +1,7 @@
 -- A text has one output: a line is read as one thing, and a request has one reply that has a line.
-use Rattle.sd_script.proofs.Cited.{Ace, IsNextServed, LineOf, Style, alone, form, ok_line, plain_line, printed, style_in, tag_in, All, All-head, All-tail, AreAnswered, Asking, AsksNoAnalysis, Bool, Dump, Edit, EditRefusal, Err, HasOneAnswer, HasOneOutput, Importing, IsAnswered, IsDone, IsImported, IsMoved, IsNext, IsOpened, IsReaderCount, IsStartError, IsTold, IsViewed, LineRequest, List, Machine, MatchBool, Moving, Names, None, Notation, Ok, Opened, Opening, Option, Reply, Request, RootSpec, ScriptOptions, ScriptState, Session, Some, StartError, Steps, ViewRequest, Viewing, [], accepted, answer, ap, arith, before_first_line, cases_Bool, check_line, closing_of, counted_line, descriptor_at, due, entries_at, expect_line, expects, false, floor_of, for_reader, if◌then◌else◌, imported_words, inl, inr, is_analysis, is_met, is_open, is_silent, last_after, length, line_of_fault, lines, longer, moved_words, nat_le, nat_lt, nat_tests, one_answer, refused_line, replay, reply_line, script_options_of, seen_line, shown_line, start_error_line, subst, sym, tallied, true, with_edit, with_floor, with_look, with_publish, ℕ, ◌++◌, ◌∙◌, ◌∷◌, ◌≡◌}
+use Rattle.sd_script.proofs.Cited.{Ace, IsNextServed, LineOf, Style, alone, form, ok_line, plain_line, printed, style_in, tag_in, All, All-head, All-tail, AreAnswered, Asking, AsksNoAnalysis, Bool, Dump, Edit, EditRefusal, Err, HasOneAnswer, HasOneOutput, Importing, IsAnswered, IsDone, IsImported, IsMoved, IsNext, IsOpened, IsReaderCount, IsStartError, IsTold, IsViewed, LineRequest, List, Machine, MatchBool, Moving, Names, None, Notation, Ok, Opened, Opening, Option, Reply, Request, RootSpec, ScriptOptions, ScriptState, Session, Some, StartError, Steps, ViewRequest, Viewing, [], accepted, answer, ap, arith, before_first_line, cases_Bool, check_line, closing_of, counted_line, descriptor_at, due, entries_at, expect_line, expects, false, floor_of, for_reader, if◌then◌else◌, imported_words, inl, inr, is_analysis, is_met, is_open, is_silent, last_after, length, line_of_fault, lines, longer, moved_words, nat_le, nat_lt, nat_tests, one_answer, refused_line, replay, reply_line, script_options_of, seen_line, shown_line, start_error_line, subst, sym, tallied, true, with_edit, with_floor, with_look, with_publish, ℕ, ◌++◌, ◌∙◌, ◌∷◌, ◌≡◌, Given, Trimming, trimmed_line}
 use Rattle.std.proofs.Common.{take}
+use Rattle.std.specs.Prelude.{◌&&◌}
 use Rattle.sd_answer.specs.declared.forms.TheConstants.{LEARNED, NO_NOTICE, NO_READER, PUBLISHED, TOLD}
 use Rattle.sd_edit.specs.declared.request.Reply.TheVariants as replies
 use Rattle.sd_edit.specs.declared.request.Request.TheVariants as requests
@@ -57,21 +58,22 @@ pub no_error : (e : StartError) (readers : ℕ) (refusal : Option EditRefusal) (
     → IsStartError e readers refusal → alone (start_error_line e) ≡ Some p → ⊥
 no_error e readers refusal p count none is text = grind arith
 
-opened-one : (options : ScriptOptions) (readers : ℕ) (root : RootSpec) (p q : List LineOf) (x y : Session) → IsOpened options readers root p x → IsOpened options readers root q y → (p ≡ q) × (x ≡ y)
-opened-one options readers root p q x y (inl one) (inl other) = (one.2 ∙ sym other.2, one.3 ∙ sym other.3)
-opened-one options readers root p q x y (inl one) (inr other) = absurd (no_error other.0 readers _ q one.0 one.1 other.1 other.2)
-opened-one options readers root p q x y (inr one) (inl other) = absurd (no_error one.0 readers _ p other.0 other.1 one.1 one.2)
-opened-one options readers root p q x y (inr one) (inr other) =
+opened-one : (options : ScriptOptions) (readers : ℕ) (root : RootSpec) (is_all : Bool) (p q : List LineOf) (x y : Session) → IsOpened options readers root is_all p x → IsOpened options readers root is_all q y → (p ≡ q) × (x ≡ y)
+opened-one options readers root is_all p q x y (inl one) (inl other) = (one.2 ∙ sym other.2, one.3 ∙ sym other.3)
+opened-one options readers root is_all p q x y (inl one) (inr other) = absurd (no_error other.0 readers _ q one.0 one.1 other.1 other.2)
+opened-one options readers root is_all p q x y (inr one) (inl other) = absurd (no_error one.0 readers _ p other.0 other.1 one.1 one.2)
+opened-one options readers root is_all p q x y (inr one) (inr other) =
     (one_error readers _ one.0 other.0 p q one.1 other.1 one.2 other.2, one.3 ∙ sym other.3)
 
 -- ---- imports
 
-pub imported-one : (m : Machine) (path : Names) (given : Option (List Ace)) (p q : List LineOf)
+pub imported-one : (m : Machine) (path : Names) (given : Given) (p q : List LineOf)
     → IsImported m path given replies.Edited p → IsImported m path given replies.Edited q → p ≡ q
 imported-one m path given p q one other =
     let inherits = one_answer one.0 other.0 one.2 other.2 in
     let ordered = one_answer one.1 other.1 one.3 other.3 in
-    one.4 ∙ ap (λ b. ok_line (imported_words b one.1) ∷ []) inherits ∙ ap (λ b. ok_line (imported_words other.0 b) ∷ []) ordered ∙ sym other.4
+    one.4 ∙ ap (λ b. ok_line (imported_words (given.is_all && b) one.1) ∷ []) inherits
+    ∙ ap (λ b. ok_line (imported_words (given.is_all && other.0) b) ∷ []) ordered ∙ sym other.4
 
 -- ---- moves
 
@@ -87,8 +89,16 @@ module _ (m : Machine) (x y : Machine) (p q : List LineOf) where
       let same = one_step m asked r x p one first ∙ sym (one_step m asked s y q other second) in
       (ap (λ (z : List LineOf × Machine). z.0) same, ap (λ (z : List LineOf × Machine). z.1) same)
 
-  -- and so has an import
-  pub step-one : (e : Edit) (path : Names) (given : Option (List Ace)) (r s : Reply) → Steps m (requests.Edit e) r x → Steps m (requests.Edit e) s y
+  -- and so has an edit by a descriptor of which something was left out
+  pub trim-one : (e : Edit) (r s : Reply) → Steps m (requests.Edit e) r x → Steps m (requests.Edit e) s y → alone (trimmed_line r) ≡ Some p → alone (trimmed_line s) ≡ Some q
+      → (p ≡ q) × (x ≡ y)
+  trim-one e replies.Edited replies.Edited one other first second = (cc, one.1 ∙ sym other.1)
+  trim-one e replies.Edited s one other first second = absurd (grind arith)
+  trim-one e r replies.Edited one other first second = absurd (grind arith)
+  trim-one e r s one other first second = requested-one (requests.Edit e) r s one other first second
+
+  -- and an import
+  pub step-one : (e : Edit) (path : Names) (given : Given) (r s : Reply) → Steps m (requests.Edit e) r x → Steps m (requests.Edit e) s y
       → IsImported x path given r p → IsImported y path given s q → (p ≡ q) × (x ≡ y)
   step-one e path given replies.Edited replies.Edited one other first second =
       let same = one.1 ∙ sym other.1 in
@@ -123,11 +133,14 @@ viewed-one notation m view p q plain one other = absurd (cc (plain))
 -- what is done leaves one store, and unless it is an analysis is told in one way
 done-one : (old : Session) (asked : LineRequest) (p q : List LineOf) (x y : Session) → IsDone old asked p x → IsDone old asked q y
     → (is_analysis asked ≡ false → p ≡ q) × (x ≡ y)
-done-one old (Opening readers root) p q x y one other =
-    let same = opened-one (script_options_of old) readers root p q x y one other in (λ plain. same.0, same.1)
+done-one old (Opening readers root is_all) p q x y one other =
+    let same = opened-one (script_options_of old) readers root is_all p q x y one other in (λ plain. same.0, same.1)
 done-one (Opened notation m) (Asking r) p q x y one other =
     let same = requested-one m one.1 other.1 p q r one.0 other.0 one.2 other.2 one.3 other.3 in
     (λ plain. same.0, one.4 ∙ ap (Opened notation) same.1 ∙ sym other.4)
+done-one (Opened notation m) (Trimming e) p q x y one other =
+    let trimmed = trim-one m one.1 other.1 p q e one.0 other.0 one.2 other.2 one.3 other.3 in
+    (λ plain. trimmed.0, one.4 ∙ ap (Opened notation) trimmed.1 ∙ sym other.4)
 done-one (Opened notation m) (Viewing view) p q x y one other = (λ plain. viewed-one notation m view p q plain one.0 other.0, one.1 ∙ sym other.1)
 done-one (Opened notation m) (Importing e path given) p q x y one other =
     let stepped = step-one m one.1 other.1 p q e path given one.0 other.0 one.2 other.2 one.3 other.3 in

@@ -6,7 +6,8 @@ use Rattle.sd_text.proofs.Parts.{found_is, stopped_is}
 use Rattle.sd_whole.specs.Plain.{plain_part}
 use Rattle.sd_whole.specs.declared.descriptor.WholeDescriptor.{WholeDescriptor}
 use Rattle.sd_whole.specs.declared.plain.OddEntry.{OddEntry}
-use Rattle.sd_whole_parse.specs.Part.{IsWhole}
+use Rattle.sd_whole_parse.specs.Part.{IsWhole, left_out_of}
+use Rattle.sd_whole_parse.specs.declared.part.LeftOut.{LeftOut}
 
 -- ---- readings
 
@@ -53,17 +54,26 @@ one_odd a b same = cc
 no_part : {A : Type 0} (a : A) (odd : OddEntry) → part_is a ≡ odd_is odd → ⊥
 no_part a odd same = cc
 
--- the plain parts of what one text spells are one
+-- what one text spells is one
+same_whole : (known : Aliases) (word : List ℕ) (w v : WholeDescriptor) → IsWhole known word w → IsWhole known word v → w ≡ v
+same_whole known word w v x y = (found_is w v [] [] (sym x ∙ y)).0
+
+-- and so is its plain part
 same_part : (known : Aliases) (word : List ℕ) (w v : WholeDescriptor) → IsWhole known word w → IsWhole known word v → plain_part w ≡ plain_part v
-same_part known word w v x y = ap plain_part (found_is w v [] [] (sym x ∙ y)).0
+same_part known word w v x y = ap plain_part (same_whole known word w v x y)
+
+-- a descriptor, and what was left out
+both_one : (a b : DescriptorValue × LeftOut) → a.0 ≡ b.0 → a.1 ≡ b.1 → ◌≡◌ {A = Result (DescriptorValue × LeftOut) LineFault} (Ok a) (Ok b)
+both_one a b first second = λ i. Ok (first i, second i)
 
 -- a text has one descriptor or one fault, whether it may be that of a whole one or not
 one_whole : (known : Aliases) (word : List ℕ) → IsOne (descriptor_in known true word)
-one_whole known word (Ok a) (Ok b) (c, (w, x, part, l)) (d, (v, y, other, m)) = ap Ok (one_part a b (sym part ∙ same_part known word w v x y ∙ other))
-one_whole known word (Ok a) (Err f) (c, (w, x, part, l)) (inl (fault, place, (there, y, at), is)) = absurd cc
-one_whole known word (Ok a) (Err f) (c, (w, x, part, l)) (inr (odd, (t, v, y, none), is)) = absurd (no_part a odd (sym part ∙ same_part known word w v x y ∙ none))
-one_whole known word (Err f) (Ok a) (inl (fault, place, (there, y, at), is)) (c, (w, x, part, l)) = absurd cc
-one_whole known word (Err f) (Ok a) (inr (odd, (t, v, y, none), is)) (c, (w, x, part, l)) = absurd (no_part a odd (sym part ∙ same_part known word w v x y ∙ none))
+one_whole known word (Ok a) (Ok b) (w, x, part, l) (v, y, other, m) =
+    both_one a b (one_part a.0 b.0 (sym part ∙ same_part known word w v x y ∙ other)) (l ∙ ap left_out_of (same_whole known word w v x y) ∙ sym m)
+one_whole known word (Ok a) (Err f) (w, x, part, l) (inl (fault, place, (there, y, at), is)) = absurd cc
+one_whole known word (Ok a) (Err f) (w, x, part, l) (inr (odd, (t, v, y, none), is)) = absurd (no_part a.0 odd (sym part ∙ same_part known word w v x y ∙ none))
+one_whole known word (Err f) (Ok a) (inl (fault, place, (there, y, at), is)) (w, x, part, l) = absurd cc
+one_whole known word (Err f) (Ok a) (inr (odd, (t, v, y, none), is)) (w, x, part, l) = absurd (no_part a.0 odd (sym part ∙ same_part known word w v x y ∙ none))
 one_whole known word (Err f) (Err g) (inl (fault, place, (there, x, at), is)) (inl (other, spot, (rest, y, on), was)) =
     let same = stopped_is fault other there rest (sym x ∙ y) in cc (same.0, same.1, at, on, is, was)
 one_whole known word (Err f) (Err g) (inl (fault, place, (there, x, at), is)) (inr (odd, (t, v, y, none), was)) = absurd cc
@@ -72,10 +82,10 @@ one_whole known word (Err f) (Err g) (inr (odd, (t, v, x, none), is)) (inr (othe
     let same : odd ≡ other = one_odd {A = DescriptorValue} odd other (sym none ∙ same_part known word v w x y ∙ neither) in cc (same, is, was)
 
 one_plain : (known : Aliases) (word : List ℕ) → IsOne (descriptor_in known false word)
-one_plain known word (Ok a) (Ok b) x y = ap Ok (one_value (sddl_in known) word a b x.1.0 y.1.0)
-one_plain known word (Ok a) (Err f) x (inl y) = absurd (no_fault (sddl_in known) word a y.0 y.1 x.1.0 y.2)
+one_plain known word (Ok a) (Ok b) x y = both_one a b (one_value (sddl_in known) word a.0 b.0 x.0 y.0) (x.1 ∙ sym y.1)
+one_plain known word (Ok a) (Err f) x (inl y) = absurd (no_fault (sddl_in known) word a.0 y.0 y.1 x.0 y.2)
 one_plain known word (Ok a) (Err f) x (inr y) = absurd (cc y.1.0)
-one_plain known word (Err f) (Ok a) (inl x) y = absurd (no_fault (sddl_in known) word a x.0 x.1 y.1.0 x.2)
+one_plain known word (Err f) (Ok a) (inl x) y = absurd (no_fault (sddl_in known) word a.0 x.0 x.1 y.0 x.2)
 one_plain known word (Err f) (Ok a) (inr x) y = absurd (cc x.1.0)
 one_plain known word (Err f) (Err g) (inl x) (inl y) =
     let same = one_fault (sddl_in known) word x.0 y.0 x.1 y.1 x.2 y.2 in cc (same.0, same.1, x.3, y.3)
@@ -87,7 +97,7 @@ one_descriptor known true = one_whole known
 one_descriptor known false = one_plain known
 
 -- what a descriptor is for
-described-one : {A : Type 0} (notation : Notation) (word : List ℕ) (f : DescriptorValue → Result A LineFault)
+described-one : {A : Type 0} (notation : Notation) (word : List ℕ) (f : DescriptorValue × LeftOut → Result A LineFault)
     → IsOne (Then (descriptor notation word) (λ d read. read ≡ f d))
 described-one notation word f =
     Then-one (descriptor notation word) (λ d read. read ≡ f d) (one_descriptor notation.aliases notation.whole word) (λ d r s x y. x ∙ sym y)

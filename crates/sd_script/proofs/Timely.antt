@@ -1,6 +1,8 @@
 -- What a line can ask for: an opening where no store is open, and something of a store where one is.
 use Rattle.sd_script.proofs.Cited.{Arguments, Asks, Bool, LineRequest, List, None, Notation, Ok, Open, Option, Reading, ScriptCommand, Some, Value, arith, asks, asks_where, command_of, false, inl, inr, is_untimely, line_asks, not, opens, reads, reads_where, true, words_of, ℕ, ⊤, ◌≡◌, ◌▸◌}
-use Rattle.sd_script.specs.Command.{asks_groups, deletes, posed}
+use Rattle.std.proofs.Common.{refl}
+use Rattle.sd_edit.specs.declared.edit.Edit.{Edit}
+use Rattle.sd_script.specs.Command.{asks_groups, deletes, posed, stored}
 
 -- all that a reading can give opens a store, or nothing that it can
 abbrev Gives : Bool → Reading LineRequest → Type 0
@@ -20,10 +22,15 @@ reads_open b notation (Asks asked) opens_it a is = cc (opens_it, is)
 reads_open b notation (argument ▸ next) opens_it a (inl (value, read, more)) = reads_open b notation (next value) (opens_it value) a more
 reads_open b notation (argument ▸ next) opens_it a (inr (fault, read, is)) = absurd (cc (is))
 
+-- an edit by a descriptor opens none
+stored_opens : (is_all : Bool) (e : Edit) → opens (stored is_all e) ≡ false
+stored_opens true e = refl
+stored_opens false e = refl
+
 -- the command that opens a store is the one that is untimely where one is open
 words_open : (name : ScriptCommand) (arguments : List (List ℕ)) → OpensIfSome (is_untimely true name) (asks name arguments)
 unfolding posed asks_groups deletes
-words_open name arguments = grind arith
+words_open name arguments = grind (arith, stored_opens)
 
 command_opens : (notation : Notation) (is_open : Bool) (name : ScriptCommand) (arguments : Option Arguments) → OpensIfSome (is_untimely true name) arguments
     → Gives (not is_open) (reads_where notation is_open name arguments)

@@ -1,8 +1,9 @@
 -- What is done is made, also where its answer can't be told.
-use Rattle.sd_script.proofs.Cited.{Asking, Err, Importing, IsAnswered, IsDone, IsMade, IsTold, IsUntold, LineOf, LineRequest, List, Moving, Ok, OnErr, Opened, Result, Session, cases_Bool, inl, inr, is_silent, ℕ}
+use Rattle.sd_script.proofs.Cited.{Asking, Err, Importing, IsAnswered, IsDone, IsMade, IsTold, IsUntold, LineOf, LineRequest, List, Moving, Ok, OnErr, Opened, Result, Session, Trimming, cases_Bool, inl, inr, is_silent, ℕ}
 
 made : (old new : Session) (asked : LineRequest) (answer : List LineOf) → IsDone old asked answer new → IsMade old asked new
 made (Opened notation m) new (Asking request) answer (reply, machine, steps, said, is) = (reply, machine, steps, is)
+made (Opened notation m) new (Trimming edit) answer (reply, machine, steps, said, is) = (reply, machine, steps, is)
 made (Opened notation m) new (Importing edit path given) answer (reply, machine, steps, said, is) = (reply, machine, steps, is)
 made (Opened notation m) new (Moving edit source target) answer (reply, machine, steps, said, is) = (reply, machine, steps, is)
 made old new asked answer done = (answer, done)

@@ -26,8 +26,10 @@ use Rattle.sd_script.specs.declared.fault.LineFault.{LineFault}
 use Rattle.sd_script.specs.declared.fault.LineFault.TheVariants.{Number, Path, Sid, Sddl, Entry, Parts, Mask, Token}
 use Rattle.sd_script.specs.declared.script_options.Notation.{Notation}
 use Rattle.sd_script.specs.declared.paths.PathSpelling.{PathSpelling}
+use Rattle.sd_script.specs.declared.importing.Given.{Given}
 use Rattle.sd_whole.specs.declared.plain.OddEntry.{OddEntry}
-use Rattle.sd_whole_parse.specs.Part.{IsOddPart, IsPart, IsPartFault}
+use Rattle.sd_whole_parse.specs.Part.{IsOddPart, IsPartFault, IsTextPart, is_nothing}
+use Rattle.sd_whole_parse.specs.declared.part.LeftOut.{LeftOut}
 
 -- the decimal digits of this number, which has 64 bits
 abbrev pub IsNumber : List ℕ → ℕ → Type 0
@@ -53,15 +55,15 @@ token notation user words = SomeOr (IsToken notation.aliases user words) Token
 abbrev pub base : Notation → List (List ℕ) → Reading (List (SidValue × GroupState))
 base notation words = SomeOr (AreGroups notation.aliases words) Token
 
--- a descriptor, or the plain part of a whole one; or the first fault of its text, at its place, or an entry that has no
--- plain form
-abbrev pub descriptor_in : Aliases → (whole : Bool) → List ℕ → Reading DescriptorValue
-descriptor_in known whole word (Ok d) = (left_out : Bool) × IsPart known whole word d left_out
+-- a descriptor, or the plain part of a whole one, and what was left out; or the first fault of its text, at its place,
+-- or an entry that has no plain form
+abbrev pub descriptor_in : Aliases → (whole : Bool) → List ℕ → Reading (DescriptorValue × LeftOut)
+descriptor_in known whole word (Ok d) = IsTextPart known whole word d.0 d.1
 descriptor_in known whole word (Err told) =
     ((fault : TextFault) × (place : ℕ) × IsPartFault known whole word fault place × (told ≡ Sddl fault place))
     ⊎ ((odd : OddEntry) × IsOddPart known whole word odd × (told ≡ Entry odd))
 
-abbrev pub descriptor : Notation → List ℕ → Reading DescriptorValue
+abbrev pub descriptor : Notation → List ℕ → Reading (DescriptorValue × LeftOut)
 descriptor notation = descriptor_in notation.aliases notation.whole
 
 -- an owner, a group and a DACL, where both are there
@@ -74,18 +76,24 @@ abbrev pub without_parts : Option SidValue → Option SidValue → NodeDacl → 
 without_parts None None dacl = Ok dacl
 without_parts owner group dacl = Err Parts
 
-abbrev pub node_of : DescriptorValue → Result RootSpec LineFault
-node_of d = with_parts d.owner d.group (own_dacl d.protected d.dacl)
+-- a value with another, if there is one
+abbrev pub beside : {A B : Type 0} → B → Result A LineFault → Result (A × B) LineFault
+beside b (Ok a) = Ok (a, b)
+beside b (Err fault) = Err fault
 
-abbrev pub dacl_of : DescriptorValue → Result NodeDacl LineFault
-dacl_of d = without_parts d.owner d.group (own_dacl d.protected d.dacl)
+-- what a node is given, and whether that is all that the text says
+abbrev pub node_of : DescriptorValue × LeftOut → Result (RootSpec × Bool) LineFault
+node_of d = beside (is_nothing d.1) (with_parts d.0.owner d.0.group (own_dacl d.0.protected d.0.dacl))
+
+abbrev pub dacl_of : DescriptorValue × LeftOut → Result (NodeDacl × Bool) LineFault
+dacl_of d = beside (is_nothing d.1) (without_parts d.0.owner d.0.group (own_dacl d.0.protected d.0.dacl))
 
 -- the text of a descriptor with an owner and a group
-abbrev pub node : Notation → List ℕ → Reading RootSpec
+abbrev pub node : Notation → List ℕ → Reading (RootSpec × Bool)
 node notation word = Then (descriptor notation word) (λ d read. read ≡ node_of d)
 
 -- the text of a descriptor with neither
-abbrev pub dacl : Notation → List ℕ → Reading NodeDacl
+abbrev pub dacl : Notation → List ℕ → Reading (NodeDacl × Bool)
 dacl notation word = Then (descriptor notation word) (λ d read. read ≡ dacl_of d)
 
 -- ---- a descriptor that a node had elsewhere
@@ -105,13 +113,13 @@ abbrev pub given_in : Dacl → Option (List Ace)
 given_in dacls.Absent = None
 given_in dacl = Some (entries_in dacl)
 
-abbrev pub with_given : Option (List Ace) → Result RootSpec LineFault → Result (RootSpec × Option (List Ace)) LineFault
-with_given given (Ok node) = Ok (node, given)
-with_given given (Err fault) = Err fault
+-- what its text gives to compare the node with
+abbrev pub given_of : DescriptorValue × LeftOut → Given
+given_of d = record { entries = given_in d.0.dacl; is_all = is_nothing d.1 }
 
-abbrev pub import_of : DescriptorValue → Result (RootSpec × Option (List Ace)) LineFault
-import_of d = with_given (given_in d.dacl) (with_parts d.owner d.group (imported_dacl d.protected d.dacl))
+abbrev pub import_of : DescriptorValue × LeftOut → Result (RootSpec × Given) LineFault
+import_of d = beside (given_of d) (with_parts d.0.owner d.0.group (imported_dacl d.0.protected d.0.dacl))
 
 -- the text of such a descriptor, with an owner and a group
-abbrev pub imported : Notation → List ℕ → Reading (RootSpec × Option (List Ace))
+abbrev pub imported : Notation → List ℕ → Reading (RootSpec × Given)
 imported notation word = Then (descriptor notation word) (λ d read. read ≡ import_of d)

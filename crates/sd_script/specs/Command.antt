@@ -1,5 +1,5 @@
 -- What a line asks for: the table of commands.
-use Rattle.std.specs.Prelude.{◌≡◌, ℕ, Bool, not, ◌==◌, MatchBool, if◌then◌else◌, ◌⊎◌, List, [], ◌∷◌, length}
+use Rattle.std.specs.Prelude.{◌≡◌, ℕ, Bool, true, false, not, ◌==◌, MatchBool, if◌then◌else◌, ◌⊎◌, List, [], ◌∷◌, length}
 use Rattle.std.specs.Prelude.{Option, Some, None, Result, Ok, Err, option_map, codes, bytes_eq}
 use Rattle.std.specs.List.{list_any}
 use Rattle.std.specs.Str.{IsUtf8}
@@ -22,7 +22,7 @@ use Rattle.sd_script.specs.Lines.{words_of}
 use Rattle.sd_answer.specs.Word.{texts}
 use Rattle.sd_script.specs.declared.line_request.LineRequest.{LineRequest}
 use Rattle.sd_script.specs.declared.line_request.LineRequest.TheVariants.{Opening, Asking, AskingNode}
-use Rattle.sd_script.specs.declared.line_request.LineRequest.TheVariants.{Viewing, Importing, Moving}
+use Rattle.sd_script.specs.declared.line_request.LineRequest.TheVariants.{Trimming, Viewing, Importing, Moving}
 use Rattle.sd_script.specs.declared.line_request.GroupsQuestion.{GroupsQuestion}
 use Rattle.sd_script.specs.declared.line_request.GroupsQuestion.TheVariants as granted
 use Rattle.sd_script.specs.declared.line_request.TokenQuestion.{TokenQuestion}
@@ -36,7 +36,7 @@ use Rattle.sd_script.specs.declared.command.ScriptCommand.TheVariants.{ListNodes
 use Rattle.sd_script.specs.declared.command.ScriptCommand.TheVariants.{ImportNode, Delete}
 use Rattle.sd_script.specs.declared.fault.LineFault.TheVariants as faults
 use Rattle.sd_script.specs.declared.fault.LineStop.{LineStop}
-use Rattle.sd_acl.specs.declared.ace.Ace.{Ace}
+use Rattle.sd_script.specs.declared.importing.Given.{Given}
 use Rattle.sd_script.specs.declared.script_options.Notation.{Notation}
 use Rattle.sd_script.specs.declared.view.ViewRequest.{ViewRequest}
 use Rattle.sd_script.specs.declared.listing.NodeFilter.TheVariants.{Granting}
@@ -57,9 +57,9 @@ Value (Number word) = ℕ
 Value (Path word) = Names
 Value (Sid word) = SidValue
 Value (Mask word) = ℕ
-Value (Node word) = RootSpec
-Value (Dacl word) = NodeDacl
-Value (Imported word) = RootSpec × Option (List Ace)
+Value (Node word) = RootSpec × Bool
+Value (Dacl word) = NodeDacl × Bool
+Value (Imported word) = RootSpec × Given
 Value (Token user words) = TokenValue
 Value (Groups words) = List (SidValue × GroupState)
 
@@ -123,9 +123,22 @@ posed question reader at user asked words =
     Number reader ▸ λ i. Path at ▸ λ p. Sid user ▸ λ s. Mask asked ▸ λ m. Token s words ▸ λ t.
     Asks (poses question i p t m)
 
+-- an edit by the descriptor of a text, which has all that the text says, or something of it was left out
+abbrev pub stored : (is_all : Bool) → Edit → LineRequest
+stored true e = Asking (requests.Edit e)
+stored false e = Trimming e
+
+-- a store with the descriptor of a text
+abbrev pub opens_with : List ℕ → List ℕ → Arguments
+opens_with readers sddl = Number readers ▸ λ n. Node sddl ▸ λ root. Asks (Opening n root.0 root.1)
+
 -- a node of this kind, with the descriptor of a text
 abbrev pub adds : NodeKind → List ℕ → List ℕ → Arguments
-adds kind at sddl = Path at ▸ λ p. Node sddl ▸ λ n. edit (addition_of kind p (row_of kind n))
+adds kind at sddl = Path at ▸ λ p. Node sddl ▸ λ n. Asks (stored n.1 (addition_of kind p (row_of kind n.0)))
+
+-- the DACL of a text
+abbrev pub sets_dacl : List ℕ → List ℕ → Arguments
+sets_dacl at sddl = Path at ▸ λ p. Dacl sddl ▸ λ d. Asks (stored d.1 (edits.SetDacl p d.0))
 
 -- what a node that comes from elsewhere asks for
 abbrev pub imports : List ℕ → List ℕ → NodeKind → Arguments
@@ -153,12 +166,12 @@ deletes reader at user words =
 
 -- each other command on these arguments, where they are as many as it takes
 abbrev pub asks_taking : ScriptCommand → List (List ℕ) → Option Arguments
-asks_taking Open (readers ∷ sddl ∷ []) = Some (Number readers ▸ λ n. Node sddl ▸ λ root. Asks (Opening n root))
+asks_taking Open (readers ∷ sddl ∷ []) = Some (opens_with readers sddl)
 asks_taking AddContainer (at ∷ sddl ∷ []) = Some (adds Container at sddl)
 asks_taking AddObject (at ∷ sddl ∷ []) = Some (adds Object at sddl)
 asks_taking SetOwner (at ∷ owner ∷ []) = Some (Path at ▸ λ p. Sid owner ▸ λ s. edit (edits.SetOwner p s))
 asks_taking SetGroup (at ∷ group ∷ []) = Some (Path at ▸ λ p. Sid group ▸ λ s. edit (edits.SetGroup p s))
-asks_taking SetDacl (at ∷ sddl ∷ []) = Some (Path at ▸ λ p. Dacl sddl ▸ λ d. edit (edits.SetDacl p d))
+asks_taking SetDacl (at ∷ sddl ∷ []) = Some (sets_dacl at sddl)
 asks_taking Remove (at ∷ []) = Some (Path at ▸ λ p. edit (edits.Remove p))
 asks_taking Protect (at ∷ []) = Some (Path at ▸ λ p. edit (edits.ProtectKeeping p))
 asks_taking Move (source ∷ target ∷ []) = Some (moves source target)

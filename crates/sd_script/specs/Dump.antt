@@ -32,7 +32,7 @@ use Rattle.sd_script.specs.declared.script_options.Notation.{Notation}
 
 -- the root is made by an opening, for so many readers
 abbrev pub making : ℕ → Names → NodeRow → LineRequest
-making readers [] row = Opening readers (root_of row)
+making readers [] row = Opening readers (root_of row) true
 making readers (name ∷ names) row = Asking (requests.Edit (addition_of row.kind (name ∷ names) row))
 
 abbrev pub adding_form : NodeKind → Form

@@ -9,8 +9,7 @@ use Rattle.sd_edit.specs.Starts.{IsReaderCount, IsStartError}
 use Rattle.sd_edit.specs.declared.request.Reply.{Reply}
 use Rattle.sd_edit.specs.declared.request.Request.TheVariants.{Edit}
 use Rattle.sd_edit.specs.declared.start.StartError.{StartError}
-use Rattle.sd_answer.specs.declared.forms.TheConstants.{OPENED}
-use Rattle.sd_line.specs.Line.{LineOf, form, line_with}
+use Rattle.sd_line.specs.Line.{LineOf, line_with}
 use Rattle.sd_script.specs.Command.{line_asks}
 use Rattle.sd_script.specs.Expect.{expect_line, expects, is_met, last_after}
 use Rattle.sd_script.specs.Fault.{Reading, line_of_fault}
@@ -18,12 +17,12 @@ use Rattle.sd_script.specs.Importing.{IsImported, entries_at}
 use Rattle.sd_script.specs.Lines.{is_silent, wants_lines}
 use Rattle.sd_script.specs.Moving.{IsMoved}
 use Rattle.sd_script.specs.Question.{IsSeen}
-use Rattle.sd_script.specs.Reply.{alone, counted_line, reply_line, start_error_line}
+use Rattle.sd_script.specs.Reply.{alone, opened_line, reply_line, start_error_line, trimmed_line}
 use Rattle.sd_script.specs.ScriptCounts.{no_lines, tallied}
 use Rattle.sd_script.specs.View.{IsViewed}
 use Rattle.sd_script.specs.declared.line_request.LineRequest.{LineRequest}
 use Rattle.sd_script.specs.declared.line_request.LineRequest.TheVariants.{Opening as Opens, Asking, AskingNode}
-use Rattle.sd_script.specs.declared.line_request.LineRequest.TheVariants.{Viewing, Importing, Moving}
+use Rattle.sd_script.specs.declared.line_request.LineRequest.TheVariants.{Trimming, Viewing, Importing, Moving}
 use Rattle.sd_script.specs.declared.script_state.ScriptState.{ScriptState}
 use Rattle.sd_script.specs.declared.fault.LineFault.{LineFault}
 use Rattle.sd_script.specs.declared.script_options.ScriptOptions.{ScriptOptions}
@@ -47,28 +46,32 @@ opening_in options root = opening_within options.mapping root options.limits
 
 -- what is asked opens a store
 abbrev pub opens : LineRequest → Bool
-opens (Opens readers root) = true
+opens (Opens readers root is_all) = true
 opens asked = false
 
 -- what a line asks for where this stands
 abbrev pub line_asks_in : Session → List ℕ → Reading LineRequest
 line_asks_in s line = line_asks (script_options_of s).notation (is_open s) line
 
--- a store with this root is opened in this manner for so many readers, or refused; after a refusal none is open
-abbrev pub IsOpened : ScriptOptions → ℕ → RootSpec → List LineOf → Session → Type 0
-IsOpened options readers root answer new =
+-- a store with this root, which is all that its text says or not, is opened in this manner for so many readers, or
+-- refused; after a refusal none is open
+abbrev pub IsOpened : ScriptOptions → ℕ → RootSpec → Bool → List LineOf → Session → Type 0
+IsOpened options readers root is_all answer new =
     (IsReaderCount readers × (root_refusal (opening_in options root) ≡ None)
-    × (answer ≡ counted_line (form OPENED) readers ∷ [])
+    × (answer ≡ opened_line is_all readers ∷ [])
     × (new ≡ Opened options.notation (started (opening_in options root) readers)))
     ⊎ ((error : StartError) × IsStartError error readers (root_refusal (opening_in options root))
     × (alone (start_error_line error) ≡ Some answer) × (new ≡ Closed options))
 
 -- what is asked of a store that is open is done: the lines of the answer, and what stands then
 abbrev pub IsDone : Session → LineRequest → List LineOf → Session → Type 0
-IsDone old (Opens readers root) answer new = IsOpened (script_options_of old) readers root answer new
+IsDone old (Opens readers root is_all) answer new = IsOpened (script_options_of old) readers root is_all answer new
 IsDone (Opened notation old) (Asking request) answer new =
     (reply : Reply) × (machine : Machine) × Steps old request reply machine
     × (alone (reply_line reply) ≡ Some answer) × (new ≡ Opened notation machine)
+IsDone (Opened notation old) (Trimming edit) answer new =
+    (reply : Reply) × (machine : Machine) × Steps old (Edit edit) reply machine
+    × (alone (trimmed_line reply) ≡ Some answer) × (new ≡ Opened notation machine)
 IsDone (Opened notation old) (AskingNode reader path question) answer new =
     IsSeen notation old reader path question answer new
 IsDone (Opened notation old) (Viewing view) answer new =
@@ -120,6 +123,8 @@ pub record IsNext (old : ScriptState) (line : List ℕ) (answer : List LineOf) (
 abbrev pub IsMade : Session → LineRequest → Session → Type 0
 IsMade (Opened notation old) (Asking request) new =
     (reply : Reply) × (machine : Machine) × Steps old request reply machine × (new ≡ Opened notation machine)
+IsMade (Opened notation old) (Trimming edit) new =
+    (reply : Reply) × (machine : Machine) × Steps old (Edit edit) reply machine × (new ≡ Opened notation machine)
 IsMade (Opened notation old) (Importing edit path given) new =
     (reply : Reply) × (machine : Machine) × Steps old (Edit edit) reply machine × (new ≡ Opened notation machine)
 IsMade (Opened notation old) (Moving edit source target) new =

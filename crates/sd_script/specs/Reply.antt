@@ -1,5 +1,5 @@
 -- The line of each reply of a store.
-use Rattle.std.specs.Prelude.{ℕ, List, [], ◌∷◌, Option, Some, None, option_map, codes}
+use Rattle.std.specs.Prelude.{ℕ, Bool, true, false, List, [], ◌∷◌, Option, Some, None, option_map, codes}
 use Rattle.sd_acl.specs.Descriptor.{DescriptorValue, descriptor_of}
 use Rattle.sd_check.specs.Token.{TokenValue}
 use Rattle.sd_sid.specs.Mapping.{MappingValue}
@@ -14,9 +14,10 @@ use Rattle.sd_edit.specs.declared.start.StartError.{StartError}
 use Rattle.sd_edit.specs.declared.start.StartError.TheVariants as starts
 use Rattle.sd_answer.specs.VerdictLines.{verdict_line}
 use Rattle.sd_answer.specs.Why.{why_lines}
-use Rattle.sd_answer.specs.declared.forms.TheConstants.{LEARNED, NO_NODE, NO_NOTICE, NO_READER, OK, PUBLISHED}
+use Rattle.sd_answer.specs.declared.forms.TheConstants.{LEARNED, NO_NODE, NO_NOTICE, NO_READER, OK, OPENED, PUBLISHED}
 use Rattle.sd_answer.specs.declared.forms.TheConstants.{REFUSED, REFUSED_NAMED, SEEN, SHOWN, TOLD}
-use Rattle.sd_line.specs.Line.{Form, LineOf, form, line_of, part_of, with_head}
+use Rattle.sd_script.specs.declared.forms.TheConstants.{DIFFERS}
+use Rattle.sd_line.specs.Line.{Form, LineOf, form, line_of, line_with, part_of, with_head}
 use Rattle.sd_line.specs.declared.line.Value.TheVariants.{Descriptor, Number, Text, Words}
 
 -- a line without a value
@@ -30,6 +31,16 @@ counted_line f n = line_of f (Number n ∷ [])
 -- `ok`, and what it says of entries
 abbrev pub ok_line : List (List ℕ) → LineOf
 ok_line words = line_of (form OK) (Words words ∷ [])
+
+-- that a node differs from the text of its descriptor
+abbrev pub differs : List (List ℕ)
+differs = codes "differs" ∷ []
+
+-- a store is opened whose root has all that the text of its descriptor says, or something of it was left out
+abbrev pub opened_line : (is_all : Bool) → ℕ → LineOf
+opened_line true readers = counted_line (form OPENED) readers
+opened_line false readers = line_with (form OPENED).0
+    (part_of (form OPENED).1 (Number readers ∷ []) ∷ part_of DIFFERS.now (Words differs ∷ []) ∷ [])
 
 abbrev pub refused_line : EditRefusal → LineOf
 refused_line refusal =
@@ -60,7 +71,12 @@ reply_line NoReader = Some (plain_line (form NO_READER))
 reply_line NoNotice = Some (plain_line (form NO_NOTICE))
 reply_line Memory = None
 
--- nor has the error that a store of one thread never returns
+-- the line of a reply to an edit by a descriptor of whose text something was left out
+abbrev pub trimmed_line : Reply → Option LineOf
+trimmed_line Edited = Some (ok_line differs)
+trimmed_line reply = reply_line reply
+
+-- the error that a store of one thread never returns has no line either
 abbrev pub start_error_line : StartError → Option LineOf
 start_error_line starts.Readers = Some (line_of (form REFUSED) (Text (codes "readers") ∷ []))
 start_error_line (starts.Root refusal) = Some (refused_line refusal)

@@ -31,11 +31,12 @@ first_is test (first ∷ more) = test first
 abbrev pub tells_fault : List LineOf → Bool
 tells_fault answer = first_is (λ l. is_of (codes "fault") l || is_of (codes "refused") l) answer
 
--- the answer is `ok` with this word
+-- the answer is `ok` or `opened` with this word
 abbrev pub is_ok_and : List ℕ → List LineOf → Bool
-is_ok_and word answer = first_is (λ l. is_of (codes "ok") l && says word l) answer
+is_ok_and word answer = first_is (λ l. (is_of (codes "ok") l || is_of (codes "opened") l) && says word l) answer
 
--- the answer says that an imported node inherits otherwise than it did
+-- the answer says that a node differs from the text of its descriptor: something of it was left out, or an imported
+-- node inherits otherwise than it did
 abbrev pub tells_difference : List LineOf → Bool
 tells_difference answer = is_ok_and (codes "differs") answer
 

@@ -116,7 +116,8 @@ impl Answer {
         push_printed(alloc, out, style, tag, &self.ends)
     }
 
-    /// What is counted with the line that this answers. Of the lines that are made none is a fault, a refusal or `ok`.
+    /// What is counted with the line that this answers. Of the lines that are made none is a fault, a refusal, `ok` or
+    /// `opened`.
     pub(crate) fn counted(&self, counts: ScriptCounts, line: &[u8]) -> ScriptCounts
         ensures { result ≡ tallied line.now self.now counts }
     {

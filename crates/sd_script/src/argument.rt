@@ -10,15 +10,13 @@ use crate::fault::{LineFault, LineStop};
 use crate::paths::path_in;
 use crate::script_options::Notation;
 use crate::view::Groups;
-use sd_acl::Descriptor;
 use sd_answer::{TokenError, read_base, read_token};
 use sd_check::Token;
 use sd_line::read_mask_in;
 use sd_sid::{Mask, Sid};
 use sd_text::read_sid_text_in;
 use sd_tree::{NodeDacl, Path, RootSpec};
-use sd_whole::PlainPart;
-use sd_whole_parse::{PartError, read_sddl_part};
+use sd_whole_parse::{PartError, TextPart, read_text_part};
 use std::alloc::Global;
 
 /// A run of decimal digits with a value below 2^64.
@@ -85,13 +83,14 @@ impl Parser {
         path_in(self.alloc, self.notation.paths, word)
     }
 
-    /// The text of a descriptor ([MS-DTYP] 2.5.1), or the plain part of it.
-    pub(crate) fn descriptor(self, word: &str) -> Result<Descriptor, LineStop>
-        ensures read { IfOk result (λ d. descriptor self.notation word.now (Ok (descriptor_of d))) }
+    /// The text of a descriptor ([MS-DTYP] 2.5.1), or the plain part of it, and what was left out.
+    pub(crate) fn descriptor(self, word: &str) -> Result<TextPart, LineStop>
+        ensures read { IfOk result
+            (λ part. descriptor self.notation word.now (Ok (descriptor_of part.descriptor, part.left_out))) }
         ensures stop { IfErr result (λ stop. UnlessMemory (descriptor self.notation word.now) (Err stop)) }
     {
-        match read_sddl_part(self.alloc, self.notation.aliases, self.notation.whole, word) {
-            Ok(PlainPart { descriptor, .. }) => Ok(descriptor),
+        match read_text_part(self.alloc, self.notation.aliases, self.notation.whole, word) {
+            Ok(part) => Ok(part),
             Err(PartError::Fault { fault, place }) => {
                 Err(LineStop::Fault(LineFault::Sddl { fault, place }))
             }
@@ -100,26 +99,33 @@ impl Parser {
         }
     }
 
-    /// The text of a descriptor with an owner and a group.
-    pub(crate) fn node(self, word: &str) -> Result<RootSpec, LineStop>
+    /// The text of a descriptor with an owner and a group: what it gives a node, and whether that is all that it says.
+    pub(crate) fn node(self, word: &str) -> Result<(RootSpec, bool), LineStop>
         ensures { UnlessMemory (node self.notation word.now) result }
     {
-        let descriptor = self.descriptor(word)?;
+        let TextPart {
+            descriptor,
+            left_out,
+        } = self.descriptor(word)?;
         let (Some(owner), Some(group)) = (descriptor.owner, descriptor.group) else {
             return Err(LineStop::Fault(LineFault::Parts));
         };
         let dacl = NodeDacl::of_descriptor(self.alloc, &descriptor)?;
-        Ok(RootSpec { owner, group, dacl })
+        Ok((RootSpec { owner, group, dacl }, left_out.is_nothing()))
     }
 
-    /// The text of a descriptor with neither.
-    pub(crate) fn dacl(self, word: &str) -> Result<NodeDacl, LineStop>
+    /// The text of a descriptor with neither: the DACL, and whether it is all that the text says.
+    pub(crate) fn dacl(self, word: &str) -> Result<(NodeDacl, bool), LineStop>
         ensures { UnlessMemory (dacl self.notation word.now) result }
     {
-        let descriptor = self.descriptor(word)?;
-        match (descriptor.owner, descriptor.group) {
-            (None, None) => Ok(NodeDacl::of_descriptor(self.alloc, &descriptor)?),
-            _ => Err(LineStop::Fault(LineFault::Parts)),
-        }
+        let TextPart {
+            descriptor,
+            left_out,
+        } = self.descriptor(word)?;
+        let (None, None) = (descriptor.owner, descriptor.group) else {
+            return Err(LineStop::Fault(LineFault::Parts));
+        };
+        let dacl = NodeDacl::of_descriptor(self.alloc, &descriptor)?;
+        Ok((dacl, left_out.is_nothing()))
     }
 }

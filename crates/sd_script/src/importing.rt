@@ -1,5 +1,5 @@
 //! A node that comes with the descriptor that it had elsewhere.
-ghost use Rattle.std.specs.Prelude.{◌≡◌, [], IfOk, Some, filter, map};
+ghost use Rattle.std.specs.Prelude.{◌≡◌, ◌&&◌, [], IfOk, Some, filter, map};
 ghost use Rattle.std.specs.Bool.{Decides};
 ghost use Rattle.std.specs.Option.{unwrap_or};
 ghost use Rattle.sd_acl.specs.Canonical.{is_explicit, is_inherited};
@@ -19,7 +19,17 @@ use sd_acl::{Ace, Dacl, Descriptor, canonicalize};
 use sd_line::Line;
 use sd_tree::{Edit, Entries, NodeDacl, NodeKind, Path, RootSpec, Tree, same_entries};
 use sd_versions::Reply;
+use sd_whole_parse::TextPart;
 use std::alloc::{AllocError, Global};
+
+/// What the text of a descriptor gives to compare its node with.
+#[derive(Debug, Drop)]
+pub struct Given {
+    /// All entries that the node had, if it had a DACL.
+    pub entries: Option<Entries>,
+    /// Whether nothing of the text was left out.
+    pub is_all: bool,
+}
 
 impl Parser {
     /// A node of the kind with the descriptor of a text, and the entries that it had elsewhere.
@@ -36,18 +46,22 @@ impl Parser {
         }))
     }
 
-    /// The text of a descriptor with an owner and a group, as a node had it: what it gives a node, and all its entries,
-    /// if it has a DACL.
-    fn imported(self, word: &str) -> Result<(RootSpec, Option<Entries>), LineStop>
+    /// The text of a descriptor with an owner and a group, as a node had it: what it gives a node, and what to compare
+    /// that with.
+    fn imported(self, word: &str) -> Result<(RootSpec, Given), LineStop>
         ensures { UnlessMemory (imported self.notation word.now) result }
     {
-        let descriptor = self.descriptor(word)?;
+        let TextPart {
+            descriptor,
+            left_out,
+        } = self.descriptor(word)?;
         let (Some(owner), Some(group)) = (descriptor.owner, descriptor.group) else {
             return Err(LineStop::Fault(LineFault::Parts));
         };
         let dacl = imported_dacl(self.alloc, &descriptor)?;
-        let given = given_in(self.alloc, &descriptor.dacl)?;
-        Ok((RootSpec { owner, group, dacl }, given))
+        let entries = given_in(self.alloc, &descriptor.dacl)?;
+        let is_all = left_out.is_nothing();
+        Ok((RootSpec { owner, group, dacl }, Given { entries, is_all }))
     }
 }
 
@@ -104,13 +118,13 @@ fn explicit_in(alloc: Global, entries: &[Ace]) -> Result<Vec<Ace>, AllocError>
 }
 
 /// The answer to an edit that imports the node of a path. Of one that was accepted it says whether the node, in the
-/// tree of all accepted edits, inherits what it had inherited elsewhere, where it had a DACL, and whether its own
-/// entries have the order that they had there. Out of memory has none.
+/// tree of all accepted edits, has all that its text says, and inherits what it had inherited elsewhere, where it had a
+/// DACL, and whether its own entries have the order that they had there. Out of memory has none.
 pub fn import_answer(
     alloc: Global,
     tree: &Tree,
     path: &Path,
-    given: &Option<Entries>,
+    given: &Given,
     reply: Reply,
 ) -> Result<Vec<Line>, AllocError>
     ensures { (m : Machine) → m.opening ≡ tree.now.opening → accepted m ≡ tree.now.journal
@@ -119,9 +133,9 @@ pub fn import_answer(
     let line = match reply {
         Reply::Edited => {
             let stored = entries_at(alloc, tree, path)?;
-            let inherits = inherits_alike(alloc, &stored, given)?;
-            let is_ordered = is_ordered_alike(alloc, &stored, given)?;
-            ok_line(alloc, imported_words(inherits, is_ordered))?
+            let inherits = inherits_alike(alloc, &stored, &given.entries)?;
+            let is_ordered = is_ordered_alike(alloc, &stored, &given.entries)?;
+            ok_line(alloc, imported_words(given.is_all, inherits, is_ordered))?
         }
         reply => reply_line(alloc, reply)?,
     };
@@ -166,14 +180,18 @@ fn entries_or_none(given: &Option<Entries>) -> &[Ace]
     }
 }
 
-fn imported_words(inherits_alike: bool, is_ordered_alike: bool) -> &'static [&'static str]
-    ensures { map (λ word. word.now) result.now ≡ imported_words inherits_alike is_ordered_alike }
+fn imported_words(
+    is_all: bool,
+    inherits_alike: bool,
+    is_ordered_alike: bool,
+) -> &'static [&'static str]
+    ensures { map (λ word. word.now) result.now ≡ imported_words (is_all && inherits_alike) is_ordered_alike }
 {
-    match (inherits_alike, is_ordered_alike) {
-        (true, true) => &[],
-        (true, false) => &["reordered"],
-        (false, true) => &["differs"],
-        (false, false) => &["differs", "reordered"],
+    match (is_all, inherits_alike, is_ordered_alike) {
+        (true, true, true) => &[],
+        (true, true, false) => &["reordered"],
+        (_, _, true) => &["differs"],
+        (_, _, false) => &["differs", "reordered"],
     }
 }
 

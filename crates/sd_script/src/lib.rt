@@ -25,6 +25,7 @@ mod deletion;
 mod dump;
 mod expect;
 mod fault;
+mod forms;
 mod ids;
 mod importing;
 mod laws;
@@ -43,6 +44,7 @@ mod script_counts;
 mod script_options;
 mod script_state;
 mod session;
+mod storing;
 mod streams;
 mod view;
 mod who;
@@ -52,7 +54,7 @@ pub use boxed::{BoxedRequest, BoxedToken};
 pub use expect::{LastAnswer, expects};
 pub use fault::{LineFault, LineStop, line_of_fault};
 pub use ids::LINES;
-pub use importing::{entries_at, import_answer};
+pub use importing::{Given, entries_at, import_answer};
 pub use laws::{
     deletes_as_checked, lines_have_one_answer, no_command_without_an_id, only_these_are_granted,
     silent_review_changes_nothing, texts_have_one_output, why_begins_as_check,
@@ -64,7 +66,7 @@ pub use listing::NodeFilter;
 pub use moving::move_answer;
 pub use paths::PathSpelling;
 pub use question::NodeQuestion;
-pub use reply::{alone, counted_line, reply_line, start_error_line};
+pub use reply::{alone, counted_line, opened_line, reply_line, start_error_line, trimmed_line};
 pub use script::push_answer;
 pub use script_counts::ScriptCounts;
 pub use script_options::{Notation, ScriptOptions};

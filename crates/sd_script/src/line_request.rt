@@ -1,6 +1,6 @@
 //! What a line asks for, and how a command's arguments are parsed.
 ghost use Rattle.std.specs.Prelude.{◌≡◌, ◌∷◌, [], Some, Ok, IfOk};
-ghost use Rattle.sd_script.specs.Command.{Parses, adds, asks, asks_groups, asks_of, asks_taking, deletes};
+ghost use Rattle.sd_script.specs.Command.{Parses, asks, asks_groups, asks_of, asks_taking, deletes};
 ghost use Rattle.sd_script.specs.Command.{kind_named, posed, poses};
 ghost use Rattle.sd_script.specs.declared.line_request.LineRequest.TheVariants.{Asking, Viewing};
 ghost use Rattle.sd_edit.specs.declared.request.Request.TheVariants as requests;
@@ -10,25 +10,31 @@ use crate::argument::{Parser, number_in};
 use crate::boxed::{BoxedRequest, BoxedToken};
 use crate::command::{CommandWithArguments, ScriptCommand};
 use crate::fault::LineStop;
+use crate::importing::Given;
 use crate::listing::NodeFilter;
 use crate::question::NodeQuestion;
 use crate::view::{Groups, ViewRequest};
 use sd_check::Token;
 use sd_sid::Mask;
-use sd_tree::{Edit, Entries, NodeKind, Path, RootSpec};
+use sd_tree::{Edit, NodeKind, Path, RootSpec};
 use sd_versions::Request;
 use std::alloc::{AllocError, Global};
 
 /// What a line asks for.
 #[derive(Debug, Drop)]
 pub enum LineRequest {
-    /// A store for so many readers, with this root.
+    /// A store for so many readers, with this root, and whether that is all that its text says.
     Opening {
         readers: u64,
         root: RootSpec,
+        is_all: bool,
     },
-    /// Something of the store that is open.
+    /// Something of the store that is open. Of an edit by a descriptor, the node is given all that the text says.
     Asking(BoxedRequest),
+    /// An edit by a descriptor of whose text something is left out.
+    Trimming {
+        edit: Edit,
+    },
     /// Of the store that is open, what a reader asks about the node of a path.
     AskingNode {
         reader: u64,
@@ -37,11 +43,11 @@ pub enum LineRequest {
     },
     /// A view of the published tree.
     Viewing(ViewRequest),
-    /// A node, and how its entries compare with those that it had elsewhere, where it had a DACL.
+    /// A node, and how it compares with what its text gives.
     Importing {
         edit: Edit,
         path: Path,
-        given: Option<Entries>,
+        given: Given,
     },
     /// A node that is moved, and how its entries compare with those that it had before.
     Moving {
@@ -192,12 +198,9 @@ impl Parser {
         ensures { Parses self.notation (asks_taking name (first.now ∷ second.now ∷ [])) result }
     {
         match name {
-            ScriptCommand::Open => Ok(Some(LineRequest::Opening {
-                readers: number_in(first)?,
-                root: self.node(second)?,
-            })),
-            ScriptCommand::AddContainer => self.added(NodeKind::Container, first, second),
-            ScriptCommand::AddObject => self.added(NodeKind::Object, first, second),
+            ScriptCommand::Open => self.opening(first, second),
+            ScriptCommand::AddContainer => self.adding(NodeKind::Container, first, second),
+            ScriptCommand::AddObject => self.adding(NodeKind::Object, first, second),
             ScriptCommand::SetOwner => Ok(Some(self.edit(Edit::SetOwner {
                 path: self.path(first)?,
                 owner: self.sid(second)?,
@@ -206,10 +209,7 @@ impl Parser {
                 path: self.path(first)?,
                 group: self.sid(second)?,
             })?)),
-            ScriptCommand::SetDacl => Ok(Some(self.edit(Edit::SetDacl {
-                path: self.path(first)?,
-                dacl: self.dacl(second)?,
-            })?)),
+            ScriptCommand::SetDacl => self.setting_dacl(first, second),
             ScriptCommand::Move => self.moving(first, second),
             ScriptCommand::Learn => Ok(Some(self.asking(Request::Learn {
                 reader: number_in(first)?,
@@ -221,15 +221,6 @@ impl Parser {
             })?)),
             _ => Ok(None),
         }
-    }
-
-    /// A node of this kind with the descriptor of a text.
-    fn added(self, kind: NodeKind, path: &str, sddl: &str) -> Parsed
-        ensures { Parses self.notation (Some (adds kind path.now sddl.now)) result }
-    {
-        let path = self.path(path)?;
-        let node = self.node(sddl)?;
-        Ok(Some(self.edit(Edit::addition(kind, path, node))?))
     }
 
     /// What a command with a kind, a path and a descriptor asks for.
@@ -296,7 +287,7 @@ impl Parser {
     }
 
     /// An edit of the store that is open. The only error is out of memory.
-    fn edit(self, edit: Edit) -> Result<LineRequest, AllocError>
+    pub(crate) fn edit(self, edit: Edit) -> Result<LineRequest, AllocError>
         ensures { IfOk result (λ asks. asks ≡ Asking (requests.Edit edit)) }
     {
         self.asking(Request::Edit(edit))

@@ -2,13 +2,14 @@
 ghost use Rattle.std.specs.Prelude.{◌≡◌, ◌∷◌, [], Some, IfOk, map, option_map};
 ghost use Rattle.sd_acl.specs.Descriptor.{descriptor_of};
 ghost use Rattle.sd_line.specs.Line.{form_of};
-ghost use Rattle.sd_script.specs.Reply.{check_line, counted_line, ok_line, plain_line, refused_line, reply_line};
-ghost use Rattle.sd_script.specs.Reply.{seen_line, shown_line, start_error_line};
+ghost use Rattle.sd_script.specs.Reply.{check_line, counted_line, ok_line, opened_line, plain_line, refused_line};
+ghost use Rattle.sd_script.specs.Reply.{reply_line, seen_line, shown_line, start_error_line, trimmed_line};
 
+use crate::forms::DIFFERS;
 use sd_acl::Descriptor;
 use sd_answer::{
-    LEARNED, NO_NODE, NO_NOTICE, NO_READER, OK, PUBLISHED, REFUSED, REFUSED_NAMED, SEEN, SHOWN,
-    TOLD, verdict_line,
+    LEARNED, NO_NODE, NO_NOTICE, NO_READER, OK, OPENED, PUBLISHED, REFUSED, REFUSED_NAMED, SEEN,
+    SHOWN, TOLD, verdict_line,
 };
 use sd_line::{Line, LineForm, Part, Value};
 use sd_tree::{CheckReply, EditRefusal};
@@ -39,6 +40,31 @@ pub fn reply_line(alloc: Global, reply: Reply) -> Result<Line, AllocError>
     }
 }
 
+/// The line of a reply to an edit by a descriptor of whose text something was left out. Out of memory has none: it is an
+/// error.
+pub fn trimmed_line(alloc: Global, reply: Reply) -> Result<Line, AllocError>
+    ensures { IfOk result (λ line. trimmed_line reply ≡ Some line) }
+{
+    match reply {
+        Reply::Edited => ok_line(alloc, &["differs"]),
+        reply => reply_line(alloc, reply),
+    }
+}
+
+/// The line for a store that was opened for so many readers, with a root that has all that the text of its descriptor
+/// says, or not. The only error is out of memory.
+pub fn opened_line(alloc: Global, is_all: bool, readers: u64) -> Result<Line, AllocError>
+    ensures { IfOk result (λ line. line ≡ opened_line is_all readers) }
+{
+    if is_all {
+        return counted_line(alloc, OPENED, readers);
+    }
+    let opened = Part::new(OPENED.1, vec![in alloc; Value::Number(readers)]?);
+    let differs = Value::words(alloc, &["differs"])?;
+    let of_root = Part::new(DIFFERS, vec![in alloc; differs]?);
+    Ok(Line::of(OPENED.0, vec![in alloc; opened, of_root]?))
+}
+
 /// The line for a store that wasn't opened. Out of memory has none: it is an error.
 pub fn start_error_line(alloc: Global, error: StartError) -> Result<Line, AllocError>
     ensures { IfOk result (λ line. start_error_line error ≡ Some line) }
@@ -67,7 +93,7 @@ pub(crate) fn plain_line(alloc: Global, form: LineForm) -> Result<Line, AllocErr
     Line::new(alloc, form, Vec::new(alloc))
 }
 
-/// `ok`, and what it says of entries. The only error is out of memory.
+/// `ok`, and what it says of a node and its entries. The only error is out of memory.
 pub(crate) fn ok_line(alloc: Global, words: &[&str]) -> Result<Line, AllocError>
     ensures { IfOk result (λ line. line ≡ ok_line (map (λ word. word.now) words.now)) }
 {

@@ -39,7 +39,8 @@ fn is_making(asked: &LineRequest, readers: u64, node: &NodeRef<'_>) -> bool
         LineRequest::Opening {
             readers: some,
             root,
-        } => { is_root && *some == readers && is_root_of(root, node) }
+            is_all,
+        } => { is_root && *some == readers && *is_all && is_root_of(root, node) }
         LineRequest::Asking(asked) => match asked.as_request() {
             Request::Edit(edit) => !is_root && is_addition(edit, node),
             _ => false,

@@ -15,12 +15,11 @@ use crate::line::read_line;
 use crate::line_request::LineRequest;
 use crate::lines::{is_silent, wants_lines};
 use crate::moving::moved;
-use crate::reply::{alone, counted_line, reply_line, start_error_line};
+use crate::reply::{alone, opened_line, reply_line, start_error_line, trimmed_line};
 use crate::script_options::Notation;
 use crate::script_state::ScriptState;
 use crate::session::Session;
 use crate::view::view_answer;
-use sd_answer::OPENED;
 use sd_line::{Line, Style, Tag, push_printed};
 use sd_versions::{Desk, Request};
 use std::alloc::{AllocError, Global};
@@ -98,13 +97,18 @@ fn open_store(
     ensures done { IfOk result (λ answer. IsDone session.old asked answer.items session.new) }
     ensures failed { OnErr result (session.new ≡ session.old) }
 {
-    let LineRequest::Opening { readers, root } = asked else {
+    let LineRequest::Opening {
+        readers,
+        root,
+        is_all,
+    } = asked
+    else {
         unreachable!()
     };
     let options = session.options();
     match Desk::start_within(alloc, &options.mapping, &root, options.limits, readers) {
         Ok(desk) => {
-            let answer = alone(alloc, counted_line(alloc, OPENED, readers)?)?;
+            let answer = alone(alloc, opened_line(alloc, is_all, readers)?)?;
             *session = Session::Opened(options.notation, desk);
             Ok(answer)
         }
@@ -117,7 +121,7 @@ fn open_store(
 }
 
 /// Does what is asked of the store that is open. The answers to an import and to a move compare the node's entries with
-/// those that it had elsewhere.
+/// those that it had elsewhere; that to any other edit by a text says whether something of the text was left out.
 fn done(
     alloc: Global,
     notation: Notation,
@@ -135,6 +139,10 @@ fn done(
         LineRequest::Asking(request) => {
             let reply = desk.step(request.as_request());
             Answer::alone(alloc, reply_line(alloc, reply)?)
+        }
+        LineRequest::Trimming { edit } => {
+            let reply = desk.step(&Request::Edit(edit));
+            Answer::alone(alloc, trimmed_line(alloc, reply)?)
         }
         LineRequest::AskingNode {
             reader,

@@ -17,7 +17,8 @@ pub struct ScriptCounts {
     pub carried_out: u64,
     /// The first line that had a fault or was refused.
     pub first_fault: Option<u64>,
-    /// The first line by which a node was imported that inherits otherwise than it did.
+    /// The first line whose node differs from the text of its descriptor: something of it was left out, or the node
+    /// was imported, and inherits otherwise than it did.
     pub first_difference: Option<u64>,
     /// The first line by which a node was imported whose own entries were put in another order.
     pub first_reordered: Option<u64>,
@@ -119,12 +120,12 @@ fn is_unmet(line: &[u8], answer: &[Line]) -> bool
     is_expectation(line) && tells_fault(answer)
 }
 
-/// Whether the answer is `ok` with this word.
+/// Whether the answer is `ok` or `opened` with this word.
 fn is_ok_and(word: &str, answer: &[Line]) -> bool
     ensures { result ≡ is_ok_and word.now answer.now }
 {
     match answer {
-        [first, ..] => first.is_of("ok") && first.says(word),
+        [first, ..] => (first.is_of("ok") || first.is_of("opened")) && first.says(word),
         [] => false,
     }
 }

@@ -17,7 +17,7 @@ pub use Rattle.sd_line.specs.declared.print.Style.{Style}
 pub use Rattle.sd_lines.proofs.InOrder.{joined, seen_as}
 pub use Rattle.sd_lines.specs.Answers.{AreAnswered}
 pub use Rattle.sd_path.specs.Names.{Names}
-pub use Rattle.sd_script.proofs.OneOutput.{move-one, no_error, requested-one, step-one}
+pub use Rattle.sd_script.proofs.OneOutput.{move-one, no_error, requested-one, step-one, trim-one}
 pub use Rattle.sd_script.proofs.OneReading.{line-one}
 pub use Rattle.sd_script.proofs.Timely.{line_opens}
 pub use Rattle.sd_script.specs.Expect.{expects}
@@ -27,10 +27,11 @@ pub use Rattle.sd_script.specs.Lines.{is_silent}
 pub use Rattle.sd_script.specs.Moving.{IsMoved}
 pub use Rattle.sd_script.specs.Output.{IsOpened, is_open, opening_in, opens, script_options_of}
 pub use Rattle.sd_script.specs.Printed.{style_in}
-pub use Rattle.sd_script.specs.Reply.{alone, check_line, counted_line, refused_line, reply_line, seen_line, start_error_line}
+pub use Rattle.sd_script.specs.Reply.{alone, check_line, counted_line, opened_line, refused_line, reply_line, seen_line, start_error_line}
 pub use Rattle.sd_script.specs.declared.fault.LineFault.{LineFault}
 pub use Rattle.sd_script.specs.declared.line_request.LineRequest.{LineRequest}
-pub use Rattle.sd_script.specs.declared.line_request.LineRequest.TheVariants.{Asking, Importing, Moving}
+pub use Rattle.sd_script.specs.declared.importing.Given.{Given}
+pub use Rattle.sd_script.specs.declared.line_request.LineRequest.TheVariants.{Asking, Importing, Moving, Trimming}
 pub use Rattle.sd_script.specs.declared.script_counts.ScriptCounts.{ScriptCounts}
 pub use Rattle.sd_script.specs.declared.script_options.Notation.{Notation}
 pub use Rattle.sd_script.specs.declared.script_options.ScriptOptions.{ScriptOptions}

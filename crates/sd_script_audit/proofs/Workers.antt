@@ -1,5 +1,5 @@
 -- Audits of one text by two numbers of workers: once a store is open, what is printed is the same.
-use Rattle.sd_script_audit.proofs.Cited.{Ace, AreAnsweredInAudit, Asking, AsksInAudit, Audited, Bool, DifferInOpening, Edit, EditRefusal, Err, Importing, IsAnsweredInAudit, IsDoneInAudit, IsImported, IsMoved, IsNextInAudit, IsOpened, IsReaderCount, IsStartError, IsToldInAudit, LineFault, LineOf, LineRequest, List, Machine, Moving, Names, None, Notation, OPENED, Ok, Opened, Option, Progress, Query, Reply, RootSpec, ScriptCounts, ScriptOptions, Some, StartError, Steps, Style, WorkersShowInTheOpening, [], alone, ap, append_assoc, arith, before_first_line, cases_Bool, counted_line, end_of, entries_at, expects, false, form, inl, inr, is_silent, line-one, line_of_fault, line_opens, lines, move-one, no_error, not, opening_in, opening_text, opens, printed, refl, refused_line, requested-one, start_error_line, started, step-one, style_in, subst, sym, true, unopened, ℕ, ◌++◌, ◌∙◌, ◌∷◌, ◌≡◌, ◌⊎◌}
+use Rattle.sd_script_audit.proofs.Cited.{AreAnsweredInAudit, Asking, AsksInAudit, Audited, Bool, DifferInOpening, Edit, EditRefusal, Err, Importing, IsAnsweredInAudit, IsDoneInAudit, IsImported, IsMoved, IsNextInAudit, IsOpened, IsReaderCount, IsStartError, IsToldInAudit, LineFault, LineOf, LineRequest, List, Machine, Moving, Names, None, Notation, Ok, Opened, Option, Progress, Query, Reply, RootSpec, ScriptCounts, ScriptOptions, Some, StartError, Steps, Style, WorkersShowInTheOpening, [], alone, ap, append_assoc, arith, before_first_line, cases_Bool, end_of, entries_at, expects, false, inl, inr, is_silent, line-one, line_of_fault, line_opens, lines, move-one, no_error, not, opening_in, opening_text, opens, printed, refl, refused_line, requested-one, start_error_line, started, step-one, style_in, subst, sym, true, unopened, ℕ, ◌++◌, ◌∙◌, ◌∷◌, ◌≡◌, ◌⊎◌, Given, Trimming, trim-one, opened_line}
 use Rattle.sd_edit.specs.declared.request.Reply.TheVariants as replies
 use Rattle.sd_edit.specs.declared.request.Request.TheVariants as requests
 use Rattle.sd_edit.specs.declared.start.StartError.TheVariants as starts
@@ -22,7 +22,7 @@ publish_unread m new (replies.Published len) is = (is.0, ap unread is.1)
 publish_unread m new replies.Memory is = ap unread is
 publish_unread m new reply is = absurd is
 
-import_unread : (m : Machine) (path : Names) (given : Option (List Ace)) (reply : Reply) (p : List LineOf)
+import_unread : (m : Machine) (path : Names) (given : Given) (reply : Reply) (p : List LineOf)
     → IsImported m path given reply p → IsImported (unread m) path given reply p
 import_unread m path given replies.Edited p is = is
 import_unread m path given reply p is = is
@@ -61,7 +61,7 @@ module _ (n m : ℕ) (notation : Notation) (x y : Machine) (queries : List Query
 
   done_alike : (asked : LineRequest) → opens asked ≡ false → IsDoneInAudit n (opened notation x queries) asked p c → IsDoneInAudit m (opened notation y queries) asked q d
       → (p ≡ q) × AreAlike c d
-  done_alike (Opens readers root) timely one other = absurd (cc (timely))
+  done_alike (Opens readers root is_all) timely one other = absurd (cc (timely))
   done_alike (Asking (requests.Edit e)) timely (one, kept) (other, left) =
       are_alike one.1 other.1 queries
       (requested-one (unread y) (unread one.1) (unread other.1) p q (requests.Edit e) one.0 other.0
@@ -71,6 +71,11 @@ module _ (n m : ℕ) (notation : Notation) (x y : Machine) (queries : List Query
       are_alike one.1 other.1 queries
       (requested-one (unread y) (unread one.1) (unread other.1) p q requests.Publish one.0 other.0
       (rw (← alike) (publish_unread x one.1 one.0 one.2)) (publish_unread y other.1 other.0 other.2) one.3 other.3)
+      (λ i. record { store = one.4 i; queries = kept i }) (λ i. record { store = other.4 i; queries = left i })
+  done_alike (Trimming e) timely (one, kept) (other, left) =
+      are_alike one.1 other.1 queries
+      (trim-one (unread y) (unread one.1) (unread other.1) p q e one.0 other.0
+      (rw (← alike) (edit_unread x one.1 e one.0 one.2)) (edit_unread y other.1 e other.0 other.2) one.3 other.3)
       (λ i. record { store = one.4 i; queries = kept i }) (λ i. record { store = other.4 i; queries = left i })
   done_alike (Importing e path given) timely (one, kept) (other, left) =
       are_alike one.1 other.1 queries
@@ -169,9 +174,9 @@ root_error starts.Place n due p count is text = absurd is
 module _ (options : ScriptOptions) (n m : ℕ) (some : IsReaderCount n) (others : IsReaderCount m) where
   -- no store is open afterwards, or both are
   module _ (R : Type 0) (p q : List LineOf) (c d : Progress) (closed : p ≡ q → c ≡ unopened options → d ≡ unopened options → R)
-      (opened : p ≡ counted_line (form OPENED) n ∷ [] → q ≡ counted_line (form OPENED) m ∷ [] → AreAlike c d → R) where
-    opening : (root : RootSpec) → IsOpened options n root p c.store × (c.queries ≡ []) → IsOpened options m root q d.store × (d.queries ≡ []) → R
-    opening root (inl one, none) (inl other, nothing) = opened one.2 other.2 (record {
+      (opened : (is_all : Bool) → p ≡ opened_line is_all n ∷ [] → q ≡ opened_line is_all m ∷ [] → AreAlike c d → R) where
+    opening : (root : RootSpec) (is_all : Bool) → IsOpened options n root is_all p c.store × (c.queries ≡ []) → IsOpened options m root is_all q d.store × (d.queries ≡ []) → R
+    opening root is_all (inl one, none) (inl other, nothing) = opened is_all one.2 other.2 (record {
       notation = options.notation;
       one = started (opening_in options root) n;
       other = started (opening_in options root) m;
@@ -180,16 +185,16 @@ module _ (options : ScriptOptions) (n m : ℕ) (some : IsReaderCount n) (others 
       other_is = λ i. record { store = other.3 i; queries = nothing i };
       alike = refl;
     })
-    opening root (inl one, none) (inr other, nothing) = absurd (no_error other.0 m _ q others one.1 other.1 other.2)
-    opening root (inr one, none) (inl other, nothing) = absurd (no_error one.0 n _ p some other.1 one.1 one.2)
-    opening root (inr one, none) (inr other, nothing) =
+    opening root is_all (inl one, none) (inr other, nothing) = absurd (no_error other.0 m _ q others one.1 other.1 other.2)
+    opening root is_all (inr one, none) (inl other, nothing) = absurd (no_error one.0 n _ p some other.1 one.1 one.2)
+    opening root is_all (inr one, none) (inr other, nothing) =
         let first = root_error one.0 n _ p some one.1 one.2 in
         let second = root_error other.0 m _ q others other.1 other.2 in
         let refusals : first.0 ≡ second.0 = cc (first.1, second.1) in
         closed (cc (refusals, first.2, second.2)) (λ i. record { store = one.3 i; queries = none i }) (λ i. record { store = other.3 i; queries = nothing i })
 
     opening_asked : (asked : LineRequest) → opens asked ≡ true → IsDoneInAudit n (unopened options) asked p c → IsDoneInAudit m (unopened options) asked q d → R
-    opening_asked (Opens readers root) is one other = opening root one other
+    opening_asked (Opens readers root is_all) is one other = opening root is_all one other
     opening_asked asked timely one other = absurd (cc (timely))
 
   -- a line in front of two outputs
@@ -198,8 +203,9 @@ module _ (options : ScriptOptions) (n m : ℕ) (some : IsReaderCount n) (others 
   after_line style first p q xs ys one other (inr differ) = inr (
     first ++ differ.0,
     differ.1,
-    one ∙ ap (λ zs. first ++ zs) differ.2 ∙ simp append_assoc,
-    other ∙ ap (λ zs. first ++ zs) differ.3 ∙ simp append_assoc,
+    differ.2,
+    one ∙ ap (λ zs. first ++ zs) differ.3 ∙ simp append_assoc,
+    other ∙ ap (λ zs. first ++ zs) differ.4 ∙ simp append_assoc,
   )
 
   all_differ : (texts : List (List ℕ)) (a b : Audited) (p q : List ℕ) (x y : ScriptCounts) → a.progress ≡ unopened options → b.progress ≡ unopened options
@@ -215,9 +221,9 @@ module _ (options : ScriptOptions) (n m : ℕ) (some : IsReaderCount n) (others 
       λ same still yet. after_line style (as_text style second.0) p q first.2 second.2 (first.5 ∙ ap (λ answer. as_text style answer ++ first.2) same) second.5
       (all_differ texts first.1 second.1 first.2 second.2 x y still yet first.4 second.4) in
       line_alike options.notation false text (DifferInOpening style n m p q) _ _ _ _ first.0 second.0 closing
-      (opening_asked (DifferInOpening style n m p q) first.0 second.0 first.1.progress second.1.progress closing (λ front behind alike.
+      (opening_asked (DifferInOpening style n m p q) first.0 second.0 first.1.progress second.1.progress closing (λ is_all front behind alike.
       let rest = all_alike style n m texts first.1 second.1 first.2 second.2 x y alike first.4 second.4 in
-      inr ([], second.2, first.5 ∙ ap (λ answer. as_text style answer ++ first.2) front ∙ ap (λ zs. opening_text style n ++ zs) rest, second.5 ∙ ap (λ answer. as_text style answer ++ second.2) behind)))
+      inr ([], is_all, second.2, first.5 ∙ ap (λ answer. as_text style answer ++ first.2) front ∙ ap (λ zs. opening_text style is_all n ++ zs) rest, second.5 ∙ ap (λ answer. as_text style answer ++ second.2) behind)))
       (subst (λ e. IsAnsweredInAudit n e text first.0 first.1.progress) closed first.3.answered)
       (subst (λ e. IsAnsweredInAudit m e text second.0 second.1.progress) shut second.3.answered)
 

@@ -24,7 +24,8 @@ use Rattle.sd_script.specs.Printed.{style_in}
 use Rattle.sd_script.specs.Reply.{check_line, counted_line, seen_line}
 use Rattle.sd_script.specs.ScriptCounts.{no_lines, tallied}
 use Rattle.sd_script.specs.declared.line_request.LineRequest.{LineRequest}
-use Rattle.sd_script.specs.declared.line_request.LineRequest.TheVariants.{Opening as Opens, Asking, Importing, Moving}
+use Rattle.sd_script.specs.declared.line_request.LineRequest.TheVariants.{Opening as Opens, Asking, Trimming}
+use Rattle.sd_script.specs.declared.line_request.LineRequest.TheVariants.{Importing, Moving}
 use Rattle.sd_script.specs.declared.fault.LineFault.{LineFault}
 use Rattle.sd_script.specs.declared.script_options.ScriptOptions.{ScriptOptions}
 use Rattle.sd_script.specs.declared.script_options.Notation.{Notation}
@@ -52,8 +53,8 @@ IsDoneAsInScript old asked answer new = IsDone old.store asked answer new.store 
 -- what is asked is done as in a script, but that a store is opened for the workers, that a check is kept, and that an
 -- audit has no notices and no answers to readers, explains and finds nothing, and has no views
 abbrev pub IsDoneInAudit : ℕ → Progress → LineRequest → List LineOf → Progress → Type 0
-IsDoneInAudit workers old (Opens readers root) answer new = IsOpened
-    (script_options_of old.store) workers root answer new.store × (new.queries ≡ old.queries)
+IsDoneInAudit workers old (Opens readers root is_all) answer new = IsOpened
+    (script_options_of old.store) workers root is_all answer new.store × (new.queries ≡ old.queries)
 IsDoneInAudit workers old (Asking (Check reader path token asked)) answer new =
     (answer ≡ []) × (new
     ≡ record {
@@ -63,6 +64,7 @@ IsDoneInAudit workers old (Asking (Check reader path token asked)) answer new =
     })
 IsDoneInAudit workers old (Asking (Edit edit)) answer new = IsDoneAsInScript old (Asking (Edit edit)) answer new
 IsDoneInAudit workers old (Asking Publish) answer new = IsDoneAsInScript old (Asking Publish) answer new
+IsDoneInAudit workers old (Trimming edit) answer new = IsDoneAsInScript old (Trimming edit) answer new
 IsDoneInAudit workers old (Importing edit path given) answer new =
     IsDoneAsInScript old (Importing edit path given) answer new
 IsDoneInAudit workers old (Moving edit source target) answer new =

@@ -1,25 +1,23 @@
 -- What follows from the output of an audit.
-use Rattle.std.specs.Prelude.{◌≡◌, ◌⊎◌, ℕ, List, [], ◌∷◌, ◌++◌, None}
-use Rattle.sd_answer.specs.declared.forms.TheConstants.{OPENED}
+use Rattle.std.specs.Prelude.{◌≡◌, ◌⊎◌, ℕ, Bool, List, [], ◌∷◌, ◌++◌, None}
 use Rattle.sd_edit.specs.Starts.{IsReaderCount}
-use Rattle.sd_line.specs.Line.{form}
 use Rattle.sd_line.specs.Printed.{printed}
 use Rattle.sd_line.specs.declared.print.Style.{Style}
 use Rattle.sd_script.specs.Printed.{style_in}
-use Rattle.sd_script.specs.Reply.{counted_line}
+use Rattle.sd_script.specs.Reply.{opened_line}
 use Rattle.sd_script.specs.declared.script_options.ScriptOptions.{ScriptOptions}
 use Rattle.sd_script_audit.specs.Audit.{PrintsAudit}
 
--- the answer to an opening, as it is printed
-abbrev pub opening_text : Style → ℕ → List ℕ
-opening_text style workers = printed style None (counted_line (form OPENED) workers ∷ [])
+-- the answer to an opening, as it is printed; of a root that has all that its text says, or not
+abbrev pub opening_text : Style → (is_all : Bool) → ℕ → List ℕ
+opening_text style is_all workers = printed style None (opened_line is_all workers ∷ [])
 
 -- two outputs are equal, or differ in the line of an opening alone
 abbrev pub DifferInOpening : Style → ℕ → ℕ → List ℕ → List ℕ → Type 0
 DifferInOpening style n m one other =
     (one ≡ other)
-    ⊎ ((front : List ℕ) × (back : List ℕ)
-    × (one ≡ front ++ opening_text style n ++ back) × (other ≡ front ++ opening_text style m ++ back))
+    ⊎ ((front : List ℕ) × (is_all : Bool) × (back : List ℕ)
+    × (one ≡ front ++ opening_text style is_all n ++ back) × (other ≡ front ++ opening_text style is_all m ++ back))
 
 -- audits of one text by n workers and by m differ in their opening alone; so by one number of workers it has one output
 abbrev pub WorkersShowInTheOpening : Type 0

@@ -7,10 +7,9 @@ ghost use Rattle.sd_script_audit.specs.Audit.{PrintsNextInAudit, unopened};
 ghost use Rattle.sd_script_audit.specs.Parts.{IsDoneOrTold, before_queries, without_queries};
 
 use crate::line::asked_or_told;
-use sd_answer::OPENED;
 use sd_line::{Line, Tag, push_printed};
 use sd_lines::AnswersLines;
-use sd_script::{LineRequest, ScriptCounts, ScriptOptions, alone, counted_line, start_error_line};
+use sd_script::{LineRequest, ScriptCounts, ScriptOptions, alone, opened_line, start_error_line};
 use sd_tree::RootSpec;
 use sd_versions::Desk;
 use std::alloc::{AllocError, Global};
@@ -72,8 +71,8 @@ impl Openings {
         ensures { IfOk result (λ answer. IsDoneOrTold self.now.workers (unopened self.now.options) found
             answer.items (without_queries self.now.options self.now.workers opened.new)) }
     {
-        let root = match found {
-            Ok(LineRequest::Opening { readers: _, root }) => root,
+        let (root, is_all) = match found {
+            Ok(LineRequest::Opening { root, is_all, .. }) => (root, is_all),
             Ok(_) => unreachable!(),
             Err(told) => return told.ok_or(AllocError),
         };
@@ -85,7 +84,7 @@ impl Openings {
         match Desk::start_within(alloc, &mapping, &root, limits, self.workers) {
             Ok(_) => {
                 *opened = Some(root);
-                alone(alloc, counted_line(alloc, OPENED, self.workers)?)
+                alone(alloc, opened_line(alloc, is_all, self.workers)?)
             }
             Err(error) => alone(alloc, start_error_line(alloc, error)?),
         }

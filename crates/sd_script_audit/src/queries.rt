@@ -17,6 +17,7 @@ use sd_line::{Line, Tag, push_printed};
 use sd_lines::AnswersLines;
 use sd_script::{
     LineRequest, Notation, ScriptCounts, alone, entries_at, import_answer, move_answer, reply_line,
+    trimmed_line,
 };
 use sd_store::{EditError, PublishError, Query, StoreId, StoreWriter};
 use sd_tree::{Edit, Path};
@@ -89,6 +90,9 @@ impl<J: StoreId, T: Wait> Queries<'_, J, T> {
         match found {
             Ok(LineRequest::Asking(asked)) => {
                 self.asked_of_store(alloc, writer, queries, asked.into_request())
+            }
+            Ok(LineRequest::Trimming { edit }) => {
+                alone(alloc, trimmed_line(alloc, edit_reply(writer, &edit))?)
             }
             Ok(LineRequest::Importing { edit, path, given }) => {
                 let reply = edit_reply(writer, &edit);

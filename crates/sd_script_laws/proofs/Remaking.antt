@@ -93,7 +93,7 @@ module _ (notation : Notation) (o : Opening) (n : ℕ) where
   nodes_reach front [] (text ∷ more ∷ texts) lawful are = absurd are.1
   nodes_reach front (node ∷ nodes) [] lawful are = absurd are
   nodes_reach front (([], row) ∷ nodes) (text ∷ texts) lawful are =
-      absurd (let no = line_opens notation true text (Opens n (root_of row)) are.0.1 in cc (no))
+      absurd (let no = line_opens notation true text (Opens n (root_of row) true) are.0.1 in cc (no))
   nodes_reach front ((name ∷ names, row) ∷ nodes) (text ∷ texts) lawful are =
       let e : Edit = addition_of row.kind (name ∷ names) row in
       let more = subst (λ edits. IsLawful o edits) (sym (append_assoc front (e ∷ []) (map added nodes))) lawful in
@@ -107,7 +107,7 @@ module _ (notation : Notation) (o : Opening) (n : ℕ) where
 -- ---- the whole tree
 
 opens : (options : ScriptOptions) (n : ℕ) (row : NodeRow) → IsReaderCount n → root_refusal (opening_in options (root_of row)) ≡ None
-    → IsDone (Closed options) (Opens n (root_of row)) (counted_line (form OPENED) n ∷ []) (Opened options.notation (waiting (opening_in options (root_of row)) n []))
+    → IsDone (Closed options) (Opens n (root_of row) true) (counted_line (form OPENED) n ∷ []) (Opened options.notation (waiting (opening_in options (root_of row)) n []))
 opens options n row count fits = inl (count, fits, refl, refl)
 
 lines_reach : (options : ScriptOptions) (n : ℕ) (row : NodeRow) (nodes : List (Names × NodeRow)) (texts : List (List ℕ)) → IsReaderCount n
@@ -117,7 +117,7 @@ lines_reach : (options : ScriptOptions) (n : ℕ) (row : NodeRow) (nodes : List 
 lines_reach options n row nodes [] count fits lawful are = absurd are
 lines_reach options n row nodes (text ∷ texts) count fits lawful are =
     let o = opening_in options (root_of row) in
-    goes_on (Closed options) (Opened options.notation (waiting o n [])) (Opened options.notation (shown o n (map added nodes))) text _ texts (Opens n (root_of row)) are.0 (opens options n row count fits)
+    goes_on (Closed options) (Opened options.notation (waiting o n [])) (Opened options.notation (shown o n (map added nodes))) text _ texts (Opens n (root_of row) true) are.0 (opens options n row count fits)
     (nodes_reach options.notation o n [] nodes texts lawful are.1)
 
 -- ---- every run
