@@ -1,4 +1,4 @@
-"""The lines that the program prints: the forms of forms.rt of sd_answer and of sd_show, put together.
+"""The lines that the program prints: the forms of forms.rt of sd_answer, sd_show and sd_script, put together.
 
 A form is words in which each `{name}` stands for a value, which a line's object has as the member of that name.
 LAYOUTS, WITH_PARTS and PLACES have which forms make a line, NUMBERS and ARRAYS of which type a value is: forms.rt says
@@ -12,7 +12,7 @@ from pathlib import Path
 from typing import Any, Iterator, NamedTuple
 
 CRATES = Path(__file__).resolve().parent.parent / "crates"
-SOURCES = [CRATES / crate / "src/forms.rt" for crate in ("sd_answer", "sd_show")]
+SOURCES = [CRATES / crate / "src/forms.rt" for crate in ("sd_answer", "sd_show", "sd_script")]
 
 FORM = re.compile(r"pub const ([A-Z_]+): (LineForm|BitsForm|&str) =\s*([^;]*);")
 USE = re.compile(r"use [\w:]+;|pub type BitsForm = [^;]*;")
@@ -32,6 +32,7 @@ LAYOUTS = """
 SEEN? GRANTED|DENIED|RESERVED|EMPTY
 SEEN? NO_NODE
 SEEN FOUND|GRANTED_BY|DENIED_ALL|SHOWN
+OPENED DIFFERS?
 GRANTED BY_ENTRY|WITHOUT_A|TO_THE|BY
 GRANTED BY_ENTRY SECOND_BY_ENTRY
 DENIED BY_ENTRY|BY_NO|WITHOUT|BEYOND|AS
