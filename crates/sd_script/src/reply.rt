@@ -40,8 +40,8 @@ pub fn reply_line(alloc: Global, reply: Reply) -> Result<Line, AllocError>
     }
 }
 
-/// The line of a reply to an edit by a descriptor of whose text something was left out. Out of memory has none: it is an
-/// error.
+/// The line of a reply to an edit by a descriptor of whose text something was left out. Out of memory has none: it is
+/// an error.
 pub fn trimmed_line(alloc: Global, reply: Reply) -> Result<Line, AllocError>
     ensures { IfOk result (λ line. trimmed_line reply ≡ Some line) }
 {

@@ -31,7 +31,8 @@ PlainTextsComeBack = (known : Aliases) (names : RightNames) (d : DescriptorValue
 -- the plain part of the text of a plain descriptor is that descriptor, and nothing is left out, whether the text may be
 -- that of a whole one or not
 abbrev pub PlainTextsAreTheirPart : Type 0
-PlainTextsAreTheirPart = (known : Aliases) (whole : Bool) (text : List ℕ) (d part : DescriptorValue) (left_out : LeftOut)
+PlainTextsAreTheirPart =
+    (known : Aliases) (whole : Bool) (text : List ℕ) (d part : DescriptorValue) (left_out : LeftOut)
     → Spells (sddl_in known) text d → IsTextPart known whole text part left_out → (part ≡ d) × (left_out ≡ nothing)
 
 -- and no SACL
@@ -44,8 +45,8 @@ abbrev pub PlainTextsHaveAPart : Type 0
 PlainTextsHaveAPart = (known : Aliases) (whole : Bool) (text : List ℕ) (d : DescriptorValue) (error : PartError)
     → Spells (sddl_in known) text d → IsNoPart known whole text error → error ≡ Memory
 
--- where nothing is left out of a text, it says just its plain part, made whole: a SACL, and what an entry lacks, are all
--- that can be left out
+-- where nothing is left out of a text, it says just its plain part, made whole: a SACL, and what an entry lacks, are
+-- all that can be left out
 abbrev pub NothingElseIsLeftOut : Type 0
 NothingElseIsLeftOut = (known : Aliases) (text : List ℕ) (d : DescriptorValue) → IsTextPart known true text d nothing
     → whole_found known text ≡ Ok (whole_of d, [])

@@ -27,8 +27,8 @@ pub fn plain_texts_are_their_part()
     ensures error { PlainTextsHaveAPart }
 {}
 
-/// A law: where `read_text_part` leaves nothing out of the text of a whole descriptor, `read_whole_sddl` parses the text
-/// as the same descriptor as it returns, made whole ([MS-DTYP] 2.5.1.1).
+/// A law: where `read_text_part` leaves nothing out of the text of a whole descriptor, `read_whole_sddl` parses the
+/// text as the same descriptor as it returns, made whole ([MS-DTYP] 2.5.1.1).
 #[tactic(auto, using(crate::proofs::AllThere::nothing_else))]
 pub fn nothing_else_is_left_out()
     ensures { NothingElseIsLeftOut }

@@ -40,8 +40,8 @@ impl From<TextError> for PartError {
 pub struct LeftOut {
     /// The SACL, if only a null one.
     pub sacl: bool,
-    /// Of an entry of the DACL a flag that isn't one of the seven with names, as `CR`, or bytes after its SID ([MS-DTYP]
-    /// 2.4.4.1).
+    /// Of an entry of the DACL a flag that isn't one of the seven with names, as `CR`, or bytes after its SID
+    /// ([MS-DTYP] 2.4.4.1).
     pub of_entries: bool,
 }
 
@@ -79,8 +79,8 @@ pub struct TextPart {
 /// Parses the text of a descriptor ([MS-DTYP] 2.5.1.1) for what takes its owner, its group and its DACL. Under `whole`
 /// the text may have a SACL and flags without effect, which are left out, and named, and entries of every type, of
 /// which the first in the DACL that is no allow and no deny is an error; otherwise each is a fault of the text. A fault
-/// is the first from the left, with its offset in bytes. `Memory` comes only for a valid text, and under `whole` for one
-/// with a `(`.
+/// is the first from the left, with its offset in bytes. `Memory` comes only for a valid text, and under `whole` for
+/// one with a `(`.
 pub fn read_text_part(
     alloc: Global,
     known: Aliases,

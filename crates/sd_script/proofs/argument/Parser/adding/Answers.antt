@@ -4,8 +4,12 @@ use Rattle.std.proofs.lemmas.Grind.{common_steps}
 use Rattle.sd_script.proofs.argument.Parser.adding.Goals as goal
 
 pub returns : goal.returns
-returns c = inl (_, c.in_ok-path.ensures, inl (
-  (c.in_ok-node.node, c.in_ok-node.is_all),
-  c.in_ok-node.ensures,
-  first_of (cc, search rules, grind (arith, common_steps)),
-))
+returns c = inl (
+  _,
+  c.in_ok-path.ensures,
+  inl (
+    (c.in_ok-node.node, c.in_ok-node.is_all),
+    c.in_ok-node.ensures,
+    first_of (cc, search rules, grind (arith, common_steps)),
+  ),
+)

@@ -8,10 +8,14 @@ use Rattle.sd_script.proofs.argument.Parser.node.Goals.{in_default-via-in-Some+i
 pub returns-in_default : goal.returns-in_default
 returns-in_default c =
     let part = c.in_ok-descriptor.field-0 in
-    inl ((descriptor_of part.descriptor, part.left_out), c.in_ok-descriptor.ensures.read, elim c.in_default.branch [
-      | in_default-via-in-Some+in_default w ↦ first_of (search rules, grind (arith, common_steps))
-      | in_default-via-in_default w ↦ first_of (search rules, grind (arith, common_steps))
-    ])
+    inl (
+      (descriptor_of part.descriptor, part.left_out),
+      c.in_ok-descriptor.ensures.read,
+      elim c.in_default.branch [
+        | in_default-via-in-Some+in_default w ↦ first_of (search rules, grind (arith, common_steps))
+        | in_default-via-in_default w ↦ first_of (search rules, grind (arith, common_steps))
+      ],
+    )
 
 pub returns : goal.returns
 returns c =
