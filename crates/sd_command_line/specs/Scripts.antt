@@ -40,7 +40,7 @@ abbrev pub script_notes : Bool → ScriptCounts → List ℕ
 script_notes strict counts =
     nothing_note counts
     ++ (line_note (codes "it begins with a byte order mark") (line_if counts.begins_with_mark (Some 1))
-    ++ (line_note (codes "the node inherits otherwise than its descriptor says") counts.first_difference
+    ++ (line_note (codes "the node differs from its descriptor") counts.first_difference
     ++ (line_note (codes "the node's own entries are in canonical order now") counts.first_reordered
     ++ (line_note (codes "a fault or a refusal") (line_if strict counts.first_fault)
     ++ expect_note counts.expected counts.unmet counts.first_unmet))))

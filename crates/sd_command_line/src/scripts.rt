@@ -9,11 +9,11 @@ use sd_script::ScriptCounts;
 use std::alloc::{AllocError, Global};
 
 /// The outcome of a script, the worst of its lines: a fault where none was carried out, or with `strict` where one had
-/// a fault or was refused; else a refusal where an expected answer wasn't given, or with `strict` where a line imported
-/// a node whose entries differ from what they were. The notes for standard error: that no line was carried out, and
-/// what mends that; that the script begins with a byte order mark; the first line whose node inherits otherwise than it
-/// did, and the first whose node's own entries were put in order; with `strict` the first fault or refusal; how many
-/// answers were expected, and weren't given. No notes if out of memory: the output is there by then.
+/// a fault or was refused; else a refusal where an expected answer wasn't given, or with `strict` where an answer says
+/// that a node differs from the text of its descriptor. The notes for standard error: that no line was carried out,
+/// and what mends that; that the script begins with a byte order mark; the first line whose node differs from the text
+/// of its descriptor, and the first whose node's own entries were put in order; with `strict` the first fault or
+/// refusal; how many answers were expected, and weren't given. No notes if out of memory: the output is there by then.
 #[tactic(auto, unfolding(crate::specs::Scripts::script_outcome))]
 pub(crate) fn end_of_script(alloc: Global, strict: bool, counts: &ScriptCounts) -> Ended
     ensures told { IsToldOfScript strict counts.now (string_bytes result.told) }
@@ -37,7 +37,7 @@ fn script_notes(alloc: Global, strict: bool, counts: &ScriptCounts) -> Result<St
     let nothing = nothing_note(alloc, counts)?;
     let mark = line_if(counts.begins_with_mark, Some(1));
     let mark = line_note(alloc, "it begins with a byte order mark", mark)?;
-    let what = "the node inherits otherwise than its descriptor says";
+    let what = "the node differs from its descriptor";
     let difference = line_note(alloc, what, counts.first_difference)?;
     let what = "the node's own entries are in canonical order now";
     let order = line_note(alloc, what, counts.first_reordered)?;

@@ -36,8 +36,8 @@ MASK, and prints entries with names of that kind alone",
         "\
 takes descriptors with a SACL and with entries of every type. What prints a descriptor prints all of
 it, and what has no text is a fault; what answers a question, and a script, leaves the SACL out, which
-it reports on standard error, but not of lines, and a conditional or an object entry in a DACL is a
-fault there",
+it reports on standard error, of a script by the answer 'ok differs', and a conditional or an object
+entry in a DACL is a fault there",
     ),
     (
         "--without-bits",
