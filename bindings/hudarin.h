@@ -267,7 +267,9 @@ typedef enum hudarin_cause {
     /* Without a list MAXIMUM_ALLOWED includes no more than GENERIC_ALL, and this is beyond it. */
     HUDARIN_CAUSE_BEYOND_ALL = 7,
     /* The bits are reserved. */
-    HUDARIN_CAUSE_RESERVED = 8
+    HUDARIN_CAUSE_RESERVED = 8,
+    /* Taken by the object's integrity label. No call answers it yet: it is what the program's `why` says. */
+    HUDARIN_CAUSE_LABEL = 9
 } hudarin_cause;
 
 /* ---- What a pass over the list found: 0 without such a pass */

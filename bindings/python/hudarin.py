@@ -135,6 +135,7 @@ CAUSES = {
     6: "without SeSecurityPrivilege",
     7: "beyond GENERIC_ALL",
     8: "as reserved",
+    9: "by the label",
 }
 
 #: The states of a group.

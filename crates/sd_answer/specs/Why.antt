@@ -8,13 +8,14 @@ use Rattle.sd_check.specs.Check.{subject, verdict, dacl_entries}
 use Rattle.sd_acl.specs.declared.ace.Ace.{Ace}
 use Rattle.sd_check.specs.Token.{TokenValue}
 use Rattle.sd_explain.specs.Reasons.{grants, reasons_of}
-use Rattle.sd_explain.specs.Parts.{part_at, reason_in}
+use Rattle.sd_explain.specs.Parts.{part_at, reason_in, told_verdict}
 use Rattle.sd_explain.specs.declared.explanation.Part.{Part}
 use Rattle.sd_explain.specs.declared.reason.Finding.{Finding}
 use Rattle.sd_explain.specs.declared.reason.Finding.TheVariants.{Allowed, Denied, NoEntry}
 use Rattle.sd_explain.specs.declared.reason.Cause.{Cause}
 use Rattle.sd_explain.specs.declared.reason.Cause.TheVariants.{NoList, Listed, Restricted, Owner}
 use Rattle.sd_explain.specs.declared.reason.Cause.TheVariants.{TakeOwnership, Security, NoSecurity, BeyondAll, Reserved}
+use Rattle.sd_explain.specs.declared.reason.Cause.TheVariants.{Label}
 use Rattle.sd_explain.specs.declared.reason.Reason.{Reason}
 use Rattle.sd_line.specs.Line.{Form, LineOf, PartOf, form, line_with, part_of, word_part}
 use Rattle.sd_line.specs.declared.line.Value.{Value}
@@ -53,6 +54,7 @@ cause_parts owner es Security = word_part BY.now (codes "SeSecurityPrivilege") �
 cause_parts owner es NoSecurity = word_part WITHOUT.now (codes "SeSecurityPrivilege") ∷ []
 cause_parts owner es BeyondAll = word_part BEYOND.now (codes "GENERIC_ALL") ∷ []
 cause_parts owner es Reserved = word_part AS.now (codes "reserved") ∷ []
+cause_parts owner es Label = word_part BY.now (codes "the label") ∷ []
 
 abbrev pub verb_of : Cause → Form
 verb_of cause = if grants cause then form GRANTED else form DENIED
@@ -67,6 +69,12 @@ line_at owner es (Some part) = line_with (verb_of part.cause).0
 unfoldable pub part_lines : Option SidValue → List Ace → (ℕ → Option Reason) → ℕ → List LineOf
 part_lines owner es reasons zero = []
 part_lines owner es reasons (suc k) = part_lines owner es reasons k ++ line_at owner es (part_at reasons k)
+
+-- the verdict that the reasons of all places come to, and their parts, by the entries of this descriptor
+abbrev pub explanation_lines : DescriptorValue → List (Option Reason) → List LineOf
+explanation_lines d reasons =
+    verdict_line (told_verdict (reason_in reasons))
+    ∷ part_lines d.owner (entries_or_none (dacl_entries d.dacl)) (reason_in reasons) 32
 
 abbrev pub why_lines : MappingValue → DescriptorValue → TokenValue → ℕ → List LineOf
 why_lines g d t asked =

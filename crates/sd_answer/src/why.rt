@@ -4,7 +4,7 @@ ghost use Rattle.sd_check.specs.Check.{subject};
 ghost use Rattle.sd_acl.specs.Descriptor.{descriptor_of};
 ghost use Rattle.sd_explain.specs.Parts.{reason_in};
 ghost use Rattle.sd_line.specs.Line.{form_of, word_part};
-ghost use Rattle.sd_answer.specs.Why.{cause_parts, entry_parts, finding_parts, line_at, part_lines};
+ghost use Rattle.sd_answer.specs.Why.{cause_parts, entry_parts, explanation_lines, finding_parts, line_at, part_lines};
 ghost use Rattle.sd_answer.specs.Why.{subject_value, verb_of, why_lines};
 
 use crate::forms::{
@@ -20,8 +20,8 @@ use sd_line::{Line, LineForm, Part, Value};
 use sd_sid::{GenericMapping, Mask, Sid};
 use std::alloc::{AllocError, Global};
 
-/// The lines of an explanation: the verdict's, and one for each part, as `denied 0x2 by entry 1 (D;;0x2;;;BU) as
-/// S-1-5-32-545` ([MS-DTYP] 2.5.3.2).
+/// The lines of why a request is answered as it is: the verdict's, and one for each part, as `denied 0x2 by entry 1
+/// (D;;0x2;;;BU) as S-1-5-32-545` ([MS-DTYP] 2.5.3.2).
 pub fn why_lines(
     alloc: Global,
     mapping: &GenericMapping,
@@ -33,13 +33,26 @@ pub fn why_lines(
         ≡ why_lines mapping.now (descriptor_of descriptor.now) token.now asked) }
 {
     let explanation = explain_descriptor(descriptor, mapping, token, asked);
+    explanation_lines(alloc, descriptor, &explanation)
+}
+
+/// The lines of an explanation by this descriptor ([MS-DTYP] 2.5.3.2): the line of its verdict, and one for each part,
+/// whose entries are those of the descriptor.
+pub fn explanation_lines(
+    alloc: Global,
+    descriptor: &Descriptor,
+    explanation: &Explanation,
+) -> Result<Vec<Line>, AllocError>
+    ensures { IfOk result (λ lines. lines.items
+        ≡ explanation_lines (descriptor_of descriptor.now) explanation.now.reasons) }
+{
     let list = Listed {
         alloc,
         owner: &descriptor.owner,
         entries: entries_in(&descriptor.dacl),
     };
     let mut lines = vec![in alloc; verdict_line(alloc, explanation.verdict())?]?;
-    list.push_parts(&mut lines, &explanation)?;
+    list.push_parts(&mut lines, explanation)?;
     Ok(lines)
 }
 
@@ -98,6 +111,7 @@ impl Listed<'_> {
             Cause::NoSecurity => self.push_word(parts, WITHOUT, "SeSecurityPrivilege"),
             Cause::BeyondAll => self.push_word(parts, BEYOND, "GENERIC_ALL"),
             Cause::Reserved => self.push_word(parts, AS, "reserved"),
+            Cause::Label => self.push_word(parts, BY, "the label"),
         }
     }
 

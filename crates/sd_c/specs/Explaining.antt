@@ -7,7 +7,7 @@ use Rattle.sd_explain.specs.Parts.{part_at, reason_in}
 use Rattle.sd_explain.specs.declared.explanation.Part.{Part}
 use Rattle.sd_explain.specs.declared.reason.Cause.{Cause}
 use Rattle.sd_explain.specs.declared.reason.Cause.TheVariants.{NoList, Listed, Restricted, Owner, TakeOwnership}
-use Rattle.sd_explain.specs.declared.reason.Cause.TheVariants.{Security, NoSecurity, BeyondAll, Reserved}
+use Rattle.sd_explain.specs.declared.reason.Cause.TheVariants.{Security, NoSecurity, BeyondAll, Reserved, Label}
 use Rattle.sd_explain.specs.declared.reason.Finding.{Finding}
 use Rattle.sd_explain.specs.declared.reason.Finding.TheVariants.{Allowed, Denied, NoEntry}
 use Rattle.sd_explain.specs.declared.reason.Reason.{Reason}
@@ -45,6 +45,7 @@ cause_number Security = 5
 cause_number NoSecurity = 6
 cause_number BeyondAll = 7
 cause_number Reserved = 8
+cause_number Label = 9
 
 abbrev pub no_part : PartAnswer
 no_part = record { mask = 0; cause = 0; granted = 0; first = no_pass; second = no_pass }

@@ -170,6 +170,7 @@ fn cause_number(cause: Cause) -> u32
         Cause::NoSecurity => 6,
         Cause::BeyondAll => 7,
         Cause::Reserved => 8,
+        Cause::Label => 9,
     }
 }
 

@@ -1,6 +1,6 @@
 -- What these proofs cite of other modules, passed on from one place.
 pub use Rattle.sd_check.proofs.Answered.{holds_object, stands}
-pub use Rattle.sd_check.proofs.Cited.{Ace, AceKind, MappingValue, SidValue, TokenValue, and_parts, answered, applies, applies_again, applies_in, bit_at-pow_other, bit_at-pow_same, bit_at-zero, bit_at_above, cases_Bool, cases_eq, cases_lt, cond-false, cond-true, decides, eqb-true, false≢true, first, holds, holds-mask_of, holds_place, holds_when, is_allow, is_allowed_by, is_given, is_granted, is_implied, is_inherit_only, is_mapped, is_mask_of, is_restricted, is_restricting, is_restricting_subject, joined_with, lt-ltb, ltb-true, mapped, mask_of, mask_of-alike, mask_of-lt, maximum_verdict, missing_of, most, nat_tests, ne_eqb, part_of, plain_verdict, reserved_of, rights_in, stands_for, stands_for_subject, subject, verdict, wanted_bits, without_maximum}
+pub use Rattle.sd_check.proofs.Cited.{Ace, AceKind, MappingValue, SidValue, TokenValue, and_parts, answered, applies, applies_again, applies_in, bit_at-pow_other, bit_at-pow_same, bit_at-zero, bit_at_above, cases_Bool, cases_eq, cases_lt, cond-false, cond-true, decides, eqb-true, false≢true, first, holds, holds-mask_of, holds_place, holds_when, is_allow, is_allowed_by, is_given, is_granted, is_implied, is_inherit_only, is_mapped, is_mask_of, is_restricted, is_restricting, is_restricting_subject, joined_with, judged, lt-ltb, ltb-true, mapped, mask_of, mask_of-alike, mask_of-lt, maximum_verdict, missing_of, most, nat_tests, ne_eqb, part_of, plain_verdict, reserved_of, rights_in, stands_for, stands_for_subject, subject, verdict, wanted_bits, without_maximum}
 pub use Rattle.sd_check.proofs.LowMasks.{no_places}
 pub use Rattle.sd_check.specs.Check.{implied_of}
 pub use Rattle.sd_check.specs.declared.grounds.Implied.{Implied}
@@ -12,7 +12,7 @@ pub use Rattle.sd_explain.specs.Parts.{bits_of, is_of_share, part_at, reason_in,
 pub use Rattle.sd_explain.specs.Reasons.{belongs, finding_at, finding_of, granting_or, grants, is_allowed, listed_cause, maximum_cause, named_cause, reason_at, reasons_of, same_cause, same_finding}
 pub use Rattle.sd_explain.specs.declared.explanation.Part.{Part}
 pub use Rattle.sd_explain.specs.declared.reason.Cause.{Cause}
-pub use Rattle.sd_explain.specs.declared.reason.Cause.TheVariants.{BeyondAll, Listed, NoList, NoSecurity, Owner, Reserved, Restricted, Security, TakeOwnership}
+pub use Rattle.sd_explain.specs.declared.reason.Cause.TheVariants.{BeyondAll, Label, Listed, NoList, NoSecurity, Owner, Reserved, Restricted, Security, TakeOwnership}
 pub use Rattle.sd_explain.specs.declared.reason.Finding.{Finding}
 pub use Rattle.sd_explain.specs.declared.reason.Finding.TheVariants.{Allowed, Denied, NoEntry}
 pub use Rattle.sd_explain.specs.declared.reason.Reason.{Reason}

@@ -1,5 +1,5 @@
 -- The proofs of the laws on parts.
-use Rattle.sd_explain.proofs.Cited.{Allowed, BeyondAll, Bool, Cause, Denied, Finding, IsPartOf, Listed, NoEntry, NoList, NoSecurity, None, Option, Owner, Part, Reason, Reserved, Restricted, Security, Some, TakeOwnership, and_from, and_parts, ap, arith, bit_at-zero, bits_of, cases_Bool, cases_order, cond, cond-true, eq-eqb, eqb-true, false, false≢true, holds, holds-mask_of, holds_place, inl, inr, is_of_share, lt-ltb, part_at, refl, same_cause, same_finding, suc, sym, true, zero, ℕ, ◌*◌, ◌+◌, ◌<◌, ◌==◌, ◌^◌, ◌∙◌, ◌≡◌, ◌≢◌}
+use Rattle.sd_explain.proofs.Cited.{Allowed, BeyondAll, Bool, Cause, Denied, Finding, IsPartOf, Label, Listed, NoEntry, NoList, NoSecurity, None, Option, Owner, Part, Reason, Reserved, Restricted, Security, Some, TakeOwnership, and_from, and_parts, ap, arith, bit_at-zero, bits_of, cases_Bool, cases_order, cond, cond-true, eq-eqb, eqb-true, false, false≢true, holds, holds-mask_of, holds_place, inl, inr, is_of_share, lt-ltb, part_at, refl, same_cause, same_finding, suc, sym, true, zero, ℕ, ◌*◌, ◌+◌, ◌<◌, ◌==◌, ◌^◌, ◌∙◌, ◌≡◌, ◌≢◌}
 use Rattle.sd_sid.specs.Mask.{mask_of}
 use Rattle.sd_explain.specs.Parts.{part_of}
 use Rattle.sd_explain.specs.declared.reason.Share.TheVariants as shares
@@ -29,6 +29,7 @@ same_cause-true Security Security h = refl
 same_cause-true NoSecurity NoSecurity h = refl
 same_cause-true BeyondAll BeyondAll h = refl
 same_cause-true Reserved Reserved h = refl
+same_cause-true Label Label h = refl
 same_cause-true a b h = absurd cc
 
 same_cause-itself : (a : Cause) → same_cause a a ≡ true

@@ -15,7 +15,7 @@ use Rattle.sd_explain.specs.declared.reason.Finding.{Finding}
 use Rattle.sd_explain.specs.declared.reason.Finding.TheVariants.{Allowed, Denied, NoEntry}
 use Rattle.sd_explain.specs.declared.reason.Cause.{Cause}
 use Rattle.sd_explain.specs.declared.reason.Cause.TheVariants.{NoList, Listed, Restricted, Owner, TakeOwnership}
-use Rattle.sd_explain.specs.declared.reason.Cause.TheVariants.{Security, NoSecurity, BeyondAll, Reserved}
+use Rattle.sd_explain.specs.declared.reason.Cause.TheVariants.{Security, NoSecurity, BeyondAll, Reserved, Label}
 use Rattle.sd_explain.specs.declared.reason.Reason.{Reason}
 use Rattle.sd_explain.specs.declared.reason.Share.{Share}
 use Rattle.sd_explain.specs.declared.reason.Share.TheVariants as shares
@@ -49,6 +49,7 @@ grants Security = true
 grants NoSecurity = false
 grants BeyondAll = false
 grants Reserved = false
+grants Label = false
 
 -- what the list says of the bit: one pass, or each of the two
 abbrev pub listed_cause : Option SidValue → List Ace → MappingValue → TokenValue → ℕ → Cause
@@ -122,6 +123,7 @@ same_cause Security Security = true
 same_cause NoSecurity NoSecurity = true
 same_cause BeyondAll BeyondAll = true
 same_cause Reserved Reserved = true
+same_cause Label Label = true
 same_cause cause other = false
 
 -- whether a bit with this reason is of the share

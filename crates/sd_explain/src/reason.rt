@@ -38,6 +38,8 @@ pub enum Cause {
     BeyondAll,
     /// The bit is reserved: no check answers it.
     Reserved,
+    /// Taken by the object's integrity label, whatever the DACL and the privileges say ([MS-DTYP] 2.5.3.3).
+    Label,
 }
 
 /// Why a bit is part of an answer.
@@ -93,6 +95,7 @@ impl Cause {
             Cause::NoSecurity => false,
             Cause::BeyondAll => false,
             Cause::Reserved => false,
+            Cause::Label => false,
         }
     }
 }

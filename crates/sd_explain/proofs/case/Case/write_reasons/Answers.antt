@@ -1,4 +1,4 @@
-use Rattle.sd_explain.proofs.Cited.{List, None, Option, Reason, ap, arith, fill_by_all, get_or, get_or-replicate, length, of_case, reason_at, sym, ◌∙◌}
+use Rattle.sd_explain.proofs.Cited.{List, None, Option, Reason, ap, arith, fill_by_all, get_or, get_or-replicate, of_case, reason_at, sym, ◌∙◌}
 use Rattle.sd_explain.proofs.Written.{written_here, written_not, written_all}
 use Rattle.sd_explain.proofs.case.Case.write_reasons.Goals as goal
 
