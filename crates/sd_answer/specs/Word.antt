@@ -9,7 +9,7 @@ use Rattle.sd_text.specs.declared.alias.Aliases.{Aliases}
 use Rattle.sd_check.specs.Token.{TokenValue, no_privileges}
 use Rattle.sd_check.specs.declared.token.GroupState.{GroupState}
 use Rattle.sd_check.specs.declared.token.GroupState.TheVariants.{Enabled, DenyOnly, Disabled}
-use Rattle.sd_answer.specs.declared.word.Parts.{Parts}
+use Rattle.sd_answer.specs.declared.word.TokenParts.{TokenParts}
 use Rattle.sd_answer.specs.declared.word.Word.{Word}
 use Rattle.sd_answer.specs.declared.word.Word.TheVariants.{Group, Restricting, Security, TakeOwnership}
 
@@ -79,7 +79,7 @@ with_word t Security = record t { privileges = record t.privileges { security = 
 with_word t TakeOwnership = record t { privileges = record t.privileges { take_ownership = true } }
 
 -- a token in the making, as a token
-abbrev pub parts_token : Parts → TokenValue
+abbrev pub parts_token : TokenParts → TokenValue
 parts_token parts = record {
   user = parts.user;
   groups = parts.groups.items;

@@ -36,5 +36,5 @@ pub use lint::{first_misplaced, lint_lines};
 pub use parts::{dacl_ref, descriptor_ref, entries_in};
 pub use verdict_lines::{entry_fault_line, fault_line, sddl_fault_line, verdict_line};
 pub use who::{rights_asked, who_lines};
-pub use why::why_lines;
-pub use word::{TokenError, read_base, read_token};
+pub use why::{explanation_lines, why_lines};
+pub use word::{TokenError, TokenParts, Word, read_base, read_token, read_word};

@@ -1,9 +1,9 @@
 //! The words that make a token: a user's groups, restricting SIDs and privileges.
-ghost use Rattle.std.specs.Prelude.{◌≡◌, ◌<◌, ℕ, Err, IfSome, IfNone, IfOk, OnOk, length};
+ghost use Rattle.std.specs.Prelude.{◌≡◌, ◌<◌, ℕ, Err, [], IfSome, IfNone, IfOk, OnOk, length};
 ghost use Rattle.sd_sid.specs.Sid.{SidValue};
 ghost use Rattle.sd_answer.specs.declared.word.TokenError.TheVariants.{Memory};
 ghost use Rattle.sd_answer.specs.Word.{AreGroups, IsFirstNoGroup, IsFirstNoWord, IsGroup, IsSidBefore, IsToken, IsWord};
-ghost use Rattle.sd_answer.specs.Word.{parts_token, with_word};
+ghost use Rattle.sd_answer.specs.Word.{parts_token, token_of, with_word};
 ghost use Rattle.sd_answer.specs.Word.{texts as texts_of};
 
 use sd_check::{GroupState, Privileges, Token};
@@ -12,9 +12,9 @@ use sd_text::{Aliases, read_sid_text_in};
 use std::alloc::{AllocError, AllocFailed, Global};
 use thiserror::Error;
 
-/// What a word adds to the token.
+/// What a word adds to the token ([MS-DTYP] 2.5.2).
 #[derive(Clone, Copy, Debug)]
-pub(crate) enum Word {
+pub enum Word {
     /// `SID`, `SID=deny` or `SID=off`: a group.
     Group { sid: Sid, state: GroupState },
     /// `SID=restrict`: a restricting SID, which is no group.
@@ -79,8 +79,9 @@ fn read_group(known: Aliases, text: &str) -> Option<(Sid, GroupState)>
     Some((sid, GroupState::Disabled))
 }
 
-/// The word that the text is.
-fn read_word(known: Aliases, text: &str) -> Option<Word>
+/// The word that the text is, whose SID may have these aliases: a group, `SID`, `SID=deny` or `SID=off`, a restricting
+/// SID, `SID=restrict`, or a privilege, `+security` or `+take` ([MS-DTYP] 2.5.2). `None`: it is none of these.
+pub fn read_word(known: Aliases, text: &str) -> Option<Word>
     ensures word { IfSome result (IsWord known text.now) }
     ensures none { IfNone result ((word : Word) → IsWord known text.now word → ⊥) }
 {
@@ -112,38 +113,40 @@ pub fn read_token(
         → IsFirstNoWord known (texts_of texts.now) place }
     ensures within { (place : ℕ) → result ≡ Err (TokenError.NoWord place) → place < length texts.now }
 {
-    let mut parts = Parts {
-        user,
-        groups: Vec::new(alloc),
-        restricting: Vec::new(alloc),
-        privileges: Privileges::default(),
-    };
+    let mut parts = TokenParts::new(alloc, user);
     for place in 0..texts.len() {
         match read_word(known, texts[place]) {
             Some(word) => parts.add(word)?,
             None => return Err(TokenError::NoWord { place }),
         }
     }
-    Ok(Token::restricted(
-        parts.user,
-        parts.groups,
-        parts.restricting,
-        parts.privileges,
-    ))
+    Ok(parts.into_token())
 }
 
-/// A token in the making: of a user, and of the words so far.
+/// A token in the making ([MS-DTYP] 2.5.2): of a user, and of the words so far.
 #[derive(Drop)]
-struct Parts {
+pub struct TokenParts {
     user: Sid,
     groups: Vec<(Sid, GroupState)>,
     restricting: Vec<Sid>,
     privileges: Privileges,
 }
 
-impl Parts {
-    /// Adds what a word adds.
-    fn add(&mut self, word: Word) -> Result<(), AllocError>
+impl TokenParts {
+    /// The token of the user, without groups and privileges, which nothing restricts.
+    pub fn new(alloc: Global, user: Sid) -> TokenParts
+        ensures { parts_token result ≡ token_of user [] }
+    {
+        TokenParts {
+            user,
+            groups: Vec::new(alloc),
+            restricting: Vec::new(alloc),
+            privileges: Privileges::default(),
+        }
+    }
+
+    /// Adds what a word adds: a restricting SID is no group. The only error is out of memory.
+    pub fn add(&mut self, word: Word) -> Result<(), AllocError>
         ensures { OnOk result (parts_token self.new ≡ with_word (parts_token self.old) word) }
     {
         match word {
@@ -153,6 +156,20 @@ impl Parts {
             Word::TakeOwnership => self.privileges.take_ownership = true,
         }
         Ok(())
+    }
+
+    /// The groups so far, in order.
+    pub fn groups(&self) -> &[(Sid, GroupState)]
+        ensures { result.now ≡ (parts_token self.now).groups }
+    {
+        &self.groups
+    }
+
+    /// The token. Takes no memory.
+    pub fn into_token(self) -> Token
+        ensures { result ≡ parts_token self }
+    {
+        Token::restricted(self.user, self.groups, self.restricting, self.privileges)
     }
 }
 

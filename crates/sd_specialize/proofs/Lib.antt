@@ -4,5 +4,5 @@ pub mod PlainStays
 pub mod Parts
 pub mod Denies
 pub mod Chains
-pub mod Labels
+pub mod Alike
 pub mod Unknowns

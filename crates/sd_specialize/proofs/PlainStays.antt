@@ -1,8 +1,8 @@
 -- A descriptor with a plain part is that part.
-use Rattle.std.proofs.Common.{◌≡◌, ℕ, ◌+◌, ◌<◌, ◌≤◌, ◌∷◌, [], List, Bool, true, false, length, ◌⊎◌, Option, Some, None, Ok, Err, Result, ap, arith, refl, ◌∙◌, inl, inr, map}
-use Rattle.std.specs.Prelude.{if◌then◌else◌}
+use Rattle.std.proofs.Common.{◌≡◌, ℕ, ◌+◌, ◌<◌, ◌≤◌, ◌∷◌, [], List, Bool, true, false, ◌&&◌, ◌||◌, length, ◌⊎◌, Option, Some, None, Ok, Err, Result, ap, arith, refl, ◌∙◌, inl, inr, map}
+use Rattle.std.specs.Prelude.{if◌then◌else◌, is_some}
 use Rattle.std.proofs.lemmas.Bool.{le-ltb, lt-ltb}
-use Rattle.std.specs.List.{filter_map, position_or_len}
+use Rattle.std.specs.List.{filter_map, list_any, position_or_len}
 use Rattle.std.specs.Result.{result_map_both}
 use Rattle.std.proofs.lemmas.Option.{slice_get_cases}
 use Rattle.sd_acl.specs.Ace.{acl_size_of}
@@ -25,27 +25,29 @@ use Rattle.sd_whole.specs.declared.plain.OddEntry.{OddEntry}
 use Rattle.sd_acl.specs.Descriptor.{DescriptorValue}
 use Rattle.sd_specialize.specs.Context.{ContextValue}
 use Rattle.sd_specialize.specs.Entry.{entry_for, plain_for, principal_self, sid_or, typed_for}
-use Rattle.sd_specialize.specs.Laws.{PlainStaysPlain}
+use Rattle.sd_specialize.specs.Laws.{PlainStaysPlain, has_self, is_for_self}
 use Rattle.sd_specialize.specs.Specialize.{entries_for, specialized, specialized_acl, specialized_list, ◌>>=◌}
 
 -- ---- an entry
 
-themselves : (c : ContextValue) (test : Bool) (s : SidValue) → c.principal_self ≡ None → (if test then sid_or c.principal_self s else s) ≡ s
-themselves c true s nobody = rw nobody refl
-themselves c false s nobody = refl
+themselves : (named : Option SidValue) (test : Bool) (s : SidValue) → (is_some named && test) ≡ false → (if test then sid_or named s else s) ≡ s
+themselves None true s nobody = refl
+themselves (Some sid) true s nobody = absurd cc
+themselves named false s nobody = refl
 
-plainly : (c : ContextValue) (kind : AceKind) (flags mask : ℕ) (s : SidValue) → c.principal_self ≡ None
+plainly : (c : ContextValue) (kind : AceKind) (flags mask : ℕ) (s : SidValue) → (is_some c.principal_self && same_sid s principal_self) ≡ false
     → plain_for c kind flags mask s ≡ plain_ace kind flags mask s
-plainly c kind flags mask s nobody = ap (plain_ace kind flags mask) (themselves c (same_sid s principal_self) s nobody)
+plainly c kind flags mask s nobody = ap (plain_ace kind flags mask) (themselves c.principal_self (same_sid s principal_self) s nobody)
 
-typed_plainly : (c : ContextValue) (k : Option AceKind) (e : TypedAce) (p : Ace) → c.principal_self ≡ None
+typed_plainly : (c : ContextValue) (k : Option AceKind) (e : TypedAce) (p : Ace) → (is_some c.principal_self && same_sid e.sid principal_self) ≡ false
     → plain_as k e ≡ Some p → typed_for k c e ≡ Ok p
 typed_plainly c None e p nobody h = absurd cc
 typed_plainly c (Some kind) e p nobody h =
     let same : plain_ace kind e.flags.0 e.mask e.sid ≡ p = cc in
     ap Ok (plainly c kind e.flags.0 e.mask e.sid nobody ∙ same)
 
-entry_plainly : (c : ContextValue) (e : WholeAce) (p : Ace) → c.principal_self ≡ None → plain_form e ≡ Some p → entry_for c e ≡ Ok p
+entry_plainly : (c : ContextValue) (e : WholeAce) (p : Ace) → (is_some c.principal_self && is_for_self e) ≡ false → plain_form e ≡ Some p
+    → entry_for c e ≡ Ok p
 entry_plainly c (Plain e) p nobody h =
     let same : plain_ace e.kind e.flags.0 e.mask e.sid ≡ p = cc in
     ap Ok (plainly c e.kind e.flags.0 e.mask e.sid nobody ∙ same)
@@ -59,14 +61,21 @@ pub record AllPlain (es : List WholeAce) : Type 0 where
   pub forms : List Ace
   pub are : map plain_form es ≡ map (λ e. Some e) forms
 
-entries_plainly : (c : ContextValue) (n : ℕ) (es : List WholeAce) (ps : List Ace) → c.principal_self ≡ None
+-- what is for nobody in a list is for nobody in its first entry and in the others
+none_here : (named here later : Bool) → (named && (here || later)) ≡ false → (named && here) ≡ false
+none_here named here later h = grind (arith, h)
+
+none_later : (named here later : Bool) → (named && (here || later)) ≡ false → (named && later) ≡ false
+none_later named here later h = grind (arith, h)
+
+entries_plainly : (c : ContextValue) (n : ℕ) (es : List WholeAce) (ps : List Ace) → (is_some c.principal_self && list_any is_for_self es) ≡ false
     → map plain_form es ≡ map (λ e. Some e) ps → entries_for c n es ≡ Ok ps
 entries_plainly c n [] [] nobody h = refl
 entries_plainly c n [] (p ∷ ps) nobody h = absurd cc
 entries_plainly c n (e ∷ es) [] nobody h = absurd cc
 entries_plainly c n (e ∷ es) (p ∷ ps) nobody h =
-    let one = entry_plainly c e p nobody cc in
-    let others = entries_plainly c (n + 1) es ps nobody cc in
+    let one = entry_plainly c e p (none_here (is_some c.principal_self) (is_for_self e) (list_any is_for_self es) nobody) cc in
+    let others = entries_plainly c (n + 1) es ps (none_later (is_some c.principal_self) (is_for_self e) (list_any is_for_self es) nobody) cc in
     rw (one, others) refl
 
 -- an entry without a plain form is found, or each has one
@@ -100,7 +109,7 @@ listed_fits es ps None none h =
     rw forms at (forms_fit es)
 listed_fits es ps (Some odd) is h = absurd (let refused = rw is at h in cc)
 
-list_plainly : (c : ContextValue) (es : List WholeAce) (ps : List Ace) → c.principal_self ≡ None → whole_acl_size es ≤ 65535
+list_plainly : (c : ContextValue) (es : List WholeAce) (ps : List Ace) → (is_some c.principal_self && list_any is_for_self es) ≡ false → whole_acl_size es ≤ 65535
     → plain_list es ≡ Ok ps → specialized_list c es ≡ Ok ps
 list_plainly c es ps nobody small h = elim (odd_or_plain es) [
   | inl odd ↦ absurd (odd_is_refused es ps odd h)
@@ -111,19 +120,19 @@ list_plainly c es ps nobody small h = elim (odd_or_plain es) [
       rw (entries, le-ltb 65535 (acl_size_of ps) (omega arith)) refl
 ]
 
-of_list : (c : ContextValue) (es : List WholeAce) (found : Result (List Ace) OddEntry) (plain : Dacl) → c.principal_self ≡ None
+of_list : (c : ContextValue) (es : List WholeAce) (found : Result (List Ace) OddEntry) (plain : Dacl) → (is_some c.principal_self && list_any is_for_self es) ≡ false
     → whole_acl_size es ≤ 65535 → plain_list es ≡ found → result_map_both Entries (λ odd. odd) found ≡ Ok plain
     → (specialized_list c es >>= λ list. Ok (Entries list)) ≡ Ok plain
 of_list c es (Ok ps) plain nobody small is h = rw (list_plainly c es ps nobody small is) cc
 of_list c es (Err odd) plain nobody small is h = absurd cc
 
-acl_plainly : (c : ContextValue) (acl : WholeAcl) (plain : Dacl) → c.principal_self ≡ None → IsWholeAcl acl
+acl_plainly : (c : ContextValue) (acl : WholeAcl) (plain : Dacl) → (is_some c.principal_self && has_self acl) ≡ false → IsWholeAcl acl
     → plain_acl acl ≡ Ok plain → specialized_acl c acl ≡ Ok plain
 acl_plainly c Absent plain nobody is h = cc
 acl_plainly c Null plain nobody is h = cc
 acl_plainly c (Entries list) plain nobody is h = of_list c list.entries (plain_list list.entries) plain nobody is.fit refl h
 
-of_acl : (c : ContextValue) (d : WholeDescriptor) (found : Result Dacl OddEntry) (plain : DescriptorValue) → c.principal_self ≡ None
+of_acl : (c : ContextValue) (d : WholeDescriptor) (found : Result Dacl OddEntry) (plain : DescriptorValue) → (is_some c.principal_self && has_self d.dacl) ≡ false
     → IsWholeAcl d.dacl → plain_acl d.dacl ≡ found → result_map_both (with_dacl d) (λ odd. odd) found ≡ Ok plain
     → specialized c d ≡ Ok plain
 of_acl c d (Ok dacl) plain nobody whole is h = rw (acl_plainly c d.dacl dacl nobody whole is) cc

@@ -1,12 +1,15 @@
 -- What follows from the rules, over all lists, tokens and requests.
-use Rattle.std.specs.Prelude.{◌≡◌, ℕ, true, false, ◌||◌, ◌==◌, List, [], ◌∷◌, ◌++◌, Option, Some, None, Ok}
+use Rattle.std.specs.Prelude.{◌≡◌, ℕ, Bool, true, false, ◌&&◌, ◌||◌, ◌==◌, List, [], ◌∷◌, ◌++◌, Option, Some, None, Ok}
+use Rattle.std.specs.Prelude.{is_some}
+use Rattle.std.specs.List.{list_any}
 use Rattle.sd_sid.specs.Mapping.{MappingValue}
-use Rattle.sd_sid.specs.Sid.{SidValue}
+use Rattle.sd_sid.specs.Sid.{SidValue, same_sid}
 use Rattle.sd_acl.specs.Ace.{is_inherit_only}
 use Rattle.sd_acl.specs.Descriptor.{DescriptorValue}
 use Rattle.sd_acl.specs.declared.ace.Ace.{Ace}
 use Rattle.sd_acl.specs.declared.ace.AceKind.{AceKind}
 use Rattle.sd_acl.specs.declared.ace.AceKind.TheVariants.{Deny}
+use Rattle.sd_acl.specs.declared.descriptor.DaclOf.TheVariants.{Absent, Null, List as Entries}
 use Rattle.sd_check.specs.Check.{is_granted, is_limit, verdict}
 use Rattle.sd_check.specs.Token.{TokenValue}
 use Rattle.sd_check.specs.declared.grounds.Pass.{Pass}
@@ -18,15 +21,29 @@ use Rattle.sd_whole.specs.declared.descriptor.WholeDescriptor.{WholeDescriptor}
 use Rattle.sd_whole.specs.declared.kind.WholeKind.TheVariants.{CallbackAllow, CallbackDeny}
 use Rattle.sd_whole.specs.declared.types.Guid.{Guid}
 use Rattle.sd_whole.specs.Plain.{plain_part}
+use Rattle.sd_whole.specs.Reading.{WholeAcl}
 use Rattle.sd_whole.specs.Whole.{IsWholeDescriptor}
 use Rattle.sd_specialize.specs.Context.{ContextValue}
-use Rattle.sd_specialize.specs.Entry.{decides, entry_for, for_children_alone, plain_for, without_part}
+use Rattle.sd_specialize.specs.Entry.{decides, entry_for, for_children_alone, plain_for, principal_self, without_part}
 use Rattle.sd_specialize.specs.Specialize.{specialized, specialized_list}
 
--- a descriptor with a plain part is that part for every question that names nobody for PRINCIPAL SELF
+-- the entry is for PRINCIPAL SELF
+abbrev pub is_for_self : WholeAce → Bool
+is_for_self (Plain e) = same_sid e.sid principal_self
+is_for_self (Typed e) = same_sid e.sid principal_self
+is_for_self (Opaque e) = false
+
+-- an entry of the DACL is
+abbrev pub has_self : WholeAcl → Bool
+has_self Absent = false
+has_self Null = false
+has_self (Entries list) = list_any is_for_self list.entries
+
+-- a descriptor with a plain part is that part for every question, if it has no entry for PRINCIPAL SELF or the question
+-- names nobody for it
 abbrev pub PlainStaysPlain : Type 0
 PlainStaysPlain = (c : ContextValue) (d : WholeDescriptor) (plain : DescriptorValue) → IsWholeDescriptor d
-    → c.principal_self ≡ None → plain_part d ≡ Ok plain → specialized c d ≡ Ok plain
+    → (is_some c.principal_self && has_self d.dacl) ≡ false → plain_part d ≡ Ok plain → specialized c d ≡ Ok plain
 
 -- an entry has no part where it is for children alone, or names no right; but an effective one for OWNER RIGHTS limits
 -- the owner

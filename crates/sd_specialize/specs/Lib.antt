@@ -1,5 +1,5 @@
 pub mod Context
 pub mod Entry
 pub mod Specialize
-pub mod Label
+pub mod Everyone
 pub mod Laws

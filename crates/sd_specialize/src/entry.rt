@@ -149,7 +149,7 @@ pub(crate) fn for_children_alone(flags: AceFlags) -> bool
 }
 
 /// NULL SID, nobody's, S-1-0-0 ([MS-DTYP] 2.4.2.4).
-fn nobody() -> Sid
+pub(crate) fn nobody() -> Sid
     ensures { result ≡ nobody }
 {
     Sid::new(0, &[0]).unwrap()

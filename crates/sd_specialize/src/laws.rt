@@ -4,7 +4,7 @@ ghost use Rattle.sd_specialize.specs.Laws.{DenyNeverGrants, NoPartChangesNothing
 ghost use Rattle.sd_specialize.specs.Laws.{WholeIsEveryPart};
 
 /// A law: a descriptor whose DACL has allows and denies alone is its plain part for every question, whatever else is
-/// known; but PRINCIPAL SELF is a SID that the question names.
+/// known; but where it has an entry for PRINCIPAL SELF, that is a SID that the question names.
 pub fn plain_stays_plain()
     ensures { PlainStaysPlain }
 {}

@@ -17,14 +17,14 @@ mod condition;
 mod context;
 mod descriptor;
 mod entry;
+mod everyone;
 mod fault;
-mod label;
 mod laws;
 
 pub use context::Context;
 pub use descriptor::specialized;
+pub use everyone::specialized_for_everyone;
 pub use fault::{RefusedEntry, RefusedKind, SpecializeError, SpecializeFault};
-pub use label::Label;
 pub use laws::{
     deny_never_grants, no_part_changes_nothing, plain_stays_plain, unknown_fails_closed,
     whole_is_every_part,

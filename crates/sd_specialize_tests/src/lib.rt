@@ -1,6 +1,8 @@
-//! Tests of whole DACLs for one question.
+//! Tests of whole DACLs for one question, of labels, and of questions about whole descriptors.
 #![tactic(auto)]
 
+#[cfg(test)]
+mod access_tests;
 #[cfg(test)]
 mod rows;
 #[cfg(test)]

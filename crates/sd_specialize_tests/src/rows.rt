@@ -103,28 +103,80 @@ D:(A;;FR;;;BU)(XD;;FR;;;WD;(Member_of {SID(RC)})) | - | - | WD WD=restrict RC=re
 /// Labels: the descriptor, the token's level, and what is taken of the mapping of files (2.5.3.3). There GENERIC_READ
 /// is 0x120089, GENERIC_WRITE 0x120116, GENERIC_EXECUTE 0x1200A0.
 pub(crate) const LABELS: &str = "\
-without a label an object is Medium, no write up: what GENERIC_READ and GENERIC_EXECUTE are mapped to is left
+without a label an object is Medium, no write up: what GENERIC_READ and GENERIC_EXECUTE are mapped to is left, 0x1200a9
 D: | 8192 | 0x0
-D: | 4096 | 0x116
-S: | 8191 | 0x116
-S:NO_ACCESS_CONTROL | 4096 | 0x116
-S:(AU;SA;FA;;;WD) | 0 | 0x116
-each policy takes what its right is mapped to, but for what another is that it doesn't take
-S:(ML;;NW;;;HI) | 8192 | 0x116
-S:(ML;;NR;;;HI) | 8192 | 0x9
-S:(ML;;NX;;;HI) | 8192 | 0x20
-S:(ML;;NWNR;;;HI) | 8192 | 0x11f
-S:(ML;;NWNRNX;;;HI) | 8192 | 0x1201bf
-S:(ML;;0x0;;;HI) | 8192 | 0x0
+D: | 4096 | 0xffedff56
+S: | 8191 | 0xffedff56
+S:NO_ACCESS_CONTROL | 4096 | 0xffedff56
+S:(AU;SA;FA;;;WD) | 0 | 0xffedff56
+what the rights that no policy bars are mapped to is left, and nothing else
+S:(ML;;NW;;;HI) | 8192 | 0xffedff56
+S:(ML;;NR;;;HI) | 8192 | 0xffedfe49
+S:(ML;;NX;;;HI) | 8192 | 0xffedfe60
+S:(ML;;NWNR;;;HI) | 8192 | 0xffedff5f
+S:(ML;;NWNRNX;;;HI) | 8192 | 0xffffffff
+S:(ML;;0x0;;;HI) | 8192 | 0xffedfe40
 a token of the object's level or of a higher one loses nothing
 S:(ML;;NWNRNX;;;HI) | 12288 | 0x0
 S:(ML;;NWNRNX;;;HI) | 16384 | 0x0
 S:(ML;;NWNRNX;;;LW) | 8192 | 0x0
 the first effective label counts
 S:(ML;;NR;;;LW)(ML;;NW;;;HI) | 8192 | 0x0
-S:(AU;SA;FA;;;WD)(ML;;NW;;;SI) | 12288 | 0x116
+S:(AU;SA;FA;;;WD)(ML;;NW;;;SI) | 12288 | 0xffedff56
 S:(ML;OIIO;NWNRNX;;;HI) | 8192 | 0x0
-S:(ML;OIIO;NWNRNX;;;HI)(ML;;NX;;;HI) | 8192 | 0x20
+S:(ML;OIIO;NWNRNX;;;HI)(ML;;NX;;;HI) | 8192 | 0xffedfe60
 a SID that is no integrity SID is above every level
-S:(ML;;NW;;;WD) | 16384 | 0x116
+S:(ML;;NW;;;WD) | 16384 | 0xffedff56
+";
+
+/// Verdicts under a label (2.5.3.3): the descriptor, the token's level, a mask, the verdict for a user of BU, and the
+/// bits whose reason is the label.
+pub(crate) const UNDER: &str = "\
+a label denies what it takes, whatever the DACL grants
+D:(A;;FA;;;BU)S:(ML;;NW;;;HI) | 8192 | 0x1 | granted 0x1 | 0x0
+D:(A;;FA;;;BU)S:(ML;;NW;;;HI) | 8192 | 0x3 | denied 0x2 | 0x2
+D:(A;;FA;;;BU)S:(ML;;NR;;;HI) | 8192 | 0x3 | denied 0x1 | 0x1
+D:(A;;FA;;;BU)S:(ML;;NW;;;HI) | 12288 | 0x3 | granted 0x3 | 0x0
+D:(A;;FA;;;BU) | 4096 | GW | denied 0x116 | 0x116
+D:NO_ACCESS_CONTROL | 4096 | 0x3 | denied 0x2 | 0x2
+DELETE, WRITE_DAC and WRITE_OWNER are no part of the three, and WRITE_DAC is taken from the owner too
+D:(A;;FA;;;BU)S:(ML;;NW;;;HI) | 8192 | 0x10000 | denied 0x10000 | 0x10000
+O:%D:S:(ML;;NW;;;HI) | 8192 | 0x20000 | granted 0x20000 | 0x0
+O:%D:S:(ML;;NW;;;HI) | 8192 | 0x60000 | denied 0x40000 | 0x40000
+beside what the DACL denies
+D:(A;;0x2;;;BU)S:(ML;;NW;;;HI) | 8192 | 0x3 | denied 0x3 | 0x2
+D:S:(ML;;NW;;;HI) | 8192 | 0x3 | denied 0x3 | 0x2
+MAXIMUM_ALLOWED takes in what is left
+D:(A;;FA;;;BU)S:(ML;;NW;;;HI) | 8192 | 0x2000000 | granted 0x1200a9 | 0xdff56
+D:(A;;FA;;;BU)S:(ML;;NWNRNX;;;HI) | 8192 | 0x2000000 | denied 0x2000000 | 0x1fffff
+D:(A;;FA;;;BU)S:(ML;;NW;;;HI) | 8192 | 0x2000002 | denied 0x2 | 0xdff56
+a request without an answer has none
+D:(A;;FA;;;BU)S:(ML;;NWNRNX;;;HI) | 8192 | 0x200001 | reserved 0x200000 | 0x0
+D:(A;;FA;;;BU)S:(ML;;NWNRNX;;;HI) | 8192 | 0x0 | empty | 0x0
+";
+
+/// Questions about whole descriptors: the descriptor, the object types asked about, whom PRINCIPAL SELF stands for,
+/// groups of the user, the client's level, a mask, the verdict by the mapping of files. Signs and claims are those of
+/// `ROWS`.
+pub(crate) const ACCESS: &str = "\
+an object allow is for its type alone
+D:(OA;;FR;$;;BU) | ~ ^ $ | - | BU | 8192 | 0x1 | granted 0x1
+D:(OA;;FR;$;;BU) | - | - | BU | 8192 | 0x1 | denied 0x1
+a condition asks about claims of the client and of the object's resource attributes (2.4.4.15)
+D:(XA;;FR;;;BU;(@User.Grade >= @Resource.Grade))S:(RA;;;;;WD;(\"Grade\",TI,0,4)) | - | - | BU | 8192 | 0x1 | granted 0x1
+D:(XA;;FR;;;BU;(@User.Grade >= @Resource.Grade))S:(RA;;;;;WD;(\"Grade\",TI,0,6)) | - | - | BU | 8192 | 0x1 | denied 0x1
+D:(XA;;FR;;;BU;(@User.Grade >= @Resource.Grade)) | - | - | BU | 8192 | 0x1 | denied 0x1
+D:(XA;;FR;;;BU;(@Resource.A == 1))S:(AU;SA;FA;;;WD)(RA;;;;;WD;(\"A\",TI,0,1)) | - | - | BU | 8192 | 0x1 | granted 0x1
+an inherit-only resource attribute is for children alone
+D:(XA;;FR;;;BU;(@Resource.One == 1))S:(RA;OIIO;;;;WD;(\"One\",TI,0,1)) | - | - | BU | 8192 | 0x1 | denied 0x1
+a label takes from a client of a lower level
+D:(A;;FA;;;BU)S:(ML;;NW;;;HI) | - | - | BU | 8192 | 0x3 | denied 0x2
+D:(A;;FA;;;BU)S:(ML;;NW;;;HI) | - | - | BU | 12288 | 0x3 | granted 0x3
+D:(A;;FA;;;BU) | - | - | BU | 4096 | 0x2000000 | granted 0x1200a9
+PRINCIPAL SELF is whom the question names
+D:(A;;FR;;;PS) | - | % | - | 8192 | 0x1 | granted 0x1
+D:(A;;FR;;;PS) | - | - | - | 8192 | 0x1 | denied 0x1
+all of these
+D:(ZA;;FA;$;;PS;(@Resource.A == 1))S:(ML;;NW;;;HI)(RA;;;;;WD;(\"A\",TI,0,1)) | ~ $ | % | - | 8192 | 0x3 | denied 0x2
+D:(ZA;;FA;$;;PS;(@Resource.A == 1))S:(ML;;NW;;;HI)(RA;;;;;WD;(\"A\",TI,0,1)) | ~ $ | % | - | 8192 | 0x1 | granted 0x1
 ";

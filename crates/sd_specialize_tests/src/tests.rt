@@ -1,13 +1,15 @@
 //! Whole DACLs for one question: the plain ones, and the verdicts.
 
-use crate::rows::{LABELS, REFUSED, ROWS};
+use crate::rows::{LABELS, REFUSED, ROWS, UNDER};
 use bitflags::Flags;
 use sd_acl::{AceFlags, DaclOf, Descriptor};
 use sd_check::{GroupState, Privileges, Token, Verdict, check};
 use sd_claim::{Claim, read_claim};
 use sd_evaluation::Facts;
+use sd_explain::{Cause, Share};
+use sd_label::{Label, check_under, explain_under};
 use sd_sid::{GenericMapping, Sid};
-use sd_specialize::{Context, Label, SpecializeError, SpecializeFault, specialized};
+use sd_specialize::{Context, SpecializeError, SpecializeFault, specialized};
 use sd_text::{Aliases, print_sddl, read_mask, read_sid_text};
 use sd_whole::{AceData, Guid, ListRevision, OpaqueAce, WholeAce, WholeDescriptor, WholeList};
 use sd_whole_parse::read_whole_sddl;
@@ -36,17 +38,17 @@ fn spelled(alloc: Global, text: &str) -> Result<String, AllocError> {
 
 /// What a row says of a question.
 #[derive(Drop)]
-struct Asked<'a> {
-    whole: WholeDescriptor,
-    chain: Vec<Guid>,
-    principal_self: Option<Sid>,
-    token: Token,
+pub(crate) struct Asked<'a> {
+    pub(crate) whole: WholeDescriptor,
+    pub(crate) chain: Vec<Guid>,
+    pub(crate) principal_self: Option<Sid>,
+    pub(crate) token: Token,
     /// The columns after these.
-    rest: &'a str,
+    pub(crate) rest: &'a str,
 }
 
 /// The first column of the text, and the others; of a column `-` nothing.
-fn column<'a>(rt: &impl Abort, text: &'a str) -> (&'a str, &'a str) {
+pub(crate) fn column<'a>(rt: &impl Abort, text: &'a str) -> (&'a str, &'a str) {
     let (first, rest) = text.split_once(" | ").expect(rt, "another column");
     (if first == "-" { "" } else { first }, rest)
 }
@@ -58,7 +60,11 @@ fn sid_of(rt: &impl Abort, text: &str) -> Sid {
 }
 
 /// The descriptor of a text, in which % is the user.
-fn whole_of(rt: &impl Abort, alloc: Global, text: &str) -> Result<WholeDescriptor, AllocError> {
+pub(crate) fn whole_of(
+    rt: &impl Abort,
+    alloc: Global,
+    text: &str,
+) -> Result<WholeDescriptor, AllocError> {
     let text = spelled(alloc, text)?;
     Ok(read_whole_sddl(alloc, Aliases::in_domain(None), text.as_str()).expect(rt, "a descriptor"))
 }
@@ -79,7 +85,7 @@ fn chain_of(rt: &impl Abort, alloc: Global, text: &str) -> Result<Vec<Guid>, All
 }
 
 /// The token of the user with the groups of a text.
-fn token_of(rt: &impl Abort, alloc: Global, text: &str) -> Result<Token, AllocError> {
+pub(crate) fn token_of(rt: &impl Abort, alloc: Global, text: &str) -> Result<Token, AllocError> {
     let mut groups = Vec::new(alloc);
     let mut restricting = Vec::new(alloc);
     for word in text.split_whitespace() {
@@ -96,7 +102,7 @@ fn token_of(rt: &impl Abort, alloc: Global, text: &str) -> Result<Token, AllocEr
 }
 
 /// The claims of who asks: Grade is 5.
-fn claims(rt: &impl Abort, alloc: Global) -> Result<Vec<Claim>, AllocError> {
+pub(crate) fn claims(rt: &impl Abort, alloc: Global) -> Result<Vec<Claim>, AllocError> {
     let mut claims = Vec::new(alloc);
     let whole = whole_of(rt, alloc, "S:(RA;;;;;WD;(\"Grade\",TI,0,5))")?;
     if let DaclOf::List(list) = &whole.sacl {
@@ -121,7 +127,11 @@ fn facts<'a>(token: &'a Token, claims: &'a [Claim]) -> Facts<'a> {
 }
 
 /// The question of a row.
-fn asked_by<'a>(rt: &impl Abort, alloc: Global, row: &'a str) -> Result<Asked<'a>, AllocError> {
+pub(crate) fn asked_by<'a>(
+    rt: &impl Abort,
+    alloc: Global,
+    row: &'a str,
+) -> Result<Asked<'a>, AllocError> {
     let (whole, rest) = column(rt, row);
     let (chain, rest) = column(rt, rest);
     let (named, rest) = column(rt, rest);
@@ -153,7 +163,7 @@ impl Asked<'_> {
 }
 
 /// A verdict as a text.
-fn verdict_text(alloc: Global, verdict: Verdict) -> Result<String, AllocError> {
+pub(crate) fn verdict_text(alloc: Global, verdict: Verdict) -> Result<String, AllocError> {
     match verdict {
         Verdict::Granted(mask) => format!(in alloc; "granted {:#x}", mask.bits()),
         Verdict::Denied { missing } => format!(in alloc; "denied {:#x}", missing.bits()),
@@ -209,7 +219,7 @@ fn refuses_what_it_cannot_answer(rt: HostRuntime) -> Result<(), Fail> {
 }
 
 /// A fault as a text: the entry, the number, the name.
-fn fault_text(alloc: Global, fault: SpecializeFault) -> Result<String, AllocError> {
+pub(crate) fn fault_text(alloc: Global, fault: SpecializeFault) -> Result<String, AllocError> {
     let (number, name) = (fault.number(), fault.name());
     match fault {
         SpecializeFault::Refused(refused) => {
@@ -298,4 +308,45 @@ fn takes_what_a_label_takes(rt: HostRuntime) -> Result<(), Fail> {
         assert!(rt; taken == wanted, "{row}: {:#x}", taken.bits());
     }
     Ok(())
+}
+
+#[test]
+fn answers_under_a_label(rt: HostRuntime) -> Result<(), Fail> {
+    let alloc = rt.alloc();
+    let mapping = GenericMapping::file();
+    let token = token_of(&rt, alloc, "BU")?;
+    for row in UNDER.split('\n') {
+        if !row.contains(" | ") {
+            continue;
+        }
+        let (whole, rest) = column(&rt, row);
+        let (level, rest) = column(&rt, rest);
+        let (mask, rest) = column(&rt, rest);
+        let (verdict, by_label) = column(&rt, rest);
+        let whole = whole_of(&rt, alloc, whole)?;
+        let level = level.parse::<u32>().expect(&rt, "a level");
+        let taken = Label::of_object(&whole.sacl).taken(level, &mapping);
+        let plain = plain_of(&rt, alloc, &token, &whole);
+        let mask = read_mask(mask).expect(&rt, "a mask");
+        let answer = verdict_text(alloc, check_under(taken, &plain, &mapping, &token, mask))?;
+        assert!(rt; answer.as_str() == verdict, "{row}: {answer}");
+        let reasons = explain_under(taken, &plain, &mapping, &token, mask);
+        let told = verdict_text(alloc, reasons.verdict())?;
+        assert!(rt; told.as_str() == verdict, "{row}: {told}");
+        let labelled = reasons.bits(Share::Because(Cause::Label));
+        let wanted = read_mask(by_label).expect(&rt, "a mask");
+        assert!(rt; labelled == wanted, "{row}: {:#x}", labelled.bits());
+    }
+    Ok(())
+}
+
+/// The plain descriptor, where the question is about the whole object and names nobody.
+fn plain_of(rt: &impl Abort, alloc: Global, token: &Token, whole: &WholeDescriptor) -> Descriptor {
+    let facts = facts(token, &[]);
+    let context = Context {
+        facts: &facts,
+        chain: &[],
+        principal_self: None,
+    };
+    specialized(alloc, &context, whole).expect(rt, "a plain descriptor")
 }

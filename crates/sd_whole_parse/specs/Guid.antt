@@ -1,6 +1,8 @@
 -- The fields of an entry's GUIDs ([MS-DTYP] 2.5.1.1, object-guid and inherit-object-guid; 2.3.4.3).
-use Rattle.std.specs.Prelude.{ℕ, ◌+◌, ◌*◌, Bool, true, false, List, [], ◌∷◌, Option, Some, None, codes}
+use Rattle.std.specs.Prelude.{ℕ, ◌+◌, ◌*◌, ◌==◌, Bool, true, false, List, [], ◌∷◌, length, Option, Some, None}
+use Rattle.std.specs.Prelude.{Ok, Err, codes, if◌then◌else◌}
 use Rattle.sd_text.specs.Entry.{guid as no_guid}
+use Rattle.sd_text.specs.Finding.{Found, find}
 use Rattle.sd_text.specs.Grammar.{Grammar, Name, name_for, value, refused, choose, word, one_of, begins, ◌>>=◌}
 use Rattle.sd_text.specs.declared.fault.TextFault.TheVariants.{Syntax}
 use Rattle.sd_whole.specs.Layout.{no_types}
@@ -52,6 +54,14 @@ guid = do
     bytes = b.1 ∷ b.0 ∷ a.1 ∷ a.0 ∷ c.1 ∷ c.0 ∷ d.1 ∷ d.0
         ∷ e.0 ∷ e.1 ∷ f.0 ∷ f.1 ∷ g.0 ∷ g.1 ∷ h.0 ∷ h.1 ∷ [];
   })
+
+abbrev pub all_of : Found Guid → Option Guid
+all_of (Ok found) = if length found.1 == 0 then Some found.0 else None
+all_of (Err fault) = None
+
+-- the GUID that all of the text is, if it is one
+abbrev pub guid_in : List ℕ → Option Guid
+guid_in text = all_of (find guid text)
 
 -- a field of a GUID, perhaps empty, with its `;`
 unfoldable pub guid_field : Grammar (Option Guid)

@@ -4,7 +4,7 @@ ghost use Rattle.std.specs.Prelude.{◌≡◌, ◌<◌, IfOk, IfSome};
 ghost use Rattle.sd_text.specs.Entry.{guid as no_guid};
 ghost use Rattle.sd_text.specs.Finding.{Gives, find};
 ghost use Rattle.sd_whole.specs.Whole.{AreTypes, IsGuid};
-ghost use Rattle.sd_whole_parse.specs.Guid.{byte, guid, guid_field, hex_digit, pair, types_of};
+ghost use Rattle.sd_whole_parse.specs.Guid.{byte, guid, guid_field, guid_in, hex_digit, pair, types_of};
 
 use sd_text::{Cursor, TextFault};
 use sd_whole::{Guid, ObjectTypes};
@@ -28,6 +28,17 @@ static HEX_DIGITS: [(&str, u8); 16] = [
     ("E", 14),
     ("F", 15),
 ];
+
+/// The GUID that all of the text is, 8-4-4-4-12 hexadecimal digits ([MS-DTYP] 2.3.4.3). `None`: the text is none.
+pub fn read_guid_text(text: &str) -> Option<Guid>
+    ensures { result ≡ guid_in text.now }
+{
+    let mut cursor = Cursor::new(text);
+    match read_guid(&mut cursor) {
+        Ok(guid) if cursor.rest.is_empty() => Some(guid),
+        _ => None,
+    }
+}
 
 /// The fields of both GUIDs, each with its `;`. They are empty in an entry without object types.
 #[tactic(auto, unfolding(crate::specs::Guid::types_of))]

@@ -23,6 +23,7 @@ mod spaces;
 mod stop;
 
 pub use descriptor::read_whole_sddl;
+pub use guid::read_guid_text;
 pub use laws::{
     guids_come_back, nothing_else_is_left_out, plain_texts_are_read_alike,
     plain_texts_are_their_part, plain_texts_come_back,

@@ -1,0 +1,4 @@
+pub mod Halves
+pub mod Words
+pub mod Tokens
+pub mod Compared

@@ -1,0 +1,4 @@
+pub mod Labels
+pub mod Under
+pub mod Reasons
+pub mod LawProofs

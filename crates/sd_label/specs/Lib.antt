@@ -1,0 +1,3 @@
+pub mod Label
+pub mod Under
+pub mod Laws

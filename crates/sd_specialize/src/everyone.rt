@@ -1,0 +1,114 @@
+//! The plain descriptor that a whole one is for each question about the same object types, whoever asks.
+
+ghost use Rattle.std.specs.Prelude.{◌≡◌, ◌<◌, ◌^◌, None, IfSome, IsErrOf};
+ghost use Rattle.std.specs.List.{position};
+ghost use Rattle.sd_acl.specs.Descriptor.{descriptor_of};
+ghost use Rattle.sd_specialize.specs.Context.{ContextValue};
+ghost use Rattle.sd_specialize.specs.Everyone.{conditional_place, has_condition, is_conditional, unconditional};
+ghost use Rattle.sd_specialize.specs.Specialize.{Gives, HasDaclEntries, specialized};
+
+use crate::context::Context;
+use crate::descriptor::specialized;
+use crate::entry::{for_children_alone, nobody};
+use crate::fault::{RefusedEntry, RefusedKind, SpecializeError, SpecializeFault};
+use sd_acl::Descriptor;
+use sd_check::{Privileges, Token};
+use sd_evaluation::Facts;
+use sd_sid::Sid;
+use sd_whole::{Guid, OddKind, WholeAce, WholeAcl, WholeDescriptor, WholeKind};
+use std::alloc::Global;
+
+/// The plain descriptor that a whole one is for each question about these object types of an object, for which
+/// PRINCIPAL SELF is this SID, whoever asks ([MS-DTYP] 2.5.3.2): `specialized` gives the same one for every token with
+/// any claims. A fault is the first effective entry with a condition, which depends on who asks; or else as that of
+/// `specialized`. There is an allocation for the list.
+pub fn specialized_for_everyone(
+    alloc: Global,
+    chain: &[Guid],
+    principal_self: Option<Sid>,
+    descriptor: &WholeDescriptor,
+) -> Result<Descriptor, SpecializeError>
+    ensures exact { (c : ContextValue) → c.chain ≡ chain.now → c.principal_self ≡ principal_self
+        → Gives descriptor_of result (unconditional c descriptor.now) }
+    ensures memory { IsErrOf result SpecializeError.Memory → HasDaclEntries descriptor.now.dacl }
+{
+    match conditional_place(&descriptor.dacl) {
+        Some(place) => {
+            let refused = RefusedEntry {
+                entry: place + 1,
+                kind: RefusedKind::Odd(OddKind::ConditionalAce),
+            };
+            Err(SpecializeError::Fault(SpecializeFault::Refused(refused)))
+        }
+        None => specialized_for_nobody(alloc, chain, principal_self, descriptor),
+    }
+}
+
+/// The plain descriptor that a whole one is, where no entry asks who it is for.
+fn specialized_for_nobody(
+    alloc: Global,
+    chain: &[Guid],
+    principal_self: Option<Sid>,
+    descriptor: &WholeDescriptor,
+) -> Result<Descriptor, SpecializeError>
+    requires { conditional_place descriptor.now.dacl ≡ None }
+    ensures exact { (c : ContextValue) → c.chain ≡ chain.now → c.principal_self ≡ principal_self
+        → Gives descriptor_of result (specialized c descriptor.now) }
+    ensures memory { IsErrOf result SpecializeError.Memory → HasDaclEntries descriptor.now.dacl }
+{
+    let token = Token::new(nobody(), Vec::new(alloc), Privileges::default());
+    let facts = Facts {
+        token: &token,
+        device_groups: &[],
+        local: &[],
+        user: &[],
+        device: &[],
+        resource: &[],
+    };
+    let context = Context {
+        facts: &facts,
+        chain,
+        principal_self,
+    };
+    specialized(alloc, &context, descriptor)
+}
+
+/// The place of the first effective entry with a condition, from 0.
+fn conditional_place(acl: &WholeAcl) -> Option<usize>
+    ensures place { result ≡ conditional_place acl.now }
+    ensures within { IfSome result (λ place. place < 2 ^ 63) }
+{
+    match acl {
+        WholeAcl::Absent | WholeAcl::Null => None,
+        WholeAcl::List(list) => first_conditional(list.entries()),
+    }
+}
+
+fn first_conditional(entries: &[WholeAce]) -> Option<usize>
+    ensures place { result ≡ position is_conditional entries.now }
+    ensures within { IfSome result (λ place. place < 2 ^ 63) }
+{
+    entries.iter().position(is_conditional)
+}
+
+/// Whether it is an effective entry with a condition.
+fn is_conditional(entry: &WholeAce) -> bool
+    ensures { result ≡ is_conditional entry.now }
+{
+    match entry {
+        WholeAce::Typed(ace) => has_condition(ace.kind) && !for_children_alone(ace.flags),
+        _ => false,
+    }
+}
+
+fn has_condition(kind: WholeKind) -> bool
+    ensures { result ≡ has_condition kind }
+{
+    matches!(
+        kind,
+        WholeKind::CallbackAllow
+            | WholeKind::CallbackDeny
+            | WholeKind::CallbackObjectAllow
+            | WholeKind::CallbackObjectDeny
+    )
+}
