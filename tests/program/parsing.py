@@ -47,6 +47,10 @@ each -0 frombin
 --whole each lint
 --whole each -0 --key compare D:
 --stdin --whole why SY 0x1
+--whole --type bf9679c0-0de6-11d0-a285-00aa003049e2 verdict D: SY 0x1
+--type 1 --type 2 --type 3 --type 4 --type 5 --whole why D: SY 0x1
+--whole --self PS who D: 0x1
+--whole --type --whole each verdict SY 0x1
 --base64 --whole frombin AA==
 --mapping key verdict D: SY 0x1
 --mapping --mapping --names why -- -h SY 0x1
@@ -325,6 +329,13 @@ REJECTED = r"""
 1 MisplacedOption | --base64 tobin D:
 1 MisplacedOption | --mapping key tobin D:
 1 ExcludedOption | --base64 --loose frombin 00
+1 LacksWhole | --type 1 verdict D: SY 0x1
+3 LacksWhole | --stdin --names --self PS why SY 0x1
+2 ExcludedOption | --whole --self PS --below who D: 0x1
+11 TooManyTypes | --type 1 --type 2 --type 3 --type 4 --type 5 --type 6 --whole why D: SY 0x1
+4 RepeatedOption | --whole --self PS --self PS why D: SY 0x1
+1 MisplacedOption | --type 1 lint D:
+2 MisplacedOption | --whole --self PS print D:
 1 MisplacedOption | --domain x frombin 00
 1 MisplacedOption | --domain x rights FR
 1 UnknownOption | --domain=x print D:
@@ -364,7 +375,7 @@ REJECTED = r"""
 
 # The mistakes, by number from 1.
 MISTAKES = """NoCommand UnknownCommand UnknownOption NotAlone RepeatedOption NoValue MisplacedOption ExcludedOption NoText
-MissingArgument SurplusArgument NoWorkers""".split()
+MissingArgument SurplusArgument NoWorkers LacksWhole TooManyTypes""".split()
 
 
 def is_help(status, output, errors):

@@ -8,7 +8,7 @@ use Rattle.sd_usage.specs.Table.{command_named, option_named, takes_count, takes
 use Rattle.sd_usage.specs.declared.row.CommandName.{CommandName}
 use Rattle.sd_usage.specs.declared.row.CommandName.TheVariants as names
 use Rattle.sd_usage.specs.declared.row.DescriptorCommand.TheVariants as questions
-use Rattle.sd_arguments.specs.CommandLine.{CallValue, InvocationValue, RequestValue, Ask, Each, Runs, asked_by, first_call, request_by, text_request}
+use Rattle.sd_arguments.specs.CommandLine.{CallValue, InvocationValue, RequestValue, Ask, Runs, asked_by, first_call, request_by, text_request}
 use Rattle.sd_arguments.specs.Laws.{shows, AsksTheCommand, HelpStandsAlone, DashesKeepTexts, OptionsKeepTexts}
 use Rattle.sd_arguments.specs.Options.{OptionsValue}
 

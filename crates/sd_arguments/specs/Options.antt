@@ -1,13 +1,15 @@
 -- The options of a command line: what may stand between the program's name and the command, and what they say.
-use Rattle.std.specs.Prelude.{◌≡◌, ℕ, List, [], ◌∷◌, map, replicate, get_or, slice_set, Bool, true, false, not}
+use Rattle.std.specs.Prelude.{◌≡◌, ℕ, List, [], ◌∷◌, ◌++◌, map, replicate, get_or, slice_set, length, nat_lt, take}
+use Rattle.std.specs.Prelude.{Bool, true, false, not}
 use Rattle.std.specs.Prelude.{⊤, ◌⊎◌, ◌&&◌, ◌||◌, is_some, if◌then◌else◌, Option, Some, None, option_map, Result, Ok}
 use Rattle.std.specs.Prelude.{MatchResult}
-use Rattle.std.specs.Option.{option_and_then, option_map_or}
+use Rattle.std.specs.Option.{option_and_then}
 use Rattle.std.specs.Borrow.{Bor}
 use Rattle.sd_sid.specs.Mapping.{MappingValue}
+use Rattle.sd_sid.specs.Sid.{SidValue}
 use Rattle.sd_text.specs.Domain.{domain_sid}
 use Rattle.sd_text.specs.Grammar.{Spells}
-use Rattle.sd_text.specs.Sid.{sid_text}
+use Rattle.sd_text.specs.Sid.{sid_text, sid_text_in}
 use Rattle.sd_text.specs.declared.alias.Aliases.{Aliases as AliasesValue}
 use Rattle.sd_text.specs.declared.domain.Domain.{Domain as DomainValue}
 use Rattle.sd_edit.specs.Limits.{IsLimits, LimitsValue, standard_limits}
@@ -20,50 +22,76 @@ use Rattle.sd_line.specs.declared.print.Style.{Style}
 use Rattle.sd_line.specs.declared.spelling.Spelling.{Spelling}
 use Rattle.sd_line.specs.declared.spelling.Spelling.TheVariants.{Number, Names as ByNames}
 use Rattle.sd_usage.specs.Table.{option_named, place, takes_option}
+use Rattle.sd_answer.specs.Word.{AreEach, texts}
+use Rattle.sd_usage.specs.declared.row.Beside.{Beside}
+use Rattle.sd_usage.specs.declared.row.Beside.TheVariants.{Any, With, Without}
 use Rattle.sd_usage.specs.declared.row.OptionName.{OptionName}
 use Rattle.sd_usage.specs.declared.row.OptionName.TheVariants.{Aliases, Base64, Below, Caret, Color, Concern, Domain}
 use Rattle.sd_usage.specs.declared.row.OptionName.TheVariants.{Edits, Json, Logon, Loose, Mapping, Names, Nodes, Object}
-use Rattle.sd_usage.specs.declared.row.OptionName.TheVariants.{Percent, RequireDacl, Risks, Whole, WithoutBits}
+use Rattle.sd_usage.specs.declared.row.OptionName.TheVariants.{Percent, PrincipalSelf, RequireDacl, Risks, «Type»}
+use Rattle.sd_usage.specs.declared.row.OptionName.TheVariants.{Whole, WithoutBits}
 use Rattle.sd_usage.specs.declared.row.ProgramOption.{ProgramOption}
 use Rattle.sd_usage.specs.declared.row.TheConstants.{OPTION_COUNT}
+use Rattle.sd_commands.specs.Chain.{IsFirstUnfit, IsType, types_of}
 use Rattle.sd_commands.specs.Concern.{GivesConcern, GivesNoConcern, sids_of}
 use Rattle.sd_commands.specs.Logon.{GivesLogon, GivesNoLogon}
 use Rattle.sd_commands.specs.Mapping.{GivesMapping, GivesNoMapping, kind_given}
+use Rattle.sd_commands.specs.declared.chain.TheConstants.{MAX_TYPES}
 use Rattle.sd_commands.specs.declared.logon.Logon.{Logon as LogonValue}
 use Rattle.sd_commands.specs.declared.settings.ByteForm.{ByteForm}
 use Rattle.sd_commands.specs.declared.settings.ByteForm.TheVariants as forms
 use Rattle.sd_arguments.specs.declared.options.BadValue.{BadValue}
 use Rattle.sd_arguments.specs.declared.options.BadValue.TheVariants.{NoConcern, NoDomain, NoEdits, NoLogon, NoMapping}
-use Rattle.sd_arguments.specs.declared.options.BadValue.TheVariants.{NoNodes}
+use Rattle.sd_arguments.specs.declared.options.BadValue.TheVariants.{NoNodes, NoSelf, NoType}
 use Rattle.sd_arguments.specs.declared.options.Options.{Options}
 use Rattle.sd_commands.specs.declared.settings.Settings.{Settings}
+use Rattle.sd_whole.specs.declared.types.Guid.{Guid}
 
--- the options of a command line: at the place of each its value, where it is given: empty for one without a value
-abbrev pub OptionsValue : Type 0
-OptionsValue = List (Option (List ℕ))
+pub record OptionsValue : Type 0 where
+  -- at the place of each option its value, where it is given: empty for one without a value, and of `--type` the last
+  pub values : List (Option (List ℕ))
+  -- the values of `--type`, in order
+  pub types : List (List ℕ)
 
 abbrev pub options_of : Options → OptionsValue
-options_of options = map (option_map (λ text. text.now)) options.values
+options_of options = record {
+  values = map (option_map (λ text. text.now)) options.values;
+  types = texts (take options.type_count options.types);
+}
 
 abbrev pub no_options : OptionsValue
-no_options = replicate OPTION_COUNT None
+no_options = record { values = replicate OPTION_COUNT None; types = [] }
 
 -- the value of an option, where it is given
 abbrev pub given : OptionsValue → OptionName → Option (List ℕ)
-given options option = get_or options (place option) None
+given options option = get_or options.values (place option) None
 
 abbrev pub has : OptionsValue → OptionName → Bool
 has options option = is_some (given options option)
 
 abbrev pub with_value : OptionsValue → OptionName → List ℕ → OptionsValue
-with_value options option value = slice_set options (place option) (Some value)
+with_value options option value = record options { values = slice_set options.values (place option) (Some value) }
 
--- one more option, where it isn't one of these already
+-- the option may be given again
+abbrev pub is_repeated : OptionName → Bool
+is_repeated «Type» = true
+is_repeated option = false
+
+-- one more object type, where there are fewer than five
+abbrev pub with_type : OptionsValue → OptionName → List ℕ → Option OptionsValue
+with_type options option value =
+    if nat_lt (length options.types) MAX_TYPES
+    then Some (record (with_value options option value) { types = options.types ++ value ∷ [] }) else None
+
+-- one more option, where it isn't one of these already, or may be given again
 abbrev pub with_option : OptionsValue → OptionName → List ℕ → Option OptionsValue
-with_option options option value = if has options option then None else Some (with_value options option value)
+with_option options option value =
+    if is_repeated option then with_type options option value
+    else if has options option then None
+    else Some (with_value options option value)
 
--- the options that the arguments begin with, each at most once, and the arguments after them; where an option that has
--- a value is before them, that is the first
+-- the options that the arguments begin with, each at most once but for `--type`, and the arguments after them; where an
+-- option that has a value is before them, that is the first
 abbrev pub options_from : Option OptionName → OptionsValue → List (Bor (List ℕ))
     → Option (OptionsValue × List (Bor (List ℕ)))
 options_from None options [] = Some (options, [])
@@ -82,10 +110,15 @@ options_in = options_from None
 
 -- ---- before which commands they go
 
+-- the option may be given beside the others
+abbrev pub fits_beside : OptionsValue → Beside → Bool
+fits_beside options Any = true
+fits_beside options (Without other) = not (has options other)
+fits_beside options (With one other) = has options one && not (has options other)
+
 -- the option may go before the command of this name, and beside the others
 abbrev pub goes_before : List ℕ → OptionsValue → ProgramOption → Bool
-goes_before name options option =
-    takes_option name option.name && not (option_map_or (has options) option.excludes false)
+goes_before name options option = takes_option name option.name && fits_beside options option.beside
 
 -- each of the options that the arguments begin with may go before the command of this name: an option's value is none
 abbrev pub go_before_from : Bool → List ℕ → OptionsValue → List (Bor (List ℕ)) → Bool
@@ -129,6 +162,23 @@ GivesDomain given domain = ⊥
 abbrev pub IsNoDomain : List ℕ → Type 0
 IsNoDomain text = (domain : DomainValue) → Spells sid_text text (domain_sid domain) → ⊥
 
+-- the text is this SID, or neither is there
+abbrev pub GivesSelf : AliasesValue → Option (List ℕ) → Option SidValue → Type 0
+GivesSelf known None None = ⊤
+GivesSelf known (Some text) (Some sid) = Spells (sid_text_in known) text sid
+GivesSelf known given sid = ⊥
+
+-- the text is there, and is no SID
+abbrev pub GivesNoSelf : AliasesValue → Option (List ℕ) → List ℕ → Type 0
+GivesNoSelf known None text = ⊥
+GivesNoSelf known (Some given) text = (text ≡ given) × ((sid : SidValue) → Spells (sid_text_in known) given sid → ⊥)
+
+-- the value of `--self` isn't read, with these aliases
+abbrev pub IsBadSelf : OptionsValue → AliasesValue → BadValue → Type 0
+IsBadSelf options known (NoSelf text with points) =
+    (with ≡ known) × GivesNoSelf known (given options PrincipalSelf) text.now × (points ≡ has options Caret)
+IsBadSelf options known bad = ⊥
+
 -- what the options say of a descriptor
 pub record AreSettings (options : OptionsValue) (settings : Settings) : Type 0 where
   pub spelling : settings.spelling ≡ spelling_of options
@@ -138,6 +188,8 @@ pub record AreSettings (options : OptionsValue) (settings : Settings) : Type 0 w
   pub kind : settings.kind ≡ kind_given (given options Mapping)
   pub logon : GivesLogon (given options Logon) settings.logon
   pub whole : settings.whole ≡ has options Whole
+  pub chain : AreEach IsType options.types (types_of settings.chain)
+  pub principal_self : GivesSelf settings.aliases (given options PrincipalSelf) settings.principal_self
   pub without_bits : settings.without_bits ≡ has options WithoutBits
   pub require_dacl : settings.require_dacl ≡ has options RequireDacl
   pub below : settings.below ≡ has options Below
@@ -151,8 +203,17 @@ pub record AreSettings (options : OptionsValue) (settings : Settings) : Type 0 w
 abbrev pub GivesAliases : OptionsValue → AliasesValue → Type 0
 GivesAliases options known = GivesDomain (given options Domain) known.domain × (known.later ≡ has options Aliases)
 
--- the value of an option isn't read: the domain's, or else the mapping's, or else that of the logon, or else a part of
--- that of SIDs of concern
+-- the mapping and the logon are read
+abbrev pub HasGoodLogon : OptionsValue → Type 0
+HasGoodLogon options = ((mapping : MappingValue) × GivesMapping (given options Mapping) mapping)
+    × ((logon : Option LogonValue) × GivesLogon (given options Logon) logon)
+
+-- the object types are read
+abbrev pub HasGoodTypes : OptionsValue → Type 0
+HasGoodTypes options = (types : List Guid) × AreEach IsType options.types types
+
+-- the value of an option isn't read: the domain's, or else the mapping's, or else that of the logon, or else an object
+-- type, or else the SID of PRINCIPAL SELF, or else a part of that of SIDs of concern
 abbrev pub HasBadValue : OptionsValue → BadValue → Type 0
 HasBadValue options (NoDomain text points) =
     (given options Domain ≡ Some text.now) × IsNoDomain text.now × (points ≡ has options Caret)
@@ -161,9 +222,11 @@ HasBadValue options NoMapping = ((domain : Option DomainValue) × GivesDomain (g
 HasBadValue options NoLogon = ((domain : Option DomainValue) × GivesDomain (given options Domain) domain)
     × ((mapping : MappingValue) × GivesMapping (given options Mapping) mapping)
     × GivesNoLogon (given options Logon)
-HasBadValue options (NoConcern text known points) =
-    ((mapping : MappingValue) × GivesMapping (given options Mapping) mapping)
-    × ((logon : Option LogonValue) × GivesLogon (given options Logon) logon)
+HasBadValue options (NoType text) = HasGoodLogon options × IsFirstUnfit [] options.types text.now
+HasBadValue options (NoSelf text known points) = HasGoodLogon options × HasGoodTypes options
+    × GivesAliases options known × IsBadSelf options known (NoSelf text known points)
+HasBadValue options (NoConcern text known points) = HasGoodLogon options × HasGoodTypes options
+    × ((sid : Option SidValue) × GivesSelf known (given options PrincipalSelf) sid)
     × GivesAliases options known × GivesNoConcern known (given options Concern) text.now
     × (points ≡ has options Caret)
 HasBadValue options bad = ⊥

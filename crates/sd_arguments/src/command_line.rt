@@ -9,7 +9,8 @@ ghost use Rattle.sd_arguments.specs.UsageError.{accepted};
 ghost use Rattle.sd_arguments.specs.Options.{no_options, options_of};
 
 use crate::flags::{GivenFlags, NO_FLAGS, flags_in};
-use crate::options::{Options, misplaced_in, options_in};
+use crate::option_words::{misplaced_in, options_in};
+use crate::options::Options;
 use crate::usage_error::{UsageError, UsageErrorKind};
 use sd_usage::{Command, CommandName, OptionName, TextCommand, command_named};
 

@@ -13,6 +13,7 @@
 mod command_line;
 mod flags;
 mod laws;
+mod option_words;
 mod options;
 mod usage_error;
 mod version;

@@ -1,21 +1,27 @@
 //! What may stand between the program's name and the command, and what it says.
-ghost use Rattle.std.specs.Prelude.{◌≡◌, ◌⊎◌, ℕ, IfErr, IfNone, IfOk, IfSome, is_some, not, option_map};
+ghost use Rattle.std.specs.Prelude.{◌≡◌, ◌⊎◌, ℕ, IfErr, IfNone, IfOk, IfSome, option_map};
 ghost use Rattle.sd_text.specs.Domain.{domain_sid};
 ghost use Rattle.sd_text.specs.Grammar.{Spells};
 ghost use Rattle.sd_text.specs.Sid.{sid_text};
-ghost use Rattle.sd_arguments.specs.Options.{GivesDomain, GivesLimits, GivesScriptOptions, GivesNumber, GivesSettings};
-ghost use Rattle.sd_arguments.specs.Options.{HasBadValue, IsNoDomain, byte_form, given, go_before, goes_before, has};
-ghost use Rattle.sd_arguments.specs.Options.{no_options, options_in, options_of, output_of, spelling_of, style_of};
-ghost use Rattle.sd_arguments.specs.Options.{with_option};
+ghost use Rattle.sd_answer.specs.Word.{texts};
+ghost use Rattle.sd_arguments.specs.Options.{GivesDomain, GivesLimits, GivesScriptOptions, GivesNumber, GivesSelf};
+ghost use Rattle.sd_arguments.specs.Options.{GivesSettings, HasBadValue, IsBadSelf, IsNoDomain, byte_form, given};
+ghost use Rattle.sd_arguments.specs.Options.{has, is_repeated, no_options};
+ghost use Rattle.sd_arguments.specs.Options.{options_of, output_of, spelling_of, style_of, with_option, with_type};
+ghost use Rattle.sd_arguments.specs.Options.{with_value};
 ghost use Rattle.sd_arguments.specs.UsageError.{accepted};
 
 use crate::usage_error::{UsageError, UsageErrorKind};
-use sd_commands::{ByteForm, Settings, concern_given, kind_given, logon_given, mapping_given};
+use sd_commands::{
+    ByteForm, MAX_TYPES, Settings, chain_given, concern_given, kind_given, logon_given,
+    mapping_given,
+};
 use sd_line::{Output, Spelling, Style};
 use sd_script::{Notation, PathSpelling, ScriptOptions, number_in};
-use sd_text::{Aliases, Domain, read_sid_text};
+use sd_sid::Sid;
+use sd_text::{Aliases, Domain, read_sid_text, read_sid_text_in};
 use sd_tree::{Limits, LimitsError};
-use sd_usage::{OPTION_COUNT, OptionName, ProgramOption, option_named, takes_option};
+use sd_usage::{OPTION_COUNT, OptionName};
 
 /// The value of an option that isn't read.
 #[derive(Clone, Copy)]
@@ -36,17 +42,30 @@ pub enum BadValue<'a> {
         known: Aliases,
         points: bool,
     },
+    /// This value of `--type` is no object type.
+    NoType {
+        text: &'a str,
+    },
+    /// The value of `--self` is no SID with the aliases that are known, and whether a caret shows where.
+    NoSelf {
+        text: &'a str,
+        known: Aliases,
+        points: bool,
+    },
     /// The value of `--nodes` is no number of nodes that limits allow.
     NoNodes,
     /// The value of `--edits` is no number of edits that limits allow.
     NoEdits,
 }
 
-/// The options of a command line, which go before the command, each at most once.
+/// The options of a command line, which go before the command, each at most once but for `--type`.
 #[derive(Clone, Copy)]
 pub struct Options<'a> {
-    /// At the place of each its value, where it is given: empty for one without a value.
+    /// At the place of each its value, where it is given: empty for one without a value, and of `--type` the last.
     values: [Option<&'a str>; OPTION_COUNT],
+    /// The values of `--type`, in order: as many of the first as `type_count` says.
+    types: [&'a str; MAX_TYPES],
+    type_count: usize,
 }
 
 impl<'a> Options<'a> {
@@ -56,6 +75,8 @@ impl<'a> Options<'a> {
     {
         Options {
             values: [None; OPTION_COUNT],
+            types: [""; MAX_TYPES],
+            type_count: 0,
         }
     }
 
@@ -72,8 +93,16 @@ impl<'a> Options<'a> {
         self.given(option).is_some()
     }
 
-    /// The options and one more, with `left` arguments from it on; `RepeatedOption` if it is given already.
-    fn with_option(
+    /// The values of `--type`, in order.
+    fn types(&self) -> &[&'a str]
+        ensures { texts result.now ≡ (options_of self.now).types }
+    {
+        &self.types[..self.type_count.min(MAX_TYPES)]
+    }
+
+    /// The options and one more, with `left` arguments from it on; `RepeatedOption` if it is given already and may not
+    /// be given again.
+    pub(crate) fn with_option(
         self,
         left: usize,
         option: OptionName,
@@ -81,12 +110,42 @@ impl<'a> Options<'a> {
     ) -> Result<Self, UsageError>
         ensures { accepted options_of result ≡ with_option (options_of self.entry) option value.now }
     {
+        if is_repeated(option) {
+            return match self.with_type(option, value) {
+                Some(more) => Ok(more),
+                None => Err(UsageError::new(left, 0, UsageErrorKind::TooManyTypes)),
+            };
+        }
         if self.has(option) {
             return Err(UsageError::new(left, 0, UsageErrorKind::RepeatedOption));
         }
+        Ok(self.with_value(option, value))
+    }
+
+    /// The options, with this value of one.
+    fn with_value(self, option: OptionName, value: &'a str) -> Self
+        ensures { options_of result ≡ with_value (options_of self.entry) option value.now }
+    {
         let mut values = self.values;
         values[option.place()] = Some(value);
-        Ok(Options { values })
+        Options { values, ..self }
+    }
+
+    /// The options and one more object type, if there are fewer than five.
+    fn with_type(self, option: OptionName, value: &'a str) -> Option<Self>
+        ensures { option_map options_of result ≡ with_type (options_of self.entry) option value.now }
+    {
+        if self.type_count >= MAX_TYPES {
+            return None;
+        }
+        let mut types = self.types;
+        types[self.type_count] = value;
+        let type_count = self.type_count + 1;
+        Some(Options {
+            types,
+            type_count,
+            ..self.with_value(option, value)
+        })
     }
 
     /// What they say of a descriptor, or whose value isn't read: first `--domain`'s, which is a domain's SID ([MS-DTYP]
@@ -102,10 +161,15 @@ impl<'a> Options<'a> {
         let Some(logon) = logon_given(self.given(OptionName::Logon)) else {
             return Err(BadValue::NoLogon);
         };
+        let chain = match chain_given(self.types()) {
+            Ok(chain) => chain,
+            Err(text) => return Err(BadValue::NoType { text }),
+        };
         let aliases = Aliases {
             domain,
             later: self.has(OptionName::Aliases),
         };
+        let principal_self = self.principal_self_given(aliases)?;
         let concern = match concern_given(aliases, self.given(OptionName::Concern)) {
             Ok(concern) => concern,
             Err(text) => {
@@ -123,6 +187,8 @@ impl<'a> Options<'a> {
             kind: kind_given(given),
             logon,
             whole: self.has(OptionName::Whole),
+            chain,
+            principal_self,
             without_bits: self.has(OptionName::WithoutBits),
             require_dacl: self.has(OptionName::RequireDacl),
             below: self.has(OptionName::Below),
@@ -220,6 +286,27 @@ impl<'a> Options<'a> {
         }
     }
 
+    /// The SID for which PRINCIPAL SELF stands, if it is given ([MS-DTYP] 2.4.2.4).
+    fn principal_self_given(self, known: Aliases) -> Result<Option<Sid>, BadValue<'a>>
+        ensures given { IfOk result (GivesSelf known (given (options_of self.entry) OptionName.PrincipalSelf)) }
+        ensures bad { IfErr result (λ bad. IsBadSelf (options_of self.entry) known bad) }
+    {
+        let Some(text) = self.given(OptionName::PrincipalSelf) else {
+            return Ok(None);
+        };
+        match read_sid_text_in(known, text) {
+            Ok(sid) => Ok(Some(sid)),
+            Err(_) => {
+                let points = self.has(OptionName::Caret);
+                Err(BadValue::NoSelf {
+                    text,
+                    known,
+                    points,
+                })
+            }
+        }
+    }
+
     /// The domain whose SID is given, if one is.
     fn domain_given(self) -> Result<Option<Domain>, BadValue<'a>>
         ensures given { IfOk result (GivesDomain (given (options_of self.entry) OptionName.Domain)) }
@@ -238,40 +325,11 @@ impl<'a> Options<'a> {
     }
 }
 
-/// What is wrong with the first of the options, with which the arguments begin, that may not go before the command of
-/// this name.
-pub(crate) fn misplaced_in(
-    name: &str,
-    named: usize,
-    options: Options<'_>,
-    words: &[&str],
-) -> Option<UsageError>
-    ensures { not (is_some result) ≡ go_before name.now (options_of options.entry) words.now }
+/// Whether the option may be given again.
+fn is_repeated(option: OptionName) -> bool
+    ensures { result ≡ is_repeated option }
 {
-    let [word, after @ ..] = words else {
-        return None;
-    };
-    let option = option_named(word)?;
-    if let Some(wrong) = wrong_option(name, options, option) {
-        return Some(UsageError::new(words.len(), named, wrong));
-    }
-    match after {
-        [_value, after @ ..] if option.value.is_some() => misplaced_in(name, named, options, after),
-        _ => misplaced_in(name, named, options, after),
-    }
-}
-
-/// Why the option may not go before the command, or not beside the others, if it may not.
-fn wrong_option(name: &str, options: Options<'_>, option: ProgramOption) -> Option<UsageErrorKind>
-    ensures { not (is_some result) ≡ goes_before name.now (options_of options.entry) option }
-{
-    if !takes_option(name, option.name) {
-        return Some(UsageErrorKind::MisplacedOption(option.name));
-    }
-    match option.excludes {
-        Some(other) if options.has(other) => Some(UsageErrorKind::ExcludedOption),
-        _ => None,
-    }
+    matches!(option, OptionName::Type)
 }
 
 /// The domain whose SID the text spells.
@@ -296,28 +354,4 @@ fn number_given(text: Option<&str>, standard: u64) -> u64
         None => standard,
         Some(text) => number_in(text).unwrap_or(u64::MAX),
     }
-}
-
-/// The options that the arguments begin with, beside those before, and the arguments after them, or which of them is
-/// there twice, or lacks its value.
-pub(crate) fn options_in<'a>(
-    options: Options<'a>,
-    words: &'a [&'a str],
-) -> Result<(Options<'a>, &'a [&'a str]), UsageError>
-    ensures { accepted (λ read. (options_of read.0, read.1.now)) result
-        ≡ options_in (options_of options.entry) words.entry.now }
-{
-    let [word, after @ ..] = words else {
-        return Ok((options, words));
-    };
-    let Some(option) = option_named(word) else {
-        return Ok((options, words));
-    };
-    let (value, after) = match after {
-        _ if option.value.is_none() => ("", after),
-        [value, after @ ..] => (*value, after),
-        [] => return Err(UsageError::new(words.len(), 0, UsageErrorKind::NoValue)),
-    };
-    let options = options.with_option(words.len(), option.name, value)?;
-    options_in(options, after)
 }

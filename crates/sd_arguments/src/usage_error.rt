@@ -32,6 +32,10 @@ pub(crate) enum UsageErrorKind {
     MisplacedOption(OptionName),
     /// The option excludes another that is given.
     ExcludedOption,
+    /// The option goes only beside `--whole`, which isn't given.
+    LacksWhole,
+    /// There are more than five object types.
+    TooManyTypes,
     /// The command of `each`, or after `--stdin`, answers no text.
     NoText,
     MissingArgument(Argument, Command),
@@ -67,6 +71,8 @@ impl UsageErrorKind {
             UsageErrorKind::NoValue => "this option lacks its value (6 NoValue)",
             UsageErrorKind::MisplacedOption(_) => " doesn't take this option (7 MisplacedOption)",
             UsageErrorKind::ExcludedOption => "this option excludes another one (8 ExcludedOption)",
+            UsageErrorKind::LacksWhole => "this option goes only beside --whole (13 LacksWhole)",
+            UsageErrorKind::TooManyTypes => "one object type too many, at most 5 (14 TooManyTypes)",
             UsageErrorKind::NoText => " doesn't answer a text (9 NoText)",
             UsageErrorKind::MissingArgument(..) => " is missing (10 MissingArgument)",
             UsageErrorKind::SurplusArgument(_) => "one argument too many (11 SurplusArgument)",
@@ -127,8 +133,11 @@ fn hint(alloc: Global, name: &str, wrong: UsageErrorKind) -> Result<String, Allo
             "\n'sdstore help' lists the options",
         ),
         UsageErrorKind::NotAlone => String::from_str(alloc, "\nusage: sdstore help [COMMAND]"),
-        UsageErrorKind::RepeatedOption | UsageErrorKind::NoValue | UsageErrorKind::ExcludedOption =>
-            Ok(String::new(alloc)),
+        UsageErrorKind::RepeatedOption
+        | UsageErrorKind::NoValue
+        | UsageErrorKind::ExcludedOption
+        | UsageErrorKind::LacksWhole
+        | UsageErrorKind::TooManyTypes => Ok(String::new(alloc)),
         UsageErrorKind::MisplacedOption(option) => {
             commands_hint(alloc, "it goes before ", Commands::Taking(option))
         }

@@ -1,14 +1,12 @@
 -- What a command about a descriptor answers, and whether it did what was asked for. The arguments are read from left to
 -- right, and the answer is the fault of the first that is invalid.
 use Rattle.std.specs.Prelude.{◌≡◌, ◌⊎◌, ℕ, Bool, ◌&&◌, ◌||◌, MatchBool, List, [], ◌∷◌, ◌++◌, codes, Some, None, drop}
-use Rattle.std.specs.Prelude.{slice_get}
+use Rattle.std.specs.Prelude.{slice_get, Result, Ok, Err}
 use Rattle.std.specs.Option.{option_map_or}
 use Rattle.std.specs.Borrow.{Bor}
 use Rattle.hex.specs.Hex.{encode_lower}
 use Rattle.sd_sid.specs.Sid.{SidValue}
 use Rattle.sd_acl.specs.Descriptor.{DescriptorValue, descriptor_of}
-use Rattle.sd_check.specs.declared.verdict.Verdict.{Verdict}
-use Rattle.sd_check.specs.declared.verdict.Verdict.TheVariants.{Granted}
 use Rattle.sd_text.specs.Fault.{StandsIn}
 use Rattle.sd_text.specs.Grammar.{Spells}
 use Rattle.sd_text.specs.Sid.{sid_text_in}
@@ -21,6 +19,8 @@ use Rattle.sd_line.specs.Line.{LineOf, form, line_of, text_line}
 use Rattle.sd_line.specs.declared.line.Value.TheVariants as values
 use Rattle.sd_answer.specs.VerdictLines.{verdict_line, entry_fault_line, fault_line, sddl_fault_line}
 use Rattle.sd_answer.specs.declared.forms.TheConstants.{CLEAN, SAME}
+use Rattle.sd_client.specs.Client.{ClientValue}
+use Rattle.sd_client.specs.Word.{IsClient, IsFirstNoClientWord}
 use Rattle.sd_analysis.specs.Compare.{AreGains}
 use Rattle.sd_analysis.specs.Descendants.{AreDescendantChanges}
 use Rattle.sd_analysis.specs.declared.descendants_compare.DescendantChange.{DescendantChange}
@@ -48,19 +48,23 @@ use Rattle.sd_commands.specs.Diagnostic.{object_note, sddl_fault_text, told_line
 use Rattle.sd_commands.specs.Diagnostic.{IsWordReason}
 use Rattle.sd_usage.specs.declared.row.DescriptorCommand.{DescriptorCommand}
 use Rattle.sd_usage.specs.declared.row.DescriptorCommand.TheVariants as about
-use Rattle.sd_commands.specs.declared.command_answer.Outcome.{Outcome}
 use Rattle.sd_commands.specs.declared.command_answer.Outcome.TheVariants.{Done, Refused}
 use Rattle.sd_commands.specs.declared.descriptor.Given.{Given}
 use Rattle.sd_commands.specs.declared.descriptor.Given.TheVariants as givens
 use Rattle.sd_commands.specs.declared.settings.Settings.{Settings}
 use Rattle.sd_commands.specs.declared.verdict.Form.{Form}
+use Rattle.sd_commands.specs.declared.verdict.Subject.{Subject}
+use Rattle.sd_commands.specs.declared.verdict.Subject.TheVariants as subjects
 use Rattle.sd_commands.specs.declared.verdict.Form.TheVariants.{Short, Explained}
 use Rattle.sd_commands.specs.Answer.{value_line, AnswerValue, answer_of, IsAnswer, AreDone, IsDone, IsFault}
-use Rattle.sd_commands.specs.Answer.{IsFaultOf, Noting, IsMissingDacl, descriptor_line}
+use Rattle.sd_commands.specs.Answer.{AnswersFit, IsFaultOf, Noting, IsMissingDacl, descriptor_line}
 use Rattle.sd_commands.specs.FromBinary.{AnswersFromBinary}
 use Rattle.sd_commands.specs.Whole.{takes_whole, told_odd}
 use Rattle.sd_commands.specs.WholeText.{AnswersOfWhole, AnswersWholeText}
-use Rattle.sd_whole.specs.Plain.{odd_name}
+use Rattle.sd_commands.specs.WholeVerdict.{IsUndecided, IsWholeVerdict, everyone_context, verdict_outcome}
+use Rattle.sd_specialize.specs.Everyone.{unconditional}
+use Rattle.sd_specialize.specs.declared.fault.SpecializeFault.{SpecializeFault}
+use Rattle.sd_whole.specs.Plain.{has_sacl, odd_name}
 use Rattle.sd_whole.specs.declared.descriptor.WholeDescriptor.{WholeDescriptor}
 use Rattle.sd_whole.specs.declared.plain.OddEntry.{OddEntry}
 use Rattle.sd_show.specs.Diff.{changes}
@@ -142,9 +146,14 @@ AnswersOfArgument argument settings written Answers answer =
 
 -- ---- verdicts
 
-abbrev pub verdict_outcome : Verdict → Outcome
-verdict_outcome (Granted mask) = Done
-verdict_outcome verdict = Refused
+-- the descriptor that a verdict is on: a plain one, or under `--whole` all of it
+pub data Judged : Type 0 where
+  Plain : DescriptorValue → Judged
+  Whole : WholeDescriptor → Judged
+
+abbrev pub judged_of : Subject → Judged
+judged_of (subjects.Plain d) = Plain (descriptor_of d.now)
+judged_of (subjects.Whole d) = Whole d.now
 
 -- the verdict's line, or with it the reasons
 abbrev pub form_lines : Settings → Form → DescriptorValue → TokenValue → ℕ → List LineOf
@@ -174,35 +183,48 @@ abbrev pub IsGroupFault : Settings → List (Bor (List ℕ)) → AnswerValue →
 IsGroupFault settings =
     IsFirstFault (IsFirstNoGroup settings.aliases) (IsStateReason settings.points settings.aliases)
 
--- the words make a token, for which this is the verdict; or one of them is no word
-abbrev pub AnswersWords : Settings → Form → DescriptorValue → SidValue → ℕ → List (Bor (List ℕ)) → AnswerValue → Type 0
-AnswersWords settings form d user asked words answer =
+abbrev pub IsClientFault : Settings → List (Bor (List ℕ)) → AnswerValue → Type 0
+IsClientFault settings =
+    IsFirstFault (IsFirstNoClientWord settings.aliases) (IsWordReason settings.points settings.aliases)
+
+-- the words make who asks, for whom this is the verdict; or one of them is no word
+abbrev pub AnswersWords : Settings → Form → Judged → SidValue → ℕ → List (Bor (List ℕ)) → AnswerValue → Type 0
+AnswersWords settings form (Plain d) user asked words answer =
     ((token : TokenValue) × IsToken settings.aliases user (texts words) token
     × IsVerdict settings form d token asked answer)
     ⊎ IsWordFault settings words answer
+AnswersWords settings form (Whole d) user asked words answer =
+    ((client : ClientValue) × IsClient settings.aliases user (texts words) client
+    × IsWholeVerdict settings form d client asked answer)
+    ⊎ IsClientFault settings words answer
 
 -- so do the words with the groups of the logon behind them
-abbrev pub AnswersWithLogon : Settings → Form → DescriptorValue → SidValue → ℕ → List (Bor (List ℕ)) → AnswerValue
-    → Type 0
-AnswersWithLogon settings form d user asked words answer =
+abbrev pub AnswersWithLogon : Settings → Form → Judged → SidValue → ℕ → List (Bor (List ℕ)) → AnswerValue → Type 0
+AnswersWithLogon settings form on user asked words answer =
     (all : List (Bor (List ℕ))) × (texts all ≡ words_for settings.logon (texts words))
-    × AnswersWords settings form d user asked all answer
+    × AnswersWords settings form on user asked all answer
 
 -- what is answered of a user whose mask and words these arguments are
-abbrev pub AnswersMask : Settings → Form → List (Bor (List ℕ)) → DescriptorValue → SidValue → AnswerValue → Type 0
-AnswersMask settings form arguments d user = AnswersOfMask settings (argument arguments 1)
-    (λ asked. AnswersWithLogon settings form d user asked (drop 2 arguments))
+abbrev pub AnswersMask : Settings → Form → List (Bor (List ℕ)) → Judged → SidValue → AnswerValue → Type 0
+AnswersMask settings form arguments on user = AnswersOfMask settings (argument arguments 1)
+    (λ asked. AnswersWithLogon settings form on user asked (drop 2 arguments))
 
 -- what is answered of any user: who can't have logged on as is said is a fault
-abbrev pub AnswersFitting : Settings → Form → List (Bor (List ℕ)) → DescriptorValue → SidValue → AnswerValue → Type 0
-AnswersFitting settings form arguments d user answer = MatchBool (fits_logon settings.logon user)
-    (AnswersMask settings form arguments d user answer)
+abbrev pub AnswersFitting : Settings → Form → List (Bor (List ℕ)) → Judged → SidValue → AnswerValue → Type 0
+AnswersFitting settings form arguments on user answer = MatchBool (fits_logon settings.logon user)
+    (AnswersMask settings form arguments on user answer)
     (IsFault (fault_line (codes "sid")) (told_line (codes "USER") (codes "no anonymous user")) answer)
 
 -- the arguments are the user, the mask and words
-abbrev pub AnswersUser : Settings → Form → List (Bor (List ℕ)) → DescriptorValue → AnswerValue → Type 0
-AnswersUser settings form arguments d = AnswersOfSid (codes "USER") settings (argument arguments 0)
-    (AnswersFitting settings form arguments d)
+abbrev pub AnswersUser : Settings → Form → List (Bor (List ℕ)) → Judged → AnswerValue → Type 0
+AnswersUser settings form arguments on = AnswersOfSid (codes "USER") settings (argument arguments 0)
+    (AnswersFitting settings form arguments on)
+
+-- what is answered of all that the text is, where it doesn't lack the list that is required
+abbrev pub AnswersWholeUser : Settings → Form → List ℕ → List (Bor (List ℕ)) → AnswerValue → Type 0
+AnswersWholeUser settings form text arguments = AnswersOfWhole (codes "SDDL") settings text
+    (λ d. AnswersFit (codes "SDDL") (missing_dacl settings.require_dacl d.dacl)
+    (AnswersUser settings form arguments (Whole d)))
 
 -- ---- other forms
 
@@ -309,8 +331,8 @@ AnswersSid settings text = AnswersOfSid (codes "SID") settings text (λ sid. IsD
 -- what is answered of a descriptor, where these are the arguments after it: the user, the mask and words; the mask and
 -- a base; the new descriptor and a base; or a base
 abbrev pub AnswersOn : Settings → DescriptorCommand → List (Bor (List ℕ)) → DescriptorValue → AnswerValue → Type 0
-AnswersOn settings about.Verdict arguments d = AnswersUser settings Short arguments d
-AnswersOn settings about.Why arguments d = AnswersUser settings Explained arguments d
+AnswersOn settings about.Verdict arguments d = AnswersUser settings Short arguments (Plain d)
+AnswersOn settings about.Why arguments d = AnswersUser settings Explained arguments (Plain d)
 AnswersOn settings about.Who arguments d = AnswersOfMask settings (argument arguments 0)
     (λ asked. AnswersOfBase settings (drop 1 arguments) (PrintsWho settings asked d))
 AnswersOn settings about.Compare arguments old = AnswersOfArgument (codes "NEW") settings (argument arguments 0)
@@ -326,11 +348,38 @@ abbrev pub descriptor_name : DescriptorCommand → List ℕ
 descriptor_name about.Compare = codes "OLD"
 descriptor_name question = codes "SDDL"
 
--- what a command about a descriptor answers to its text and the arguments after it
+-- what a command answers of the plain descriptor that its text is
+abbrev pub AnswersPlainly : Settings → DescriptorCommand → List ℕ → List (Bor (List ℕ)) → AnswerValue → Type 0
+AnswersPlainly settings question text arguments =
+    AnswersOfArgument (descriptor_name question) settings text (AnswersOn settings question arguments)
+
+-- what `who` answers of the plain descriptor that a whole one is, whoever asks, or which entry depends on who asks
+abbrev pub AnswersEveryone : Settings → List (Bor (List ℕ)) → Result DescriptorValue SpecializeFault → AnswerValue
+    → Type 0
+AnswersEveryone settings arguments (Ok d) = AnswersOn settings about.Who arguments d
+AnswersEveryone settings arguments (Err fault) = IsUndecided fault
+
+-- what it answers of a whole descriptor, where it doesn't lack the list that is required: without the SACL
+abbrev pub AnswersWhoOfWhole : Settings → List (Bor (List ℕ)) → WholeDescriptor → AnswerValue → Type 0
+AnswersWhoOfWhole settings arguments d = Noting (codes "SDDL") (has_sacl d)
+    (AnswersFit (codes "SDDL") (missing_dacl settings.require_dacl d.dacl)
+    (AnswersEveryone settings arguments (unconditional (everyone_context settings) d)))
+
+-- what a command answers of all that the text is: a verdict, whom rights are granted to, or what is printed, sorted or
+-- written
+abbrev pub AnswersWholly : Settings → DescriptorCommand → List ℕ → List (Bor (List ℕ)) → AnswerValue → Type 0
+AnswersWholly settings about.Who text arguments =
+    AnswersOfWhole (codes "SDDL") settings text (AnswersWhoOfWhole settings arguments)
+AnswersWholly settings about.Verdict text arguments = AnswersWholeUser settings Short text arguments
+AnswersWholly settings about.Why text arguments = AnswersWholeUser settings Explained text arguments
+AnswersWholly settings question text arguments = AnswersWholeText settings question text
+
+-- what a command about a descriptor answers to its text and the arguments after it: under `--whole` some look at all of
+-- the descriptor, and others at its plain part
 abbrev pub AnswersDescriptor : Settings → DescriptorCommand → List ℕ → List (Bor (List ℕ)) → AnswerValue → Type 0
-AnswersDescriptor settings question text arguments answer = MatchBool (settings.whole && takes_whole question)
-    (AnswersWholeText settings question text answer)
-    (AnswersOfArgument (descriptor_name question) settings text (AnswersOn settings question arguments) answer)
+AnswersDescriptor settings question text arguments answer =
+    MatchBool (settings.whole && takes_whole settings.below question)
+    (AnswersWholly settings question text arguments answer) (AnswersPlainly settings question text arguments answer)
 
 -- what a command answers to a text and the arguments after it
 abbrev pub AnswersQuestion : Settings → TextCommand → List ℕ → List (Bor (List ℕ)) → AnswerValue → Type 0

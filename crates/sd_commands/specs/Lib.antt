@@ -2,6 +2,7 @@ pub mod Analysis
 pub mod Answer
 pub mod CommandAnswer
 pub mod Bytes
+pub mod Chain
 pub mod Concern
 pub mod Diagnostic
 pub mod Escaped
@@ -18,3 +19,4 @@ pub mod Value
 pub mod Whole
 pub mod WholeSort
 pub mod WholeText
+pub mod WholeVerdict

@@ -1,6 +1,6 @@
 -- What `sort` answers under `--whole`: the descriptor with its DACL in canonical order ([MS-DTYP] 2.4.5), and what
 -- moved for that.
-use Rattle.std.specs.Prelude.{◌≡◌, ℕ, zero, suc, ◌+◌, nat_lt, Option, Some, None, List, [], ◌++◌, length, take}
+use Rattle.std.specs.Prelude.{◌≡◌, ℕ, zero, suc, ◌+◌, nat_lt, List, [], ◌++◌, length, take}
 use Rattle.std.specs.Prelude.{slice_get, position, codes}
 use Rattle.std.specs.Fmt.{decimal}
 use Rattle.std.specs.Option.{option_map_or}

@@ -5,14 +5,14 @@ ghost use Rattle.sd_answer.specs.VerdictLines.{fault_line, sddl_fault_line};
 ghost use Rattle.sd_acl.specs.Descriptor.{descriptor_of};
 ghost use Rattle.sd_commands.specs.Answer.{AreDone, IsAnswer, IsDone, IsFault, IsFaultOf, answer_of, or_worse};
 ghost use Rattle.sd_commands.specs.Answer.{outcome_status, value_line};
-ghost use Rattle.sd_commands.specs.CommandAnswer.{AnswersDescriptor, AnswersOfArgument, AnswersOn, AnswersQuestion};
-ghost use Rattle.sd_commands.specs.CommandAnswer.{IsFound, IsTokenFault, descriptor_name};
+ghost use Rattle.sd_commands.specs.CommandAnswer.{AnswersDescriptor, AnswersOn, AnswersPlainly, AnswersQuestion};
+ghost use Rattle.sd_commands.specs.CommandAnswer.{AnswersWholly, IsFound, IsTokenFault, descriptor_name};
 ghost use Rattle.sd_commands.specs.Diagnostic.{sddl_fault_text, told_line};
 
 use crate::descriptor::{Given, note_left_out_sacl};
 use crate::diagnostic::{fault_text, sddl_fault_text, told_line, word_argument};
 use crate::settings::{CommandContext, Settings};
-use crate::verdict::Form;
+use crate::verdict::{Form, Subject};
 use crate::whole::takes_whole;
 use crate::words::argument;
 use sd_acl::Descriptor;
@@ -176,8 +176,8 @@ pub(crate) fn found(alloc: Global, lines: Vec<Line>, nothing: LineForm) -> Answe
 }
 
 impl CommandContext<'_> {
-    /// The answer to a question about the descriptor that the text is: under `--whole`, of one that is only printed,
-    /// sorted or written, with all that it says.
+    /// The answer to a question about the descriptor that the text is: under `--whole`, of a verdict or of what is
+    /// printed, sorted or written, with all that it says.
     fn answer_descriptor(
         &self,
         question: DescriptorCommand,
@@ -187,17 +187,30 @@ impl CommandContext<'_> {
         ensures { IfOk result (λ answer. AnswersDescriptor self.now.settings.now question sddl.now arguments.now
             (answer_of answer)) }
     {
-        if self.settings.whole && takes_whole(question) {
-            return self.answer_whole_text(question, sddl);
+        if self.settings.whole && takes_whole(self.settings.below, question) {
+            return self.answer_wholly(question, sddl, arguments);
         }
         self.answer(question, sddl, arguments)
+    }
+
+    /// The answer to a question about all that the text is.
+    fn answer_wholly(&self, question: DescriptorCommand, sddl: &str, arguments: &[&str]) -> Answered
+        ensures { IfOk result (λ answer. AnswersWholly self.now.settings.now question sddl.now arguments.now
+            (answer_of answer)) }
+    {
+        match question {
+            DescriptorCommand::Verdict => self.whole_verdict(Form::Short, sddl, arguments),
+            DescriptorCommand::Why => self.whole_verdict(Form::Explained, sddl, arguments),
+            DescriptorCommand::Who => self.whole_who(sddl, arguments),
+            _ => self.answer_whole_text(question, sddl),
+        }
     }
 
     /// The answer to a question about the plain descriptor that the text is, or the first fault of this argument and of
     /// those after it.
     fn answer(&self, question: DescriptorCommand, sddl: &str, arguments: &[&str]) -> Answered
-        ensures { IfOk result (λ answer. AnswersOfArgument (descriptor_name question) self.now.settings.now sddl.now
-            (AnswersOn self.now.settings.now question arguments.now) (answer_of answer)) }
+        ensures { IfOk result (λ answer. AnswersPlainly self.now.settings.now question sddl.now arguments.now
+            (answer_of answer)) }
     {
         let name = descriptor_name(question);
         let part = match self.read_argument(name, sddl)? {
@@ -218,8 +231,12 @@ impl CommandContext<'_> {
             (answer_of answer)) }
     {
         match question {
-            DescriptorCommand::Verdict => self.verdict(Form::Short, &on, arguments),
-            DescriptorCommand::Why => self.verdict(Form::Explained, &on, arguments),
+            DescriptorCommand::Verdict => {
+                self.verdict(Form::Short, Subject::Plain(&on), arguments)
+            }
+            DescriptorCommand::Why => {
+                self.verdict(Form::Explained, Subject::Plain(&on), arguments)
+            }
             DescriptorCommand::Who => self.who(&on, arguments),
             DescriptorCommand::Compare => self.compare(on, arguments),
             DescriptorCommand::Lint => self.lint(on, arguments),

@@ -14,6 +14,7 @@
 
 mod analysis;
 mod bytes;
+mod chain;
 mod command_answer;
 mod concern;
 mod convert;
@@ -37,8 +38,11 @@ mod value;
 mod verdict;
 mod whole;
 mod whole_sort;
+mod whole_verdict;
+mod whole_who;
 mod words;
 
+pub use chain::{Chain, MAX_TYPES, chain_given};
 pub use command_answer::{Answer, Outcome, answer_question, fault};
 pub use concern::{Concern, concern_given, concern_reason, is_placeholder};
 pub use diagnostic::{sid_reason, told_line};

@@ -1,9 +1,10 @@
 //! What the options before a command about a descriptor say.
 
+use crate::chain::Chain;
 use crate::concern::Concern;
 use crate::logon::Logon;
 use sd_line::{ObjectKind, Spelling};
-use sd_sid::GenericMapping;
+use sd_sid::{GenericMapping, Sid};
 use sd_text::Aliases;
 use std::alloc::Global;
 
@@ -31,8 +32,13 @@ pub struct Settings {
     pub kind: Option<ObjectKind>,
     /// How the user logged on, if that is said.
     pub logon: Option<Logon>,
-    /// Whether descriptors may have a SACL, which a question leaves out, and entries of every type.
+    /// Whether descriptors may have a SACL and entries of every type: `verdict` and `why` look at these, and other
+    /// questions leave them out.
     pub whole: bool,
+    /// Under `whole`, the object types that `verdict` and `why` are asked about.
+    pub chain: Chain,
+    /// Under `whole`, the SID for which PRINCIPAL SELF stands, if it is given.
+    pub principal_self: Option<Sid>,
     /// Whether what the header has that SDDL has no word for is left out.
     pub without_bits: bool,
     /// Whether a descriptor without a list of entries is a fault.

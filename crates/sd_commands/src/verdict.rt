@@ -4,7 +4,8 @@ ghost use Rattle.sd_acl.specs.Descriptor.{descriptor_of};
 ghost use Rattle.sd_answer.specs.Word.{IsFirstNoWord, texts};
 ghost use Rattle.sd_commands.specs.Answer.{answer_of};
 ghost use Rattle.sd_commands.specs.CommandAnswer.{AnswersFitting, AnswersMask, AnswersUser, AnswersWithLogon};
-ghost use Rattle.sd_commands.specs.CommandAnswer.{IsVerdict, IsWordFault, verdict_outcome};
+ghost use Rattle.sd_commands.specs.CommandAnswer.{AnswersWords, IsVerdict, IsWordFault, Plain, judged_of};
+ghost use Rattle.sd_commands.specs.WholeVerdict.{verdict_outcome};
 
 use crate::command_answer::{Answer, Answered, Outcome};
 use crate::logon::{fits_logon, words_for};
@@ -16,7 +17,16 @@ use sd_check::{Token, Verdict, check};
 use sd_line::read_mask_in;
 use sd_sid::{Mask, Sid};
 use sd_text::read_sid_text_in;
+use sd_whole::WholeDescriptor;
 use std::alloc::AllocError;
+
+/// The descriptor that a verdict is on.
+#[derive(Clone, Copy)]
+pub(crate) enum Subject<'a> {
+    Plain(&'a Descriptor),
+    /// With its SACL and entries of every type.
+    Whole(&'a WholeDescriptor),
+}
 
 /// What an answer says of a verdict.
 #[derive(Clone, Copy)]
@@ -30,60 +40,62 @@ pub(crate) enum Form {
 impl CommandContext<'_> {
     /// The verdict on a descriptor, where the user, the mask and words are the arguments, with the groups of the logon
     /// behind them; or the fault of the first from the left that is invalid.
-    pub(crate) fn verdict(
-        &self,
-        form: Form,
-        descriptor: &Descriptor,
-        arguments: &[&str],
-    ) -> Answered
+    pub(crate) fn verdict(&self, form: Form, on: Subject<'_>, arguments: &[&str]) -> Answered
         ensures { IfOk result (λ answer. AnswersUser self.now.settings.now form arguments.now
-            (descriptor_of descriptor.now) (answer_of answer)) }
+            (judged_of on.entry) (answer_of answer)) }
     {
         let user = argument(arguments, 0);
         match read_sid_text_in(self.settings.aliases, user) {
-            Ok(sid) => self.for_user(form, descriptor, sid, arguments),
+            Ok(sid) => self.for_user(form, on, sid, arguments),
             Err(error) => self.text_fault("sid", "USER", user, error),
         }
     }
 
     /// The verdict for this user, or the fault that nobody else can log on so.
-    fn for_user(
-        &self,
-        form: Form,
-        descriptor: &Descriptor,
-        user: Sid,
-        arguments: &[&str],
-    ) -> Answered
+    fn for_user(&self, form: Form, on: Subject<'_>, user: Sid, arguments: &[&str]) -> Answered
         ensures { IfOk result (λ answer. AnswersFitting self.now.settings.now form arguments.now
-            (descriptor_of descriptor.now) user (answer_of answer)) }
+            (judged_of on.entry) user (answer_of answer)) }
     {
         if fits_logon(self.settings.logon, &user) {
-            self.with_mask(form, descriptor, user, arguments)
+            self.with_mask(form, on, user, arguments)
         } else {
             self.fault("sid", "USER", "no anonymous user")
         }
     }
 
-    fn with_mask(
-        &self,
-        form: Form,
-        descriptor: &Descriptor,
-        user: Sid,
-        arguments: &[&str],
-    ) -> Answered
+    fn with_mask(&self, form: Form, on: Subject<'_>, user: Sid, arguments: &[&str]) -> Answered
         ensures { IfOk result (λ answer. AnswersMask self.now.settings.now form arguments.now
-            (descriptor_of descriptor.now) user (answer_of answer)) }
+            (judged_of on.entry) user (answer_of answer)) }
     {
         let mask = argument(arguments, 1);
         match read_mask_in(self.settings.spelling, mask) {
-            Ok(asked) => self.with_words(form, descriptor, user, asked, items_from(arguments, 2)),
+            Ok(asked) => self.with_words(form, on, user, asked, items_from(arguments, 2)),
             Err(error) => self.text_fault("mask", "MASK", mask, error),
         }
     }
 
-    /// The verdict for the token of the user and of these words, with the groups of the logon behind them, or the fault
-    /// of the first that is no word.
+    /// The verdict for the user and these words, with the groups of the logon behind them, or the fault of the first
+    /// that is no word.
     fn with_words(
+        &self,
+        form: Form,
+        on: Subject<'_>,
+        user: Sid,
+        asked: Mask,
+        words: &[&str],
+    ) -> Answered
+        ensures { IfOk result (λ answer. AnswersWithLogon self.now.settings.now form (judged_of on.entry) user
+            asked words.now (answer_of answer)) }
+    {
+        let words = words_for(self.alloc, self.settings.logon, words)?;
+        match on {
+            Subject::Plain(descriptor) => { self.for_token(form, descriptor, user, asked, &words) }
+            Subject::Whole(descriptor) => { self.for_client(form, descriptor, user, asked, &words) }
+        }
+    }
+
+    /// The verdict on a plain descriptor for the token of the user and these words.
+    fn for_token(
         &self,
         form: Form,
         descriptor: &Descriptor,
@@ -91,13 +103,12 @@ impl CommandContext<'_> {
         asked: Mask,
         words: &[&str],
     ) -> Answered
-        ensures { IfOk result (λ answer. AnswersWithLogon self.now.settings.now form (descriptor_of descriptor.now) user
-            asked words.now (answer_of answer)) }
+        ensures { IfOk result (λ answer. AnswersWords self.now.settings.now form (Plain (descriptor_of descriptor.now))
+            user asked words.now (answer_of answer)) }
     {
-        let words = words_for(self.alloc, self.settings.logon, words)?;
-        match read_token(self.alloc, self.settings.aliases, user, &words) {
+        match read_token(self.alloc, self.settings.aliases, user, words) {
             Ok(token) => self.verdict_for(form, descriptor, &token, asked),
-            Err(TokenError::NoWord { place }) => self.word_fault(&words, place),
+            Err(TokenError::NoWord { place }) => self.word_fault(words, place),
             Err(TokenError::Memory) => Err(AllocError),
         }
     }
@@ -140,7 +151,7 @@ impl CommandContext<'_> {
     }
 }
 
-fn outcome_of(verdict: &Verdict) -> Outcome
+pub(crate) fn outcome_of(verdict: &Verdict) -> Outcome
     ensures { result ≡ verdict_outcome verdict.now }
 {
     match verdict {

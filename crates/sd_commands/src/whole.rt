@@ -156,14 +156,16 @@ pub(crate) fn told_before(mut note: String, mut answer: Answer) -> Answered
     Ok(answer)
 }
 
-/// Whether the command answers for all that a whole descriptor has ([MS-DTYP] 2.5.1.1): it prints, sorts or writes it.
-pub fn takes_whole(question: DescriptorCommand) -> bool
-    ensures { result ≡ takes_whole question }
+/// Whether the command looks at all that a whole descriptor has ([MS-DTYP] 2.5.1.1): it gives a verdict, prints to whom
+/// rights are granted, but not of what is made below the object, or prints, sorts or writes the descriptor.
+pub fn takes_whole(below: bool, question: DescriptorCommand) -> bool
+    ensures { result ≡ takes_whole below question }
 {
-    matches!(
-        question,
-        DescriptorCommand::Print | DescriptorCommand::Sort | DescriptorCommand::ToBinary
-    )
+    match question {
+        DescriptorCommand::Who => !below,
+        DescriptorCommand::Compare | DescriptorCommand::Lint => false,
+        _ => true,
+    }
 }
 
 fn no_text_line(alloc: Global, why: NoText) -> Result<Line, AllocError>

@@ -28,7 +28,7 @@ use Rattle.sd_arguments.specs.Options.{OptionsValue, GivesSettings, style_of}
 use Rattle.sd_arguments.specs.declared.flags.GivenFlags.{GivenFlags}
 use Rattle.sd_arguments.specs.declared.options.BadValue.{BadValue}
 use Rattle.sd_arguments.specs.declared.options.BadValue.TheVariants.{NoConcern, NoDomain, NoEdits, NoLogon, NoMapping}
-use Rattle.sd_arguments.specs.declared.options.BadValue.TheVariants.{NoNodes}
+use Rattle.sd_arguments.specs.declared.options.BadValue.TheVariants.{NoNodes, NoSelf, NoType}
 use Rattle.sd_questions.specs.Each.{after_key, has_key, key_of, outcome_of_lines, told_of_lines, with_line}
 use Rattle.sd_questions.specs.Input.{is_blank, is_utf16, without_end}
 
@@ -50,6 +50,11 @@ IsBadValue NoLogon answer = IsBadOption (codes "logon")
 IsBadValue (NoConcern text known points) answer =
     (reason : List ℕ) × IsConcernReason points known text.now reason
     × IsBadOption (codes "concern") (codes "\"" ++ escaped text.now ++ codes "\": " ++ reason) answer
+IsBadValue (NoType text) answer = IsBadOption (codes "type") (codes "\"" ++ escaped text.now
+    ++ codes "\": no object type: a GUID, as bf9679c0-0de6-11d0-a285-00aa003049e2") answer
+IsBadValue (NoSelf text known points) answer =
+    (reason : List ℕ) × IsSidReason points known (codes "no SID") text.now reason
+    × IsBadOption (codes "self") reason answer
 IsBadValue NoNodes answer = IsBadOption (codes "nodes") (codes "no number of nodes, 1 to 16777216") answer
 IsBadValue NoEdits answer = IsBadOption (codes "edits") (codes "no number of edits, 0 to 4294967296") answer
 

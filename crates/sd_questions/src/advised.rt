@@ -7,14 +7,16 @@ ghost use Rattle.sd_arguments.specs.CommandLine.{request_of};
 use crate::found::{found_in_descriptor, found_in_mask, found_in_user, found_in_word};
 use crate::notes::notes_on;
 use crate::remedies::{
-    CHILDREN, EACH, HEX, NO_BITS, NO_CHILDREN, ODD_ENTRY, OTHER_USER, RemedyRow, SACLS, WHOLE_BITS,
-    WHOLE_ENTRY, WHOLE_RANGE, WHOLE_SACL, row_line,
+    CHILDREN, EACH, HEX, NO_BITS, NO_CHILDREN, ODD_ENTRY, OTHER_USER, POLICIES, RemedyRow, SACLS,
+    WHOLE_BITS, WHOLE_ENTRY, WHOLE_RANGE, WHOLE_SACL, row_line,
 };
 use crate::spoken::{answer_text, asks_who};
 use sd_answer::{TokenError, read_base, read_token};
 use sd_arguments::{Options, TextRequest};
+use sd_client::read_client;
 use sd_commands::{Answer, ByteForm, Outcome, Settings, fits_logon, takes_whole, told_line};
 use sd_line::{Value, read_mask_in};
+use sd_sid::Sid;
 use sd_text::{TextError, TextFault, read_sddl_in, read_sid_text_in};
 use sd_usage::{DescriptorCommand, OptionName, TextCommand};
 use sd_whole_parse::{PartError, read_sddl_part, read_whole_sddl};
@@ -76,9 +78,8 @@ pub(crate) fn advice_on_each(
     request: TextRequest<'_>,
 ) -> Result<String, AllocError> {
     let mut advice = misplaced_line(alloc, request)?;
-    if options.has(OptionName::Whole) && leaves_out(request.question) {
-        let note = told_line(alloc, "SDDL", SACLS)?;
-        advice.push_str(note.as_str())?;
+    if options.has(OptionName::Whole) {
+        push_left_out(alloc, request.question, &mut advice)?;
     }
     if asks_who(request.question) && !options.has(OptionName::Below) {
         let note = told_line(alloc, "SDDL", CHILDREN)?;
@@ -95,12 +96,21 @@ pub(crate) fn advice_on_each(
     Ok(advice)
 }
 
-/// Whether the command is about the plain part of a descriptor.
-fn leaves_out(question: TextCommand) -> bool {
-    match question {
-        TextCommand::Descriptor(question) => !takes_whole(question),
-        _ => false,
-    }
+/// Notes what of whole descriptors the command doesn't look at.
+fn push_left_out(
+    alloc: Global,
+    question: TextCommand,
+    advice: &mut String,
+) -> Result<(), AllocError> {
+    let what = match question {
+        TextCommand::Descriptor(DescriptorCommand::Verdict | DescriptorCommand::Why) => POLICIES,
+        TextCommand::Descriptor(
+            DescriptorCommand::Who | DescriptorCommand::Compare | DescriptorCommand::Lint,
+        ) => SACLS,
+        _ => return Ok(()),
+    };
+    let note = told_line(alloc, "SDDL", what)?;
+    advice.push_str(note.as_str())
 }
 
 /// The line of a descriptor that stands where USER does.
@@ -131,7 +141,10 @@ fn remedy(
         TextCommand::Descriptor(question) => {
             match text_row(alloc, settings, question, text) {
                 Some(row) => Some(row),
-                None => argument_row(alloc, settings, question, request.arguments),
+                None => match argument_row(alloc, settings, question, request.arguments) {
+                    Some(row) => Some(row),
+                    None => undecided_row(question, answer),
+                },
             }
         }
         TextCommand::FromBinary => match hex_row(settings.bytes, text) {
@@ -156,7 +169,7 @@ fn text_row(
     question: DescriptorCommand,
     text: &str,
 ) -> Option<RemedyRow> {
-    if !takes_whole(question) {
+    if !takes_whole(settings.below, question) {
         return part_row(alloc, settings, text);
     }
     if settings.whole {
@@ -165,7 +178,8 @@ fn text_row(
     match read_sddl_in(alloc, settings.aliases, text).err()? {
         TextError::Fault { fault, place } => match fault {
             TextFault::HasSacl => Some(WHOLE_SACL),
-            TextFault::EntryKind | TextFault::ObjectGuid => Some(WHOLE_ENTRY),
+            TextFault::EntryKind | TextFault::ObjectGuid
+                if read_whole_sddl(alloc, settings.aliases, text).is_ok() => { Some(WHOLE_ENTRY) }
             _ => found_in_descriptor(text, fault, place),
         },
         TextError::Memory => None,
@@ -213,6 +227,15 @@ fn part_row(alloc: Global, settings: &Settings, text: &str) -> Option<RemedyRow>
     }
 }
 
+/// The row of advice for an entry that depends on who asks, where that isn't known.
+fn undecided_row(question: DescriptorCommand, answer: &Answer) -> Option<RemedyRow> {
+    answer.lines.first()?.value(b"entry")?;
+    match question {
+        DescriptorCommand::Who => Some(ODD_ENTRY),
+        _ => None,
+    }
+}
+
 /// The row of advice for a text in which a byte is no hexadecimal digit.
 fn hex_row(form: ByteForm, text: &str) -> Option<RemedyRow> {
     if form == ByteForm::Hex && text.bytes().any(|byte| !byte.is_ascii_hexdigit()) {
@@ -251,9 +274,9 @@ fn argument_row(
             if read_mask_in(settings.spelling, mask).is_err() {
                 return found_in_mask(settings, mask);
             }
-            match read_token(alloc, settings.aliases, sid, words) {
-                Err(TokenError::NoWord { place }) => word_row(settings, words, place),
-                _ => None,
+            match first_no_word(alloc, settings, sid, words) {
+                Some(place) => word_row(settings, settings.whole, words, place),
+                None => None,
             }
         }
         (DescriptorCommand::Who, [mask, words @ ..]) => {
@@ -275,12 +298,25 @@ fn argument_row(
 
 fn group_row(alloc: Global, settings: &Settings, words: &[&str]) -> Option<RemedyRow> {
     match read_base(alloc, settings.aliases, words) {
-        Err(TokenError::NoWord { place }) => word_row(settings, words, place),
+        Err(TokenError::NoWord { place }) => word_row(settings, false, words, place),
         _ => None,
     }
 }
 
-fn word_row(settings: &Settings, words: &[&str], place: usize) -> Option<RemedyRow> {
+/// The place of the first of the words of a verdict that is none.
+fn first_no_word(alloc: Global, settings: &Settings, user: Sid, words: &[&str]) -> Option<usize> {
+    let error = if settings.whole {
+        read_client(alloc, settings.aliases, user, words).err()?
+    } else {
+        read_token(alloc, settings.aliases, user, words).err()?
+    };
+    match error {
+        TokenError::NoWord { place } => Some(place),
+        TokenError::Memory => None,
+    }
+}
+
+fn word_row(settings: &Settings, whole: bool, words: &[&str], place: usize) -> Option<RemedyRow> {
     let word = words.get(place)?;
-    found_in_word(settings.aliases, word)
+    found_in_word(whole, settings.aliases, word)
 }

@@ -201,12 +201,16 @@ pub(crate) fn found_in_mask(settings: &Settings, text: &str) -> Option<RemedyRow
     }
 }
 
-/// What was found in place of a WORD.
-pub(crate) fn found_in_word(known: Aliases, text: &str) -> Option<RemedyRow> {
+/// What was found in place of a WORD, under `--whole` of a WORD that may say more than a token.
+pub(crate) fn found_in_word(whole: bool, known: Aliases, text: &str) -> Option<RemedyRow> {
     let bytes = text.as_bytes();
     match bytes {
         [b'+', ..] => Some(PRIVILEGE),
         [b'-', ..] => Some(STATE),
+        _ if whole && text.starts_with("level=") => Some(LEVEL),
+        [b'@', ..] if whole => Some(CLAIM),
+        [b'@', ..] => Some(WHOLE_WORD),
+        _ if text.starts_with("level=") || text.ends_with("=device") => Some(WHOLE_WORD),
         _ if bytes.contains(&b'=') || bytes.contains(&b':') => Some(STATE),
         _ => found_in_sid(known, text),
     }

@@ -18,6 +18,7 @@ mod notes;
 mod remedies;
 mod spoken;
 mod text_answer;
+mod token_notes;
 
 pub use each::{Ended, answer_each};
 pub use text_answer::{answer_to, bad_value};

@@ -186,6 +186,24 @@ pub(crate) const STATE: RemedyRow = (
     "write one of these",
 );
 
+pub(crate) const CLAIM: RemedyRow = (
+    "another text",
+    "a claim",
+    "it is @User.NAME=3, @Device.NAME=\"VP\" or NAME={1, 2}, in quotation marks of the shell",
+);
+
+pub(crate) const LEVEL: RemedyRow = (
+    "another level",
+    "an integrity level",
+    "it is untrusted, low, medium, mediumplus, high, system or a number",
+);
+
+pub(crate) const WHOLE_WORD: RemedyRow = (
+    "a claim, a level or a device's group",
+    "a group or a privilege",
+    "write --whole before the command",
+);
+
 pub(crate) const HEX: RemedyRow = (
     "no hexadecimal",
     "two digits a byte",
@@ -215,7 +233,7 @@ pub(crate) const WHOLE_RANGE: RemedyRow = (
 pub(crate) const ODD_ENTRY: RemedyRow = (
     "another kind of entry",
     "an allow or a deny",
-    "only print, sort, tobin, frombin, show and diff take it",
+    "verdict and why take it, and print, sort, tobin, frombin, show and diff",
 );
 
 pub(crate) const EACH: RemedyRow = (
@@ -227,6 +245,10 @@ pub(crate) const EACH: RemedyRow = (
 /// What is left out under `--whole`, where lines are answered.
 pub(crate) const SACLS: &str =
     "a line's SACL, by which Windows may deny what is granted here, and CR of its entries are left out";
+
+/// What a verdict leaves out under `--whole`, where lines are answered.
+pub(crate) const POLICIES: &str =
+    "a line's central policies, trust labels and access filters, by which Windows may deny more, are left out";
 
 /// What `--without-bits` leaves out, where lines are answered.
 pub(crate) const NO_BITS: &str = "what a line's header has that SDDL has no word for is left out";

@@ -99,9 +99,30 @@ pub fn bad_value(alloc: Global, bad: BadValue<'_>) -> Result<Answer, AllocError>
             let reason = concern_reason(alloc, points, known, text)?;
             bad_concern(alloc, text, reason.as_str())
         }
+        BadValue::NoType { text } => bad_type(alloc, text),
+        BadValue::NoSelf {
+            text,
+            known,
+            points,
+        } => {
+            let reason = sid_reason(alloc, points, known, "no SID", text)?;
+            bad_option(alloc, "self", reason.as_str())
+        }
         BadValue::NoNodes => bad_option(alloc, "nodes", "no number of nodes, 1 to 16777216"),
         BadValue::NoEdits => bad_option(alloc, "edits", "no number of edits, 0 to 4294967296"),
     }
+}
+
+/// The answer to an object type that this text isn't.
+fn bad_type(alloc: Global, text: &str) -> Result<Answer, AllocError>
+    ensures { IfOk result (λ answer. IsBadOption (codes "type") (codes "\"" ++ escaped text.now
+        ++ codes "\": no object type: a GUID, as bf9679c0-0de6-11d0-a285-00aa003049e2") (answer_of answer)) }
+{
+    let shown = escaped_word(alloc, text)?;
+    let shown = shown.as_str();
+    let what = "no object type: a GUID, as bf9679c0-0de6-11d0-a285-00aa003049e2";
+    let reason = format!(in alloc; "\"{shown}\": {what}")?;
+    bad_option(alloc, "type", reason.as_str())
 }
 
 /// The answer to SIDs of concern of which this text isn't taken for this reason.

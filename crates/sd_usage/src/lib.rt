@@ -22,7 +22,7 @@ mod usage;
 pub use names::{Commands, argument_name, listed_commands, usage_line};
 pub use option_table::OPTIONS;
 pub use row::{
-    Argument, Arguments, Command, CommandName, CommandRow, DescriptorCommand, Flag, Flags,
+    Argument, Arguments, Beside, Command, CommandName, CommandRow, DescriptorCommand, Flag, Flags,
     OPTION_COUNT, OptionName, OptionRow, ProgramOption, TextCommand, Value, command_named,
     option_named, takes_option,
 };

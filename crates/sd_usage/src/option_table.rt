@@ -1,6 +1,6 @@
 //! The table of options.
 
-use crate::row::{OptionName, OptionRow, ProgramOption, Value};
+use crate::row::{Beside, OptionName, OptionRow, ProgramOption, Value};
 
 /// The options before a command, in the order in which help lists them.
 pub const OPTIONS: &[OptionRow] = &[
@@ -9,7 +9,7 @@ pub const OPTIONS: &[OptionRow] = &[
         ProgramOption {
             name: OptionName::Stdin,
             value: None,
-            excludes: None,
+            beside: Beside::Any,
         },
         "\
 standard input takes the place of the first argument: in UTF-8, or in UTF-16 after a byte order
@@ -20,7 +20,7 @@ mark, and without a line end at its end",
         ProgramOption {
             name: OptionName::Names,
             value: None,
-            excludes: None,
+            beside: Beside::Any,
         },
         "\
 prints masks by the names of their kind of object, as FR+WD instead of 0x160089, takes such names as
@@ -31,20 +31,21 @@ MASK, and prints entries with names of that kind alone",
         ProgramOption {
             name: OptionName::Whole,
             value: None,
-            excludes: None,
+            beside: Beside::Any,
         },
         "\
 takes descriptors with a SACL and with entries of every type. What prints a descriptor prints all of
-it, and what has no text is a fault; what answers a question, and a script, leaves the SACL out, which
-it reports on standard error, of a script by the answer 'ok differs', and a conditional or an object
-entry in a DACL is a fault there",
+it, and what has no text is a fault; 'verdict' and 'why' look at the label, the claims, the object
+types and the conditions, and 'who' at the object types; 'who', another question and a script leave
+the SACL out, which is reported on standard error, of a script by the answer 'ok differs', and a
+conditional entry in a DACL is a fault there, but for 'who' without '--below' an object entry too",
     ),
     (
         "--without-bits",
         ProgramOption {
             name: OptionName::WithoutBits,
             value: None,
-            excludes: None,
+            beside: Beside::Any,
         },
         "\
 under '--whole' drops the control bits that SDDL has no word for, as OD, and the resource manager's
@@ -55,7 +56,7 @@ byte, and reports it on standard error",
         ProgramOption {
             name: OptionName::RequireDacl,
             value: None,
-            excludes: None,
+            beside: Beside::Any,
         },
         "a descriptor without a DACL, or with a null one, is a fault: either grants everything",
     ),
@@ -64,7 +65,7 @@ byte, and reports it on standard error",
         ProgramOption {
             name: OptionName::Below,
             value: None,
-            excludes: None,
+            beside: Beside::Any,
         },
         "also prints to whom the rights of what is made in the object are granted, if it is a container",
     ),
@@ -73,7 +74,7 @@ byte, and reports it on standard error",
         ProgramOption {
             name: OptionName::Object,
             value: None,
-            excludes: None,
+            beside: Beside::Any,
         },
         "\
 the descriptor is that of an object and of no container, as of a file: the flags OI and CI of its
@@ -84,7 +85,7 @@ entries say nothing, and are left out, also where entries are printed",
         ProgramOption {
             name: OptionName::Risks,
             value: None,
-            excludes: None,
+            beside: Beside::Any,
         },
         "\
 also reports risks: what Everyone and SIDs of nearly everybody, as Domain Users, are granted to
@@ -96,7 +97,7 @@ SIDs of no known kind",
         ProgramOption {
             name: OptionName::Concern,
             value: Some(Value::Sids),
-            excludes: None,
+            beside: Beside::Any,
         },
         "\
 reports risks as '--risks' does, also of what these SIDs are granted: 1 to 16 SIDs or aliases with
@@ -107,7 +108,7 @@ commas between them, as DU,S-1-5-21-1-2-3-1104",
         ProgramOption {
             name: OptionName::Base64,
             value: None,
-            excludes: Some(OptionName::Loose),
+            beside: Beside::Without(OptionName::Loose),
         },
         "the bytes are in base64",
     ),
@@ -116,7 +117,7 @@ commas between them, as DU,S-1-5-21-1-2-3-1104",
         ProgramOption {
             name: OptionName::Loose,
             value: None,
-            excludes: Some(OptionName::Base64),
+            beside: Beside::Without(OptionName::Base64),
         },
         "\
 the bytes are as other tools write them: in hexadecimal, in parts that tabs, spaces, commas,
@@ -128,7 +129,7 @@ LDIF, or of getfattr, also Samba's security.NTACL",
         ProgramOption {
             name: OptionName::Percent,
             value: None,
-            excludes: None,
+            beside: Beside::Any,
         },
         "\
 paths are percent-encoded, in the input and in the output: '%' and two hexadecimal digits are a
@@ -139,7 +140,7 @@ byte",
         ProgramOption {
             name: OptionName::Strict,
             value: None,
-            excludes: None,
+            beside: Beside::Any,
         },
         "\
 the status is 1 if a line has a fault or is refused, or an import isn't answered 'ok', and standard
@@ -150,7 +151,7 @@ error reports the first line of each kind",
         ProgramOption {
             name: OptionName::Nodes,
             value: Some(Value::Number),
-            excludes: None,
+            beside: Beside::Any,
         },
         "the most nodes of the tree, the root counted: 1 to 16777216, by default 65536",
     ),
@@ -159,7 +160,7 @@ error reports the first line of each kind",
         ProgramOption {
             name: OptionName::Edits,
             value: Some(Value::Number),
-            excludes: None,
+            beside: Beside::Any,
         },
         "the most edits of its journal: 0 to 4294967296, by default 1048576",
     ),
@@ -168,7 +169,7 @@ error reports the first line of each kind",
         ProgramOption {
             name: OptionName::Domain,
             value: Some(Value::Sid),
-            excludes: None,
+            beside: Beside::Any,
         },
         "\
 the aliases of a domain's accounts and groups, as DA, are SIDs of the domain with this SID:
@@ -179,7 +180,7 @@ S-1-5-21 and three numbers, as S-1-5-21-1-2-3",
         ProgramOption {
             name: OptionName::Aliases,
             value: None,
-            excludes: None,
+            beside: Beside::Any,
         },
         "\
 the aliases of newer versions of Windows are aliases too: AA, ES, HA, MS, RA, RM and UD, and of a
@@ -190,7 +191,7 @@ domain AP, CN, KA and RO",
         ProgramOption {
             name: OptionName::Mapping,
             value: Some(Value::Kind),
-            excludes: None,
+            beside: Beside::Any,
         },
         "\
 the generic mapping, that of a 'file' (the default), of a registry 'key', of a 'service' or of a
@@ -201,18 +202,39 @@ the generic mapping, that of a 'file' (the default), of a registry 'key', of a '
         ProgramOption {
             name: OptionName::Logon,
             value: Some(Value::Logon),
-            excludes: None,
+            beside: Beside::Any,
         },
         "\
 adds the groups that Windows gives to a user who logs on so, 'interactive', 'network', 'batch',
 'service' or 'anonymous', as Everyone, Authenticated Users and NETWORK",
     ),
     (
+        "--type",
+        ProgramOption {
+            name: OptionName::Type,
+            value: Some(Value::Guid),
+            beside: Beside::With(OptionName::Whole, OptionName::Below),
+        },
+        "\
+the object type that is asked about, as bf9679c0-0de6-11d0-a285-00aa003049e2, up to five times: the
+class, the property set, the property or the extended right; without it the whole object is asked
+about",
+    ),
+    (
+        "--self",
+        ProgramOption {
+            name: OptionName::PrincipalSelf,
+            value: Some(Value::Sid),
+            beside: Beside::With(OptionName::Whole, OptionName::Below),
+        },
+        "the SID of the object itself, for which PRINCIPAL SELF (PS) stands in its entries",
+    ),
+    (
         "--json",
         ProgramOption {
             name: OptionName::Json,
             value: None,
-            excludes: None,
+            beside: Beside::Any,
         },
         "\
 prints each line of the answer as an object of JSON in a line, with what kind of line it is and its
@@ -223,7 +245,7 @@ words by their names",
         ProgramOption {
             name: OptionName::Color,
             value: None,
-            excludes: None,
+            beside: Beside::Any,
         },
         "\
 the word of each verdict is green or red, as it is in any case where standard output is a terminal
@@ -234,7 +256,7 @@ and NO_COLOR isn't set; objects of JSON have no colour",
         ProgramOption {
             name: OptionName::Caret,
             value: None,
-            excludes: None,
+            beside: Beside::Any,
         },
         "\
 a message that names a byte of an argument shows the text, with a caret under that byte, as it does
@@ -245,7 +267,7 @@ in any case where standard error is a terminal",
         ProgramOption {
             name: OptionName::StrictStatus,
             value: None,
-            excludes: None,
+            beside: Beside::Any,
         },
         "\
 the status of a fault is 4 instead of 1, so that 1 says no more than denied, different or found; of

@@ -125,10 +125,14 @@ pub enum OptionName {
     StrictStatus,
     /// `--logon`.
     Logon,
+    /// `--type`.
+    Type,
+    /// `--self`.
+    PrincipalSelf,
 }
 
 /// How many options there are.
-pub const OPTION_COUNT: usize = 24;
+pub const OPTION_COUNT: usize = 26;
 
 /// A command, and what follows it.
 #[derive(Clone, Copy)]
@@ -205,8 +209,18 @@ pub struct ProgramOption {
     pub name: OptionName,
     /// What its value is, which is the next argument, if it has one.
     pub value: Option<Value>,
-    /// The option beside which it can't be given.
-    pub excludes: Option<OptionName>,
+    pub beside: Beside,
+}
+
+/// Beside which options an option can be given.
+#[derive(Clone, Copy)]
+pub enum Beside {
+    /// Beside any.
+    Any,
+    /// Not beside this one.
+    Without(OptionName),
+    /// Only beside the first, and not beside the second.
+    With(OptionName, OptionName),
 }
 
 /// The value of an option.
@@ -222,6 +236,8 @@ pub enum Value {
     Logon,
     /// `N`: a number in decimal digits.
     Number,
+    /// `GUID`: an object type ([MS-DTYP] 2.3.4.3).
+    Guid,
 }
 
 /// The command that the text names.

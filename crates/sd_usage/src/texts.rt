@@ -18,7 +18,13 @@ SID=deny      a deny-only group, which counts for deny entries alone
 SID=off       a disabled group, which counts for nothing
 SID=restrict  a restricting SID, not a group: access is checked a second time, for these alone
 +security     SeSecurityPrivilege
-+take         SeTakeOwnershipPrivilege";
++take         SeTakeOwnershipPrivilege
+Under '--whole', of 'verdict' and 'why', also:
+SID=device    a group of the device from which access is asked for
+level=LEVEL   the integrity level, by default medium: untrusted, low, medium, mediumplus, high, system
+              or a number; a group S-1-16-N is one too, and of several the lowest counts
+NAME=VALUE    a claim, of the user as @User.NAME=VALUE and of the device as @Device.NAME=VALUE, with
+              values as conditions have them: 3, \"VP\", #0a0b, SID(BA) or {1, 2}";
 
 const GROUP: &str = "\
 What every token in question has:

@@ -113,5 +113,6 @@ fn value_name(value: Value) -> &'static str {
         Value::Kind => "KIND",
         Value::Logon => "LOGON",
         Value::Number => "N",
+        Value::Guid => "GUID",
     }
 }

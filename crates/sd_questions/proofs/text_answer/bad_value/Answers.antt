@@ -18,3 +18,10 @@ returns-in_ok-reason-in-NoConcern c = rw (c.in-NoConcern.is) (IfOk-weaker c.bad_
   c.in_ok-reason-in-NoConcern.ensures,
   rw c.as_str-in-NoConcern.ensures.value at is,
 )) c.bad_concern.ensures)
+
+pub returns-in_ok-reason-in-NoSelf : goal.returns-in_ok-reason-in-NoSelf
+returns-in_ok-reason-in-NoSelf c = rw (c.in-NoSelf.is) (IfOk-weaker c.bad_option-in-NoSelf.result _ _ (λ answer is. (
+  string_bytes c.in_ok-reason-in-NoSelf.reason,
+  c.in_ok-reason-in-NoSelf.ensures,
+  subst (λ reason. IsBadOption (codes "self") reason (answer_of answer)) c.as_str-in-NoSelf.ensures.value is,
+)) c.bad_option-in-NoSelf.ensures)
