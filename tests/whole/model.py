@@ -10,8 +10,6 @@ import conditions
 WIRE = {"Short": 1, "Revision": 2, "NotSelfRelative": 3, "BadOffset": 5, "BadSid": 6, "AclRevision": 7, "AclSize": 8,
         "EntrySize": 9}
 NO_TEXT = {"ResourceManager": 1, "Control": 2, "Keywords": 3, "Opaque": 4, "Kind": 5, "Data": 6}
-#: What an entry of a DACL is that no question takes, by its AceType; of other types SystemAce.
-ODD = {0x05: "ObjectAce", 0x06: "ObjectAce", 0x09: "ConditionalAce", 0x0A: "ConditionalAce", 0x0B: "ConditionalAce"}
 #: A list whose control bit is set, and whose offset is 0.
 NULL = "null"
 HEADER_BYTES, LIST_BYTES, ENTRY_BYTES, GUID_BYTES = 20, 8, 4, 16
@@ -294,20 +292,6 @@ def text(descriptor: Descriptor) -> str:
             raise Fault("notext", "Keywords", f" (the {which[0][0]}ACL)")
     sids = "".join(head + sid_name(sid) for head, sid in (("O:", d.owner), ("G:", d.group)) if sid)
     return sids + list_text(DACL, d.control, d.dacl) + list_text(SACL, d.control, d.sacl)
-
-
-def plain_text(descriptor: Descriptor) -> str:
-    """The text of what a question takes of a descriptor that has a text: no SACL, and no CR. Or its fault, the first entry
-    of the DACL that is no allow and no deny."""
-    dacl = descriptor.dacl
-    entries = dacl.entries if isinstance(dacl, AccessList) else ()
-    for number, entry in enumerate(entries, 1):
-        if entry.kind > 1:
-            return f"fault entry {number} {ODD.get(entry.kind, 'SystemAce')}"
-    if isinstance(dacl, AccessList):
-        dacl = dacl._replace(entries=tuple(entry._replace(flags=entry.flags & ~CRITICAL) for entry in entries))
-    words = sum(bit for bit, _ in SACL[2])
-    return text(descriptor._replace(sacl=None, dacl=dacl, control=descriptor.control & ~words))
 
 
 def without_bits(data: bytes) -> bytes:

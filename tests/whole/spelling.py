@@ -3,7 +3,7 @@ numbers, SIDs in full, and a condition or a claim with its SIDs in full."""
 
 import re
 import uuid
-from typing import Any, Dict, List, Optional, Tuple
+from typing import Any, Callable, Dict, List, Optional, Tuple
 
 from model import ALIASES, DACL, FLAGS, LETTERS, NULL, RIGHTS, SACL, AccessList, Descriptor, Entry, implied
 
@@ -22,6 +22,8 @@ IN_DOMAIN = dict(LA=500, LG=501, DA=512, DU=513, DG=514, DC=515, DD=516, CA=517,
 SECTION = re.compile(r"[OGDS]:")
 KEYWORD = re.compile(r"NO_ACCESS_CONTROL|P|AR|AI")
 QUOTED = re.compile(r'"[^"]*"')
+#: The bytes after an entry's SID, of its letters and its last field.
+DataOf = Callable[[str, Optional[str]], bytes]
 
 
 class Unreadable(Exception):
@@ -139,24 +141,31 @@ def types_of(first: str, second: str) -> Tuple[Optional[bytes], Optional[bytes]]
     return guid(first), guid(second)
 
 
-def list_of(found: Any, domain: str) -> Any:
-    """The list of a section's entries, which have neither conditions nor claims."""
+def no_data(kind: str, rest: Optional[str]) -> bytes:
+    """What follows the SID of an entry that has neither a condition nor a claim."""
+    if rest is not None:
+        raise Unreadable(f"a condition or a claim: {rest}")
+    return b""
+
+
+def list_of(found: Any, domain: str, data_of: DataOf) -> Any:
+    """The list of a section's entries."""
     entries_found = []
     for kind, names, mask, first, second, trustee, rest in found:
-        if rest is not None:
-            raise Unreadable(f"a condition or a claim: {rest}")
         flags = sum(bit for bit, name in FLAGS if name in names)
         number = next(number for number, letters in LETTERS.items() if letters == kind)
-        entries_found.append(Entry(number, flags, mask, types_of(first, second), full(trustee, domain), b""))
+        entries_found.append(Entry(number, flags, mask, types_of(first, second), full(trustee, domain),
+                                   data_of(kind, rest)))
     return implied(AccessList(2, tuple(entries_found)))
 
 
-def descriptor_of(text: str, domain: str) -> Descriptor:
-    """The descriptor of a text that has neither conditions nor claims."""
+def descriptor_of(text: str, domain: str, data_of: DataOf = no_data) -> Descriptor:
+    """The descriptor of a text; without `data_of` it has neither conditions nor claims."""
     sections, control, lists = normal(text), 0, []
     for which in (SACL, DACL):
         words, found = sections.get(which[0][0], (frozenset(), None))
         control |= sum(bit for bit, word in which[2] if word in words)
-        lists.append(None if found is None else NULL if "NO_ACCESS_CONTROL" in words else list_of(found, domain))
+        lists.append(None if found is None else NULL if "NO_ACCESS_CONTROL" in words
+                     else list_of(found, domain, data_of))
     owner, group = (full(sections[letter], domain) if letter in sections else None for letter in "OG")
     return Descriptor(0, control, owner, group, lists[0], lists[1])
