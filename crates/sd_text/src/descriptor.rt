@@ -3,6 +3,7 @@
 ghost use Rattle.std.specs.Prelude.{◌≡◌, Ok, IfOk, IfErr, IfSome, IsErrOf};
 ghost use Rattle.sd_acl.specs.Dacl.{IsAbsent};
 ghost use Rattle.sd_acl.specs.Descriptor.{DescriptorValue, descriptor_of};
+ghost use Rattle.sd_sid.specs.Sid.{IsSid};
 ghost use Rattle.sd_text.specs.Grammar.{Spells, SpellsOne};
 ghost use Rattle.sd_text.specs.Fault.{StandsIn};
 ghost use Rattle.sd_text.specs.Sddl.{sid_section, words, no_words, with_word, dacl_section, has_entry, no_sacl, parts};
@@ -80,7 +81,8 @@ pub fn read_sddl_in(alloc: Global, known: Aliases, text: &str) -> Result<Descrip
 }
 
 impl DaclWords {
-    fn none() -> DaclWords
+    /// No keyword.
+    pub fn none() -> DaclWords
         ensures { result ≡ no_words }
     {
         DaclWords {
@@ -146,11 +148,14 @@ impl Cursor<'_> {
     /// A section of one SID, if its head is here.
     #[tactic(auto, unfolding(crate::specs::Sddl::sid_section))]
     #[inline(always)]
-    fn sid_section(&mut self, known: Aliases, head: &[u8]) -> Result<Option<Sid>, TextFault>
-        ensures { Gives (λ sid. sid) result self.new.rest.now (find (sid_section known head.now) self.old.rest.now) }
+    pub fn sid_section(&mut self, known: Aliases, head: &[u8]) -> Result<Option<Sid>, TextFault>
+        ensures found { Gives (λ sid. sid) result self.new.rest.now
+            (find (sid_section known head.now) self.old.rest.now) }
+        ensures whole { IfOk result (λ sid. IfSome sid IsSid) }
     {
         if self.eat(head) {
-            Ok(Some(self.sid(known)?))
+            let sid = self.sid(known)?;
+            Ok(Some(sid))
         } else {
             Ok(None)
         }

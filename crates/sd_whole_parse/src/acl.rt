@@ -20,14 +20,6 @@ pub(crate) struct AclPart {
     pub(crate) words: DaclWords,
 }
 
-/// No keyword.
-const NO_WORDS: DaclWords = DaclWords {
-    protected: false,
-    auto_req: false,
-    auto_inherited: false,
-    no_access_control: false,
-};
-
 /// The section with this head, if it is here.
 #[tactic(auto, unfolding(crate::specs::Acl::acl_section, crate::specs::Acl::acl_behind))]
 pub(crate) fn read_section(
@@ -45,7 +37,7 @@ pub(crate) fn read_section(
     if !cursor.eat(head) {
         return Ok(AclPart {
             acl: WholeAcl::Absent,
-            words: NO_WORDS,
+            words: DaclWords::none(),
         });
     }
     let words = cursor.words();

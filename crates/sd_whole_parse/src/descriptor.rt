@@ -1,17 +1,13 @@
 //! Whole descriptors as text: [MS-DTYP] 2.5.1.1, sddl.
 
-ghost use Rattle.std.specs.Prelude.{◌≡◌, ◌≤◌, [], IfOk, IfSome, OnOk, IsErrOf, IsTrue};
-ghost use Rattle.sd_sid.specs.Sid.{IsSid};
-ghost use Rattle.sd_text.specs.Finding.{Gives, find};
-ghost use Rattle.sd_text.specs.Sddl.{sid_section};
+ghost use Rattle.std.specs.Prelude.{◌≡◌, ◌≤◌, [], IfOk, OnOk, IsErrOf, IsTrue};
 ghost use Rattle.sd_whole.specs.Whole.{IsWholeDescriptor};
 ghost use Rattle.sd_whole_parse.specs.Descriptor.{dacl_bits, sacl_bits, whole_found};
 ghost use Rattle.sd_whole_parse.specs.Finding.{GivesOrMemory, Reads, has_opening};
 
 use crate::acl::read_section;
 use crate::stop::Stop;
-use sd_sid::Sid;
-use sd_text::{Aliases, Cursor, DaclWords, TextError, TextFault};
+use sd_text::{Aliases, Cursor, DaclWords, TextError};
 use sd_whole::WholeDescriptor;
 use sd_wire::bits_when;
 use std::alloc::Global;
@@ -52,8 +48,8 @@ fn read_sections(
     ensures ended { OnOk result (cursor.new.rest.now ≡ []) }
     ensures memory { IsErrOf result Stop.Memory → IsTrue (has_opening cursor.old.rest.now) }
 {
-    let owner = read_trustee(cursor, known, b"O:")?;
-    let group = read_trustee(cursor, known, b"G:")?;
+    let owner = cursor.sid_section(known, b"O:")?;
+    let group = cursor.sid_section(known, b"G:")?;
     let dacl = read_section(alloc, cursor, known, b"D:")?;
     let sacl = read_section(alloc, cursor, known, b"S:")?;
     cursor.end()?;
@@ -65,25 +61,6 @@ fn read_sections(
         sacl: sacl.acl,
         dacl: dacl.acl,
     })
-}
-
-/// A section of one SID, if its head is here.
-#[tactic(auto, unfolding(sd_text::specs::Sddl::sid_section))]
-fn read_trustee(
-    cursor: &mut Cursor<'_>,
-    known: Aliases,
-    head: &[u8],
-) -> Result<Option<Sid>, TextFault>
-    ensures found { Gives (λ sid. sid) result cursor.new.rest.now
-        (find (sid_section known head.now) cursor.old.rest.now) }
-    ensures whole { IfOk result (λ sid. IfSome sid IsSid) }
-{
-    if cursor.eat(head) {
-        let sid = cursor.sid(known)?;
-        Ok(Some(sid))
-    } else {
-        Ok(None)
-    }
 }
 
 /// PD, DC and DI, the control bits of a DACL's keywords ([MS-DTYP] 2.4.6).

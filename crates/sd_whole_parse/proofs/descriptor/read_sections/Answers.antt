@@ -10,16 +10,16 @@ pub returns-in_err-dacl-clause-memory : goal.returns-in_err-dacl-clause-memory
 returns-in_err-dacl-clause-memory c is =
     let p = err_from_is_err_and c.from_residual-in_err-dacl.result c.from_residual-in_err-dacl.ensures.1 in
     let gone : IsErrOf c.read_section.result Memory = cc (p.1, p.2, is, c.in_err-dacl.was) in
-    found_kept (sid_section c.args.known (codes "O:")) c.args.cursor.now.rest.now c.in_ok-owner.owner c.read_trustee.new.cursor.rest.now c.in_ok-owner.ensures.found
-    (found_kept (sid_section c.args.known (codes "G:")) c.read_trustee.new.cursor.rest.now c.in_ok-group.group c.read_trustee-2.new.cursor.rest.now c.in_ok-group.ensures.found
+    found_kept (sid_section c.args.known (codes "O:")) c.args.cursor.now.rest.now c.in_ok-owner.owner c.sid_section.new.self.rest.now c.in_ok-owner.ensures.found
+    (found_kept (sid_section c.args.known (codes "G:")) c.sid_section.new.self.rest.now c.in_ok-group.group c.sid_section-2.new.self.rest.now c.in_ok-group.ensures.found
     (c.read_section.ensures.memory gone))
 
 pub returns-in_err-sacl-clause-memory : goal.returns-in_err-sacl-clause-memory
 returns-in_err-sacl-clause-memory c is =
     let p = err_from_is_err_and c.from_residual-in_err-sacl.result c.from_residual-in_err-sacl.ensures.1 in
     let gone : IsErrOf c.read_section-2.result Memory = cc (p.1, p.2, is, c.in_err-sacl.was) in
-    found_kept (sid_section c.args.known (codes "O:")) c.args.cursor.now.rest.now c.in_ok-owner.owner c.read_trustee.new.cursor.rest.now c.in_ok-owner.ensures.found
-    (found_kept (sid_section c.args.known (codes "G:")) c.read_trustee.new.cursor.rest.now c.in_ok-group.group c.read_trustee-2.new.cursor.rest.now c.in_ok-group.ensures.found
+    found_kept (sid_section c.args.known (codes "O:")) c.args.cursor.now.rest.now c.in_ok-owner.owner c.sid_section.new.self.rest.now c.in_ok-owner.ensures.found
+    (found_kept (sid_section c.args.known (codes "G:")) c.sid_section.new.self.rest.now c.in_ok-group.group c.sid_section-2.new.self.rest.now c.in_ok-group.ensures.found
     (c.in_ok-dacl.ensures.kept (c.read_section-2.ensures.memory gone)))
 
 pub returns-clause-whole : goal.returns-clause-whole
