@@ -132,7 +132,7 @@ pub enum OptionName {
 }
 
 /// How many options there are.
-pub const OPTION_COUNT: usize = 26;
+pub const OPTION_COUNT: usize = 25;
 
 /// A command, and what follows it.
 #[derive(Clone, Copy)]
