@@ -1,6 +1,6 @@
 -- The answer to a question about an object with a whole descriptor ([MS-DTYP] 2.5.3): its DACL as it is for the
 -- question, with the claims of its SACL, and then the check, without what the label of its SACL takes.
-use Rattle.std.specs.Prelude.{ℕ, Bool, true, false, ◌&&◌, List, [], Option, None, Result, Ok, ◌⊎◌}
+use Rattle.std.specs.Prelude.{ℕ, Bool, true, false, ◌&&◌, not, List, [], Option, None, Result, Ok, ◌⊎◌}
 use Rattle.std.specs.Prelude.{if◌then◌else◌}
 use Rattle.std.specs.List.{filter_map}
 use Rattle.sd_acl.specs.Descriptor.{DescriptorValue, descriptor_of}
@@ -14,11 +14,12 @@ use Rattle.sd_condition.specs.Reading.{condition_read}
 use Rattle.sd_evaluation.specs.Facts.{FactsValue}
 use Rattle.sd_explain.specs.Reasons.{reasons_of}
 use Rattle.sd_explain.specs.declared.reason.Reason.{Reason}
-use Rattle.sd_label.specs.Label.{is_effective, label_of_object, taken_by}
+use Rattle.sd_label.specs.Label.{label_of_object, taken_by}
 use Rattle.sd_label.specs.Under.{reasons_under, verdict_under}
 use Rattle.sd_specialize.specs.Context.{ContextValue, truth_of}
 use Rattle.sd_specialize.specs.Specialize.{HasDaclEntries, specialized, ◌>>=◌}
 use Rattle.sd_specialize.specs.declared.fault.SpecializeFault.{SpecializeFault}
+use Rattle.sd_whole.specs.Entry.{for_children_alone}
 use Rattle.sd_whole.specs.declared.ace.WholeAce.{WholeAce}
 use Rattle.sd_whole.specs.declared.ace.WholeAce.TheVariants.{Plain, Typed, Opaque}
 use Rattle.sd_whole.specs.declared.descriptor.WholeDescriptor.{WholeDescriptor}
@@ -37,7 +38,7 @@ is_attribute _ = false
 -- the claim of an effective resource attribute entry; data that is no claim counts as none
 abbrev pub claim_in : WholeAce → Option ClaimValue
 claim_in (Plain e) = None
-claim_in (Typed e) = if is_attribute e.kind && is_effective e.flags.0 then claim_read e.trailing else None
+claim_in (Typed e) = if is_attribute e.kind && not (for_children_alone e.flags.0) then claim_read e.trailing else None
 claim_in (Opaque e) = None
 
 -- the claims of a SACL, in order

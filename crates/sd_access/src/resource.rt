@@ -6,8 +6,7 @@ ghost use Rattle.sd_access.specs.Access.{claim_in, is_attribute, resource_claims
 ghost use Rattle.sd_specialize.specs.Specialize.{HasDaclEntries};
 
 use sd_claim::{Claim, read_claim};
-use sd_label::is_effective;
-use sd_whole::{WholeAce, WholeAcl, WholeKind};
+use sd_whole::{WholeAce, WholeAcl, WholeKind, for_children_alone};
 use std::alloc::{AllocError, Global};
 
 /// The claims of the SACL's effective resource attribute entries, in order ([MS-DTYP] 2.4.4.15); data that is no claim
@@ -43,7 +42,7 @@ fn claim_in(alloc: Global, entry: &WholeAce) -> Result<Option<Claim>, AllocError
     let WholeAce::Typed(ace) = entry else {
         return Ok(None);
     };
-    if !is_attribute(ace.kind) || !is_effective(ace.flags) {
+    if !is_attribute(ace.kind) || for_children_alone(ace.flags) {
         return Ok(None);
     }
     read_claim(alloc, ace.trailing.as_slice())

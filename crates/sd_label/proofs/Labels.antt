@@ -1,13 +1,10 @@
 -- Masks that are joined step by step.
-use Rattle.std.proofs.Common.{◌≡◌, ℕ, ◌<◌, Bool, true, ◌&&◌, ◌||◌, ◌==◌, not, cond, bit_and, arith, ap, refl, ◌∙◌}
+use Rattle.std.proofs.Common.{◌≡◌, ℕ, ◌<◌, Bool, true, ◌&&◌, ◌||◌, not, cond, arith, ap, refl, ◌∙◌}
 use Rattle.sd_check.proofs.Cited.{agree_below_at}
-use Rattle.sd_sid.proofs.Masks.{flag_test, holds_place, holds_when, mask_of-alike}
+use Rattle.sd_sid.proofs.Masks.{holds_place, holds_when, mask_of-alike}
 use Rattle.sd_sid.specs.Mapping.{MappingValue, mapped}
 use Rattle.sd_sid.specs.Mask.{holds, mask_of}
-use Rattle.sd_label.specs.Label.{is_effective, is_left}
-
-pub effective_is : (flags : ℕ) (inherit_only : Bool) → inherit_only ≡ (bit_and flags 8 == 8) → not inherit_only ≡ is_effective flags
-effective_is flags inherit_only is = ap not (is ∙ flag_test flags 3)
+use Rattle.sd_label.specs.Label.{is_left}
 
 pub joined_by_steps : (one two three half all : ℕ) → half ≡ mask_of (λ b. holds one b || holds two b) 32
     → all ≡ mask_of (λ b. holds half b || holds three b) 32

@@ -6,6 +6,7 @@ use Rattle.sd_sid.specs.Mapping.{MappingValue, mapped}
 use Rattle.sd_sid.specs.Mask.{holds, mask_of}
 use Rattle.sd_sid.specs.Sid.{SidValue}
 use Rattle.sd_acl.specs.declared.descriptor.DaclOf.TheVariants.{Absent, Null, List as Entries}
+use Rattle.sd_whole.specs.Entry.{for_children_alone}
 use Rattle.sd_whole.specs.declared.ace.WholeAce.{WholeAce}
 use Rattle.sd_whole.specs.declared.ace.WholeAce.TheVariants.{Plain, Typed, Opaque}
 use Rattle.sd_whole.specs.declared.kind.WholeKind.{WholeKind}
@@ -26,15 +27,11 @@ abbrev pub is_label : WholeKind → Bool
 is_label MandatoryLabel = true
 is_label _ = false
 
--- an effective entry isn't for children alone (2.4.4.1, INHERIT_ONLY_ACE)
-abbrev pub is_effective : ℕ → Bool
-is_effective flags = not (holds flags 3)
-
 -- an effective label: its level, and its mask, which says what it takes (2.4.4.13)
 abbrev pub label_of : WholeAce → Option Label
 label_of (Plain e) = None
 label_of (Typed e) =
-    if is_label e.kind && is_effective e.flags.0
+    if is_label e.kind && not (for_children_alone e.flags.0)
     then Some (record { level = level_of e.sid; policy = e.mask }) else None
 label_of (Opaque e) = None
 

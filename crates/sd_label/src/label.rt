@@ -2,13 +2,11 @@
 
 ghost use Rattle.std.specs.Prelude.{◌≡◌, ◌||◌, not};
 ghost use Rattle.sd_sid.specs.Mask.{holds, mask_of};
-ghost use Rattle.sd_label.specs.Label.{first_label, is_effective, is_label, is_left, label_of, label_of_object};
+ghost use Rattle.sd_label.specs.Label.{first_label, is_label, is_left, label_of, label_of_object};
 ghost use Rattle.sd_label.specs.Label.{level_of, no_label, taken_by};
 
-use bitflags::Flags;
-use sd_acl::AceFlags;
 use sd_sid::{GenericMapping, Mask, Sid};
-use sd_whole::{WholeAce, WholeAcl, WholeKind};
+use sd_whole::{WholeAce, WholeAcl, WholeKind, for_children_alone};
 
 /// A level above every other, which a SID has that is no integrity SID.
 const ABOVE_ALL: u32 = 0xFFFF_FFFF;
@@ -106,7 +104,7 @@ fn label_of(entry: &WholeAce) -> Option<Label>
     let WholeAce::Typed(ace) = entry else {
         return None;
     };
-    if !is_label(ace.kind) || !is_effective(ace.flags) {
+    if !is_label(ace.kind) || for_children_alone(ace.flags) {
         return None;
     }
     Some(Label {
@@ -119,13 +117,6 @@ fn is_label(kind: WholeKind) -> bool
     ensures { result ≡ is_label kind }
 {
     matches!(kind, WholeKind::MandatoryLabel)
-}
-
-/// Whether an entry with these flags is effective: it isn't for children alone ([MS-DTYP] 2.4.4.1, INHERIT_ONLY_ACE).
-pub fn is_effective(flags: AceFlags) -> bool
-    ensures { result ≡ is_effective flags.0 }
-{
-    !flags.contains(AceFlags::IO)
 }
 
 /// The level of an integrity SID, S-1-16-LEVEL ([MS-DTYP] 2.4.2.4); any other SID is above every level.

@@ -18,5 +18,5 @@ mod laws;
 
 pub use check::check_under;
 pub use explanation::explain_under;
-pub use label::{Label, is_effective};
+pub use label::Label;
 pub use laws::{label_only_takes_away, nothing_taken_changes_nothing};

@@ -9,6 +9,7 @@ use Rattle.sd_acl.specs.declared.ace.AceKind.{AceKind}
 use Rattle.sd_acl.specs.declared.ace.AceKind.TheVariants.{Allow}
 use Rattle.sd_acl.specs.declared.descriptor.DaclOf.TheVariants.{Absent, Null, List as Entries}
 use Rattle.sd_sid.specs.Sid.{SidValue}
+use Rattle.sd_whole.specs.Entry.{for_children_alone}
 use Rattle.sd_whole.specs.declared.ace.TypedAce.{TypedAce}
 use Rattle.sd_whole.specs.declared.ace.WholeAce.{WholeAce}
 use Rattle.sd_whole.specs.declared.ace.WholeAce.TheVariants.{Plain, Typed, Opaque}
@@ -18,7 +19,7 @@ use Rattle.sd_whole.specs.declared.kind.WholeKind.TheVariants as kinds
 use Rattle.sd_whole.specs.Kind.{plain_kind}
 use Rattle.sd_whole.specs.Reading.{WholeAcl}
 use Rattle.sd_specialize.specs.Context.{ContextValue}
-use Rattle.sd_specialize.specs.Entry.{decides, effective_for, entry_for, for_children_alone, plain_for, typed_for, without_part}
+use Rattle.sd_specialize.specs.Entry.{decides, effective_for, entry_for, plain_for, typed_for, without_part}
 use Rattle.sd_specialize.specs.Everyone.{conditional_place, has_condition, is_conditional}
 use Rattle.sd_specialize.specs.Specialize.{entries_for, specialized, specialized_acl}
 

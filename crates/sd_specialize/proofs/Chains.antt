@@ -10,6 +10,7 @@ use Rattle.sd_check.specs.Check.{decides, first, is_allowed_by, is_limit, limits
 use Rattle.sd_check.specs.declared.grounds.Pass.TheVariants.{First}
 use Rattle.sd_sid.specs.Mapping.{MappingValue}
 use Rattle.sd_sid.specs.Sid.{SidValue}
+use Rattle.sd_whole.specs.Entry.{for_children_alone}
 use Rattle.sd_whole.specs.Kind.{plain_kind}
 use Rattle.sd_whole.specs.declared.ace.TypedAce.{TypedAce}
 use Rattle.sd_whole.specs.declared.ace.WholeAce.{WholeAce}
@@ -20,7 +21,7 @@ use Rattle.sd_whole.specs.declared.types.Guid.{Guid}
 use Rattle.sd_specialize.proofs.Grants.{decides_nothing, more_granted}
 use Rattle.sd_specialize.proofs.Lists.{Is, found, listed}
 use Rattle.sd_specialize.specs.Context.{ContextValue}
-use Rattle.sd_specialize.specs.Entry.{allows_type, applies_as, applies_in, denies_type, effective_for, entry_for, for_children_alone, passes_agree, plain_for, typed_for, without_part}
+use Rattle.sd_specialize.specs.Entry.{allows_type, applies_as, applies_in, denies_type, effective_for, entry_for, passes_agree, plain_for, typed_for, without_part}
 use Rattle.sd_specialize.specs.Entry as whole
 use Rattle.sd_specialize.specs.Laws.{WholeIsEveryPart, asking}
 use Rattle.sd_specialize.specs.Specialize.{entries_for}

@@ -6,7 +6,6 @@ use Rattle.std.specs.Prelude.{Result, Ok, Err, if◌then◌else◌}
 use Rattle.std.specs.Bool.{beq}
 use Rattle.std.specs.List.{list_any}
 use Rattle.std.specs.Str.{bytes_eq}
-use Rattle.sd_sid.specs.Mask.{holds}
 use Rattle.sd_sid.specs.Sid.{SidValue, same_sid}
 use Rattle.sd_acl.specs.declared.ace.Ace.{Ace}
 use Rattle.sd_acl.specs.declared.ace.AceKind.{AceKind}
@@ -14,6 +13,7 @@ use Rattle.sd_acl.specs.declared.ace.AceKind.TheVariants as plain
 use Rattle.sd_check.specs.declared.grounds.Pass.{Pass}
 use Rattle.sd_check.specs.declared.grounds.Pass.TheVariants.{First, Second}
 use Rattle.sd_evaluation.specs.Truth.{applies}
+use Rattle.sd_whole.specs.Entry.{for_children_alone}
 use Rattle.sd_whole.specs.declared.ace.TypedAce.{TypedAce}
 use Rattle.sd_whole.specs.declared.ace.WholeAce.{WholeAce}
 use Rattle.sd_whole.specs.declared.ace.WholeAce.TheVariants.{Plain, Typed, Opaque}
@@ -120,10 +120,6 @@ without_part c flags sid = plain_for c plain.Allow flags 0 sid
 -- NULL SID, nobody's, S-1-0-0 (2.4.2.4)
 abbrev pub nobody : SidValue
 nobody = record { authority = 0; subs = 0 ∷ [] }
-
--- inherit-only: the entry is for children alone (2.4.4.1, INHERIT_ONLY_ACE)
-abbrev pub for_children_alone : ℕ → Bool
-for_children_alone flags = holds flags 3
 
 -- an effective allow or deny, whose part is its mask where it applies
 abbrev pub deciding_for : ContextValue → AceKind → TypedAce → Result Ace RefusedKind

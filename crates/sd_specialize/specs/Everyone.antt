@@ -13,7 +13,7 @@ use Rattle.sd_whole.specs.declared.kind.WholeKind.TheVariants.{CallbackObjectDen
 use Rattle.sd_whole.specs.declared.plain.OddKind.TheVariants.{ConditionalAce}
 use Rattle.sd_whole.specs.Reading.{WholeAcl}
 use Rattle.sd_specialize.specs.Context.{ContextValue}
-use Rattle.sd_specialize.specs.Entry.{for_children_alone}
+use Rattle.sd_whole.specs.Entry.{for_children_alone}
 use Rattle.sd_specialize.specs.Specialize.{specialized}
 use Rattle.sd_specialize.specs.declared.fault.RefusedKind.TheVariants.{Odd}
 use Rattle.sd_specialize.specs.declared.fault.SpecializeFault.{SpecializeFault}

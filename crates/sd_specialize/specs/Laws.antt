@@ -14,6 +14,7 @@ use Rattle.sd_check.specs.Check.{is_granted, is_limit, verdict}
 use Rattle.sd_check.specs.Token.{TokenValue}
 use Rattle.sd_check.specs.declared.grounds.Pass.{Pass}
 use Rattle.sd_evaluation.specs.declared.truth.Truth.TheVariants.{Unknown}
+use Rattle.sd_whole.specs.Entry.{for_children_alone}
 use Rattle.sd_whole.specs.declared.ace.TypedAce.{TypedAce}
 use Rattle.sd_whole.specs.declared.ace.WholeAce.{WholeAce}
 use Rattle.sd_whole.specs.declared.ace.WholeAce.TheVariants.{Plain, Typed, Opaque}
@@ -24,7 +25,7 @@ use Rattle.sd_whole.specs.Plain.{plain_part}
 use Rattle.sd_whole.specs.Reading.{WholeAcl}
 use Rattle.sd_whole.specs.Whole.{IsWholeDescriptor}
 use Rattle.sd_specialize.specs.Context.{ContextValue}
-use Rattle.sd_specialize.specs.Entry.{decides, entry_for, for_children_alone, plain_for, principal_self, without_part}
+use Rattle.sd_specialize.specs.Entry.{decides, entry_for, plain_for, principal_self, without_part}
 use Rattle.sd_specialize.specs.Specialize.{specialized, specialized_list}
 
 -- the entry is for PRINCIPAL SELF

@@ -3,16 +3,15 @@
 ghost use Rattle.std.specs.Prelude.{◌≡◌, false, IfOk};
 ghost use Rattle.sd_specialize.specs.Context.{context_of};
 ghost use Rattle.sd_specialize.specs.Entry.{GivesEntry, applies_in, decides, deciding_for, effective_for, entry_for};
-ghost use Rattle.sd_specialize.specs.Entry.{for_children_alone, nobody, other_for, passes_agree, typed_for};
+ghost use Rattle.sd_specialize.specs.Entry.{nobody, other_for, passes_agree, typed_for};
 
 use crate::condition::condition_applies;
 use crate::context::Context;
 use crate::fault::{EntryError, RefusedKind};
-use bitflags::Flags;
-use sd_acl::{Ace, AceFlags, AceKind};
+use sd_acl::{Ace, AceKind};
 use sd_check::Pass;
 use sd_sid::Sid;
-use sd_whole::{OddKind, OpaqueAce, TypedAce, WholeAce, WholeKind};
+use sd_whole::{OddKind, OpaqueAce, TypedAce, WholeAce, WholeKind, for_children_alone};
 use std::alloc::{AllocError, Global};
 
 /// The plain allow or deny that the entry is for the question ([MS-DTYP] 2.5.3.2), or why it is refused.
@@ -139,13 +138,6 @@ fn decides(kind: WholeKind) -> Option<AceKind>
         | WholeKind::CallbackObjectDeny => Some(AceKind::Deny),
         _ => None,
     }
-}
-
-/// Whether the entry is inherit-only: it is for children alone ([MS-DTYP] 2.4.4.1, INHERIT_ONLY_ACE).
-pub(crate) fn for_children_alone(flags: AceFlags) -> bool
-    ensures { result ≡ for_children_alone flags.0 }
-{
-    flags.contains(AceFlags::IO)
 }
 
 /// NULL SID, nobody's, S-1-0-0 ([MS-DTYP] 2.4.2.4).

@@ -9,13 +9,13 @@ ghost use Rattle.sd_specialize.specs.Specialize.{Gives, HasDaclEntries, speciali
 
 use crate::context::Context;
 use crate::descriptor::specialized;
-use crate::entry::{for_children_alone, nobody};
+use crate::entry::nobody;
 use crate::fault::{RefusedEntry, RefusedKind, SpecializeError, SpecializeFault};
 use sd_acl::Descriptor;
 use sd_check::{Privileges, Token};
 use sd_evaluation::Facts;
 use sd_sid::Sid;
-use sd_whole::{Guid, OddKind, WholeAce, WholeAcl, WholeDescriptor, WholeKind};
+use sd_whole::{Guid, OddKind, WholeAce, WholeAcl, WholeDescriptor, WholeKind, for_children_alone};
 use std::alloc::Global;
 
 /// The plain descriptor that a whole one is for each question about these object types of an object, for which

@@ -2,6 +2,7 @@
 use Rattle.std.specs.Prelude.{ℕ, ◌+◌, ◌*◌, Bool, true, false, is_some, cond, List, [], ◌∷◌, ◌++◌, length, sum_by}
 use Rattle.std.specs.Prelude.{Option, Some, None}
 use Rattle.std.specs.Int.{w16, w32, to_le_bytes}
+use Rattle.sd_sid.specs.Mask.{holds}
 use Rattle.sd_sid.specs.SidBytes.{bytes_of_sid}
 use Rattle.sd_acl.specs.declared.ace.Ace.{Ace}
 use Rattle.sd_wire.specs.Writing.{kind_byte}
@@ -11,6 +12,10 @@ use Rattle.sd_whole.specs.declared.ace.WholeAce.TheVariants.{Plain, Typed, Opaqu
 use Rattle.sd_whole.specs.declared.types.Guid.{Guid}
 use Rattle.sd_whole.specs.declared.types.ObjectTypes.{ObjectTypes}
 use Rattle.sd_whole.specs.Kind.{kind_number, has_object_types}
+
+-- inherit-only: the entry of these flags is for children alone (2.4.4.1, INHERIT_ONLY_ACE)
+abbrev pub for_children_alone : ℕ → Bool
+for_children_alone flags = holds flags 3
 
 -- a GUID, if there is one (2.3.4.2)
 abbrev pub guid_part : Option Guid → List ℕ

@@ -2,11 +2,12 @@
 
 ghost use Rattle.std.specs.Prelude.{◌≡◌, ◌≤◌};
 ghost use Rattle.sd_wire.specs.Writing.{kind_byte};
-ghost use Rattle.sd_whole.specs.Entry.{flags_of, type_of, typed_size_of, whole_ace_size};
+ghost use Rattle.sd_whole.specs.Entry.{flags_of, for_children_alone, type_of, typed_size_of, whole_ace_size};
 
 use crate::data::AceData;
 use crate::kind::WholeKind;
 use crate::types::{ObjectTypes, types_len};
+use bitflags::Flags;
 use sd_acl::{Ace, AceFlags, AceKind};
 use sd_sid::{Mask, SID_HEADER_BYTES, Sid};
 
@@ -85,6 +86,13 @@ impl WholeAce {
             WholeAce::Opaque(ace) => (ACE_HEADER_BYTES + ace.body.as_slice().len()) as u64,
         }
     }
+}
+
+/// Whether an entry with these flags is inherit-only: it is for children alone ([MS-DTYP] 2.4.4.1, INHERIT_ONLY_ACE).
+pub fn for_children_alone(flags: AceFlags) -> bool
+    ensures { result ≡ for_children_alone flags.0 }
+{
+    flags.contains(AceFlags::IO)
 }
 
 /// The bytes that an entry with a layout takes.

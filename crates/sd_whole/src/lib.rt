@@ -24,7 +24,7 @@ mod order;
 mod plain;
 mod types;
 
-pub use ace::{OpaqueAce, TypedAce, WholeAce};
+pub use ace::{OpaqueAce, TypedAce, WholeAce, for_children_alone};
 pub use acl::WholeAcl;
 pub use data::{AceData, MAX_DATA_BYTES};
 pub use descriptor::{WholeDescriptor, read_whole, whole_len, write_whole};
