@@ -15,7 +15,7 @@ use sd_evaluation::Facts;
 use sd_explain::Explanation;
 use sd_label::{Label, check_under, explain_under};
 use sd_sid::Mask;
-use sd_specialize::{Context, SpecializeError, specialized};
+use sd_specialize::{Conditions, Context, SpecializeError, specialized};
 use sd_whole::WholeDescriptor;
 use std::alloc::Global;
 
@@ -99,7 +99,7 @@ fn plain_for(
         resource: &resource,
     };
     let context = Context {
-        facts: &facts,
+        conditions: Conditions::Evaluated(&facts),
         chain: question.chain,
         principal_self: question.principal_self,
     };

@@ -3,6 +3,8 @@ pub mod Grants
 pub mod PlainStays
 pub mod Parts
 pub mod Denies
+pub mod NoMore
 pub mod Chains
+pub mod Between
 pub mod Alike
 pub mod Unknowns

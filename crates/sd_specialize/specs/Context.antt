@@ -1,8 +1,9 @@
 -- What a question says beside the descriptor: the object types that it asks about, whom PRINCIPAL SELF stands for, and
 -- what the conditions of entries come to.
-use Rattle.std.specs.Prelude.{ℕ, Bool, List, Option, Some, None}
+use Rattle.std.specs.Prelude.{ℕ, Bool, false, List, Option, Some, None}
 use Rattle.sd_sid.specs.Sid.{SidValue}
 use Rattle.sd_acl.specs.declared.ace.AceKind.{AceKind}
+use Rattle.sd_acl.specs.declared.ace.AceKind.TheVariants.{Allow, Deny}
 use Rattle.sd_check.specs.Token.{is_restricted}
 use Rattle.sd_check.specs.declared.grounds.Pass.{Pass}
 use Rattle.sd_condition.specs.Reading.{condition_read}
@@ -10,8 +11,12 @@ use Rattle.sd_condition.specs.declared.token.Token.{Token}
 use Rattle.sd_evaluation.specs.Evaluation.{condition_truth}
 use Rattle.sd_evaluation.specs.Facts.{FactsValue}
 use Rattle.sd_evaluation.specs.declared.truth.Truth.{Truth}
-use Rattle.sd_evaluation.specs.declared.truth.Truth.TheVariants.{Unknown}
+use Rattle.sd_evaluation.specs.declared.truth.Truth.TheVariants.{True, False, Unknown}
 use Rattle.sd_whole.specs.declared.types.Guid.{Guid}
+use Rattle.sd_specialize.specs.declared.bounds.Bound.{Bound}
+use Rattle.sd_specialize.specs.declared.bounds.Bound.TheVariants.{AtLeast, AtMost}
+use Rattle.sd_specialize.specs.declared.context.Conditions.{Conditions}
+use Rattle.sd_specialize.specs.declared.context.Conditions.TheVariants.{Evaluated, Bounded}
 use Rattle.sd_specialize.specs.declared.context.Context.{Context}
 
 pub record ContextValue : Type 0 where
@@ -33,10 +38,27 @@ abbrev pub truth_of : FactsValue → Pass → AceKind → Option (List Token) �
 truth_of f pass kind None = Unknown
 truth_of f pass kind (Some tokens) = truth_or_unknown (condition_truth f kind pass tokens)
 
+-- what the condition of an entry of the kind comes to for a bound: for the least it isn't known, so that an allow has
+-- no part and a deny denies; for the most an allow's is true and a deny's false
+abbrev pub bound_truth : Bound → AceKind → Truth
+bound_truth AtLeast kind = Unknown
+bound_truth AtMost Allow = True
+bound_truth AtMost Deny = False
+
+-- what conditions come to: by facts, or for a bound
+abbrev pub truth_by : Conditions → Pass → AceKind → List ℕ → Truth
+truth_by (Evaluated facts) pass kind bytes = truth_of facts.now pass kind (condition_read bytes)
+truth_by (Bounded bound) pass kind bytes = bound_truth bound kind
+
+-- there are two passes in which they may come to different truths
+abbrev pub restricted_by : Conditions → Bool
+restricted_by (Evaluated facts) = is_restricted facts.now.token
+restricted_by (Bounded bound) = false
+
 abbrev pub context_of : Context → ContextValue
 context_of c = record {
   chain = c.chain.now;
   principal_self = c.principal_self;
-  is_restricted = is_restricted c.facts.now.token;
-  truth = λ pass kind bytes. truth_of c.facts.now pass kind (condition_read bytes);
+  is_restricted = restricted_by c.conditions;
+  truth = λ pass kind bytes. truth_by c.conditions pass kind bytes;
 }

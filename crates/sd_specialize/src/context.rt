@@ -7,18 +7,28 @@ ghost use Rattle.sd_specialize.specs.Context.{context_of};
 ghost use Rattle.sd_specialize.specs.Entry.{allows_type, denies_type, is_asked, plain_for, principal_self, trustee};
 ghost use Rattle.sd_specialize.specs.Entry.{without_part};
 
+use crate::bounds::Bound;
 use bitflags::Flags;
 use sd_acl::{Ace, AceFlags, AceKind};
 use sd_evaluation::Facts;
 use sd_sid::{Mask, Sid};
 use sd_whole::Guid;
 
+/// What the conditions of entries come to.
+#[derive(Clone, Copy)]
+pub enum Conditions<'a> {
+    /// Each is evaluated for who asks, by these facts ([MS-DTYP] 2.5.3.1.5).
+    Evaluated(&'a Facts<'a>),
+    /// Each comes to what gives this bound for everyone.
+    Bounded(Bound),
+}
+
 /// One question about a whole descriptor: who asks, about which object types, and which object it is ([MS-DTYP]
 /// 2.5.3.2).
 #[derive(Drop)]
 pub struct Context<'a> {
-    /// Who asks, and what the conditions of entries can ask about.
-    pub facts: &'a Facts<'a>,
+    /// What the conditions of entries come to for who asks.
+    pub conditions: Conditions<'a>,
     /// The object types asked about, from the class to the property set and the property, or an extended right. Empty:
     /// the question is about the whole object.
     pub chain: &'a [Guid],
@@ -27,6 +37,16 @@ pub struct Context<'a> {
 }
 
 impl Context<'_> {
+    /// Whether there are two passes, in which a condition can come to different truths ([MS-DTYP] 2.5.2).
+    pub(crate) fn is_restricted(&self) -> bool
+        ensures { result ≡ (context_of self.now).is_restricted }
+    {
+        match self.conditions {
+            Conditions::Evaluated(facts) => facts.token.is_restricted(),
+            Conditions::Bounded(_) => false,
+        }
+    }
+
     /// The SID that an entry for this SID is for.
     fn trustee(&self, sid: Sid) -> Sid
         ensures { result ≡ trustee (context_of self.now) sid }

@@ -84,8 +84,7 @@ fn passes_agree(
     requires { first ≡ applies_in (context_of context.now) Pass.First ace.now }
     ensures { IfOk result (λ agree. agree ≡ passes_agree (context_of context.now) ace.now) }
 {
-    let facts = context.facts;
-    if !facts.token.is_restricted() {
+    if !context.is_restricted() {
         return Ok(true);
     }
     let second = applies_in(alloc, context, Pass::Second, ace)?;
@@ -141,7 +140,7 @@ fn decides(kind: WholeKind) -> Option<AceKind>
 }
 
 /// NULL SID, nobody's, S-1-0-0 ([MS-DTYP] 2.4.2.4).
-pub(crate) fn nobody() -> Sid
+fn nobody() -> Sid
     ensures { result ≡ nobody }
 {
     Sid::new(0, &[0]).unwrap()

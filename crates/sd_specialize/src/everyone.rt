@@ -7,13 +7,9 @@ ghost use Rattle.sd_specialize.specs.Context.{ContextValue};
 ghost use Rattle.sd_specialize.specs.Everyone.{conditional_place, has_condition, is_conditional, unconditional};
 ghost use Rattle.sd_specialize.specs.Specialize.{Gives, HasDaclEntries, specialized};
 
-use crate::context::Context;
-use crate::descriptor::specialized;
-use crate::entry::nobody;
+use crate::bounds::{Bound, specialized_within};
 use crate::fault::{RefusedEntry, RefusedKind, SpecializeError, SpecializeFault};
 use sd_acl::Descriptor;
-use sd_check::{Privileges, Token};
-use sd_evaluation::Facts;
 use sd_sid::Sid;
 use sd_whole::{Guid, OddKind, WholeAce, WholeAcl, WholeDescriptor, WholeKind, for_children_alone};
 use std::alloc::Global;
@@ -44,7 +40,7 @@ pub fn specialized_for_everyone(
     }
 }
 
-/// The plain descriptor that a whole one is, where no entry asks who it is for.
+/// The plain descriptor that a whole one is, where no entry asks who it is for: each bound is the same one.
 fn specialized_for_nobody(
     alloc: Global,
     chain: &[Guid],
@@ -56,25 +52,11 @@ fn specialized_for_nobody(
         → Gives descriptor_of result (specialized c descriptor.now) }
     ensures memory { IsErrOf result SpecializeError.Memory → HasDaclEntries descriptor.now.dacl }
 {
-    let token = Token::new(nobody(), Vec::new(alloc), Privileges::default());
-    let facts = Facts {
-        token: &token,
-        device_groups: &[],
-        local: &[],
-        user: &[],
-        device: &[],
-        resource: &[],
-    };
-    let context = Context {
-        facts: &facts,
-        chain,
-        principal_self,
-    };
-    specialized(alloc, &context, descriptor)
+    specialized_within(alloc, Bound::AtLeast, chain, principal_self, descriptor)
 }
 
-/// The place of the first effective entry with a condition, from 0.
-fn conditional_place(acl: &WholeAcl) -> Option<usize>
+/// The place of the first effective entry with a condition ([MS-DTYP] 2.4.4.17), from 0.
+pub fn conditional_place(acl: &WholeAcl) -> Option<usize>
     ensures place { result ≡ conditional_place acl.now }
     ensures within { IfSome result (λ place. place < 2 ^ 63) }
 {

@@ -1,5 +1,6 @@
 //! What follows from the rules. Each law is the contract of a function that does nothing.
 
+ghost use Rattle.sd_specialize.specs.Bounds.{BoundsHold};
 ghost use Rattle.sd_specialize.specs.Laws.{DenyNeverGrants, NoPartChangesNothing, PlainStaysPlain, UnknownFailsClosed};
 ghost use Rattle.sd_specialize.specs.Laws.{WholeIsEveryPart};
 
@@ -32,4 +33,10 @@ pub fn whole_is_every_part()
 #[tactic(auto, using(crate::proofs::Unknowns::unknown_fails_closed))]
 pub fn unknown_fails_closed()
     ensures { UnknownFailsClosed }
+{}
+
+/// A law: what is granted by the bound from below is granted whatever the conditions of entries come to, and what is
+/// granted for some outcome of them is granted by the bound from above ([MS-DTYP] 2.5.3.1.5).
+pub fn bounds_hold()
+    ensures { BoundsHold }
 {}

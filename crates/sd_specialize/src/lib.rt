@@ -13,6 +13,7 @@
 //! ```
 #![tactic(auto)]
 
+mod bounds;
 mod condition;
 mod context;
 mod descriptor;
@@ -21,11 +22,12 @@ mod everyone;
 mod fault;
 mod laws;
 
-pub use context::Context;
+pub use bounds::{Bound, specialized_within};
+pub use context::{Conditions, Context};
 pub use descriptor::specialized;
-pub use everyone::specialized_for_everyone;
+pub use everyone::{conditional_place, specialized_for_everyone};
 pub use fault::{RefusedEntry, RefusedKind, SpecializeError, SpecializeFault};
 pub use laws::{
-    deny_never_grants, no_part_changes_nothing, plain_stays_plain, unknown_fails_closed,
-    whole_is_every_part,
+    bounds_hold, deny_never_grants, no_part_changes_nothing, plain_stays_plain,
+    unknown_fails_closed, whole_is_every_part,
 };

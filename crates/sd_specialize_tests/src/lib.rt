@@ -4,6 +4,8 @@
 #[cfg(test)]
 mod access_tests;
 #[cfg(test)]
+mod bounds_tests;
+#[cfg(test)]
 mod rows;
 #[cfg(test)]
 mod tests;

@@ -9,7 +9,7 @@ use sd_evaluation::Facts;
 use sd_explain::{Cause, Share};
 use sd_label::{Label, check_under, explain_under};
 use sd_sid::{GenericMapping, Sid};
-use sd_specialize::{Context, SpecializeError, SpecializeFault, specialized};
+use sd_specialize::{Conditions, Context, SpecializeError, SpecializeFault, specialized};
 use sd_text::{Aliases, print_sddl, read_mask, read_sid_text};
 use sd_whole::{AceData, Guid, ListRevision, OpaqueAce, WholeAce, WholeDescriptor, WholeList};
 use sd_whole_parse::read_whole_sddl;
@@ -21,7 +21,7 @@ use std::test::Fail;
 const USER: &str = "S-1-5-21-1-2-3-1001";
 
 /// The text with the meanings of its signs.
-fn spelled(alloc: Global, text: &str) -> Result<String, AllocError> {
+pub(crate) fn spelled(alloc: Global, text: &str) -> Result<String, AllocError> {
     let mut out = String::new(alloc);
     for c in text.chars() {
         match c {
@@ -154,7 +154,7 @@ impl Asked<'_> {
     fn plain(&self, alloc: Global, claims: &[Claim]) -> Result<Descriptor, SpecializeError> {
         let facts = facts(&self.token, claims);
         let context = Context {
-            facts: &facts,
+            conditions: Conditions::Evaluated(&facts),
             chain: &self.chain,
             principal_self: self.principal_self,
         };
@@ -248,7 +248,7 @@ fn outcome(rt: &impl Abort, alloc: Global, whole: &WholeDescriptor) -> Result<St
     let token = token_of(rt, alloc, "BU")?;
     let facts = facts(&token, &[]);
     let context = Context {
-        facts: &facts,
+        conditions: Conditions::Evaluated(&facts),
         chain: &[],
         principal_self: Some(sid_of(rt, "%")),
     };
@@ -344,7 +344,7 @@ fn answers_under_a_label(rt: HostRuntime) -> Result<(), Fail> {
 fn plain_of(rt: &impl Abort, alloc: Global, token: &Token, whole: &WholeDescriptor) -> Descriptor {
     let facts = facts(token, &[]);
     let context = Context {
-        facts: &facts,
+        conditions: Conditions::Evaluated(&facts),
         chain: &[],
         principal_self: None,
     };
