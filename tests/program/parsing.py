@@ -330,6 +330,10 @@ REJECTED = r"""
 1 MisplacedOption | --mapping key tobin D:
 1 ExcludedOption | --base64 --loose frombin 00
 1 LacksWhole | --type 1 verdict D: SY 0x1
+1 LacksWhole | --type 1 --object compare D: D:
+2 LacksObject | --whole --type 1 compare D: D:
+1 LacksObject | --self PS --whole compare D: D:
+1 LacksObject | --self PS --whole each compare D:
 3 LacksWhole | --stdin --names --self PS why SY 0x1
 2 ExcludedOption | --whole --self PS --below who D: 0x1
 11 TooManyTypes | --type 1 --type 2 --type 3 --type 4 --type 5 --type 6 --whole why D: SY 0x1
@@ -375,7 +379,7 @@ REJECTED = r"""
 
 # The mistakes, by number from 1.
 MISTAKES = """NoCommand UnknownCommand UnknownOption NotAlone RepeatedOption NoValue MisplacedOption ExcludedOption NoText
-MissingArgument SurplusArgument NoWorkers LacksWhole TooManyTypes""".split()
+MissingArgument SurplusArgument NoWorkers LacksWhole TooManyTypes LacksObject""".split()
 
 
 def is_help(status, output, errors):

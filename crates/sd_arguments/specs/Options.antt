@@ -110,15 +110,16 @@ options_in = options_from None
 
 -- ---- before which commands they go
 
--- the option may be given beside the others
-abbrev pub fits_beside : OptionsValue → Beside → Bool
-fits_beside options Any = true
-fits_beside options (Without other) = not (has options other)
-fits_beside options (With one other) = has options one && not (has options other)
+-- the option may be given beside the others, before the command of this name
+abbrev pub fits_beside : List ℕ → OptionsValue → Beside → Bool
+fits_beside name options Any = true
+fits_beside name options (Without other) = not (has options other)
+fits_beside name options (With one other also) =
+    has options one && not (has options other) && (not (takes_option name also) || has options also)
 
 -- the option may go before the command of this name, and beside the others
 abbrev pub goes_before : List ℕ → OptionsValue → ProgramOption → Bool
-goes_before name options option = takes_option name option.name && fits_beside options option.beside
+goes_before name options option = takes_option name option.name && fits_beside name options option.beside
 
 -- each of the options that the arguments begin with may go before the command of this name: an option's value is none
 abbrev pub go_before_from : Bool → List ℕ → OptionsValue → List (Bor (List ℕ)) → Bool

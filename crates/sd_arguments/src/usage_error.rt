@@ -34,6 +34,8 @@ pub(crate) enum UsageErrorKind {
     ExcludedOption,
     /// The option goes only beside `--whole`, which isn't given.
     LacksWhole,
+    /// Before this command the option goes only beside `--object`, which isn't given.
+    LacksObject,
     /// There are more than five object types.
     TooManyTypes,
     /// The command of `each`, or after `--stdin`, answers no text.
@@ -54,7 +56,9 @@ impl UsageErrorKind {
     fn subject<'a>(self, name: &'a str) -> &'a str {
         match self {
             UsageErrorKind::NoCommand => "COMMAND",
-            UsageErrorKind::MisplacedOption(_) | UsageErrorKind::NoText => name,
+            UsageErrorKind::MisplacedOption(_)
+            | UsageErrorKind::LacksObject
+            | UsageErrorKind::NoText => name,
             UsageErrorKind::MissingArgument(argument, _) => argument_name(argument),
             _ => "",
         }
@@ -72,6 +76,9 @@ impl UsageErrorKind {
             UsageErrorKind::MisplacedOption(_) => " doesn't take this option (7 MisplacedOption)",
             UsageErrorKind::ExcludedOption => "this option excludes another one (8 ExcludedOption)",
             UsageErrorKind::LacksWhole => "this option goes only beside --whole (13 LacksWhole)",
+            UsageErrorKind::LacksObject => {
+                " takes this option only beside --object (15 LacksObject)"
+            }
             UsageErrorKind::TooManyTypes => "one object type too many, at most 5 (14 TooManyTypes)",
             UsageErrorKind::NoText => " doesn't answer a text (9 NoText)",
             UsageErrorKind::MissingArgument(..) => " is missing (10 MissingArgument)",
@@ -137,6 +144,7 @@ fn hint(alloc: Global, name: &str, wrong: UsageErrorKind) -> Result<String, Allo
         | UsageErrorKind::NoValue
         | UsageErrorKind::ExcludedOption
         | UsageErrorKind::LacksWhole
+        | UsageErrorKind::LacksObject
         | UsageErrorKind::TooManyTypes => Ok(String::new(alloc)),
         UsageErrorKind::MisplacedOption(option) => {
             commands_hint(alloc, "it goes before ", Commands::Taking(option))

@@ -145,6 +145,8 @@ user, as arguments of 'sdstore verdict' after the descriptor and the mask:
   new objects: gained 0x1 by S-1-1-0
 The last is about what is made in it, if it is a container, and left out with '--object'.
 'everyone' is any user that neither descriptor names.
+With '--whole' and '--object' the lines are about the object types of '--type', or without one about
+the whole object, as in Active Directory; where an entry has an object type, standard error says so.
 
 Statuses:
   0  same

@@ -36,9 +36,10 @@ MASK, and prints entries with names of that kind alone",
         "\
 takes descriptors with a SACL and with entries of every type. What prints a descriptor prints all of
 it, and what has no text is a fault; 'verdict' and 'why' look at the label, the claims, the object
-types and the conditions, and 'who' at the object types; 'who', another question and a script leave
-the SACL out, which is reported on standard error, of a script by the answer 'ok differs', and a
-conditional entry in a DACL is a fault there, but for 'who' without '--below' an object entry too",
+types and the conditions, and 'who' without '--below' and 'compare' with '--object' at the object
+types; these two, another question and a script leave the SACL out, which is reported on standard
+error, of a script by the answer 'ok differs', and a conditional entry in a DACL is a fault there,
+but for these two an object entry too",
     ),
     (
         "--without-bits",
@@ -78,7 +79,8 @@ byte, and reports it on standard error",
         },
         "\
 the descriptor is that of an object and of no container, as of a file: the flags OI and CI of its
-entries say nothing, and are left out, also where entries are printed",
+entries say nothing, and are left out, also where entries are printed; 'compare' takes object
+entries then under '--whole'",
     ),
     (
         "--risks",
@@ -213,21 +215,23 @@ adds the groups that Windows gives to a user who logs on so, 'interactive', 'net
         ProgramOption {
             name: OptionName::Type,
             value: Some(Value::Guid),
-            beside: Beside::With(OptionName::Whole, OptionName::Below),
+            beside: Beside::With(OptionName::Whole, OptionName::Below, OptionName::Object),
         },
         "\
 the object type that is asked about, as bf9679c0-0de6-11d0-a285-00aa003049e2, up to five times: the
 class, the property set, the property or the extended right; without it the whole object is asked
-about",
+about. Before 'compare' it goes beside '--object'",
     ),
     (
         "--self",
         ProgramOption {
             name: OptionName::PrincipalSelf,
             value: Some(Value::Sid),
-            beside: Beside::With(OptionName::Whole, OptionName::Below),
+            beside: Beside::With(OptionName::Whole, OptionName::Below, OptionName::Object),
         },
-        "the SID of the object itself, for which PRINCIPAL SELF (PS) stands in its entries",
+        "\
+the SID of the object itself, for which PRINCIPAL SELF (PS) stands in its entries; before 'compare'
+it goes beside '--object'",
     ),
     (
         "--json",

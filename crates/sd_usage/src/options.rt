@@ -99,6 +99,8 @@ pub(crate) const COMPARE_OPTIONS: &[OptionName] = &[
     OptionName::Whole,
     OptionName::RequireDacl,
     OptionName::Object,
+    OptionName::Type,
+    OptionName::PrincipalSelf,
     OptionName::Domain,
     OptionName::Aliases,
     OptionName::Mapping,

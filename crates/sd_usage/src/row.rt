@@ -219,8 +219,8 @@ pub enum Beside {
     Any,
     /// Not beside this one.
     Without(OptionName),
-    /// Only beside the first, and not beside the second.
-    With(OptionName, OptionName),
+    /// Only beside the first, not beside the second, and before a command that takes the third only beside that too.
+    With(OptionName, OptionName, OptionName),
 }
 
 /// The value of an option.
