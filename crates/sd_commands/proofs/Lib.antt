@@ -4,3 +4,5 @@ pub mod Commas
 pub mod ObjectList
 pub mod BytesByPart
 pub mod SortedOrder
+pub mod TypesAlike
+pub mod Everyone

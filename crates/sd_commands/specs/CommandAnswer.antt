@@ -39,6 +39,7 @@ use Rattle.sd_answer.specs.Word.{AreGroups, IsFirstNoGroup, IsFirstNoWord, IsTok
 use Rattle.sd_commands.specs.Analysis.{AreAccesses, AreBelowLines, with_below}
 use Rattle.sd_commands.specs.Logon.{fits_logon, words_for}
 use Rattle.sd_commands.specs.Object.{leaves_out, looked_at}
+use Rattle.sd_commands.specs.ObjectTypes.{NotingTypes, is_of_whole}
 use Rattle.sd_commands.specs.Required.{missing_dacl}
 use Rattle.sd_usage.specs.declared.row.TextCommand.{TextCommand}
 use Rattle.sd_usage.specs.declared.row.TextCommand.TheVariants as questions
@@ -58,13 +59,13 @@ use Rattle.sd_commands.specs.declared.verdict.Subject.TheVariants as subjects
 use Rattle.sd_commands.specs.declared.verdict.Form.TheVariants.{Short, Explained}
 use Rattle.sd_commands.specs.Answer.{value_line, AnswerValue, answer_of, IsAnswer, AreDone, IsDone, IsFault}
 use Rattle.sd_commands.specs.Answer.{AnswersFit, IsFaultOf, Noting, IsMissingDacl, descriptor_line}
+use Rattle.sd_commands.specs.Chain.{types_of}
+use Rattle.sd_commands.specs.ForEveryone.{AnswersOfEveryone}
 use Rattle.sd_commands.specs.FromBinary.{AnswersFromBinary}
 use Rattle.sd_commands.specs.Whole.{takes_whole, told_odd}
 use Rattle.sd_commands.specs.WholeText.{AnswersOfWhole, AnswersWholeText}
-use Rattle.sd_commands.specs.WholeVerdict.{IsUndecided, IsWholeVerdict, everyone_context, verdict_outcome}
-use Rattle.sd_specialize.specs.Everyone.{unconditional}
-use Rattle.sd_specialize.specs.declared.fault.SpecializeFault.{SpecializeFault}
-use Rattle.sd_whole.specs.Plain.{has_sacl, odd_name}
+use Rattle.sd_commands.specs.WholeVerdict.{IsWholeVerdict, verdict_outcome}
+use Rattle.sd_whole.specs.Plain.{odd_name}
 use Rattle.sd_whole.specs.declared.descriptor.WholeDescriptor.{WholeDescriptor}
 use Rattle.sd_whole.specs.declared.plain.OddEntry.{OddEntry}
 use Rattle.sd_show.specs.Diff.{changes}
@@ -353,23 +354,28 @@ abbrev pub AnswersPlainly : Settings → DescriptorCommand → List ℕ → List
 AnswersPlainly settings question text arguments =
     AnswersOfArgument (descriptor_name question) settings text (AnswersOn settings question arguments)
 
--- what `who` answers of the plain descriptor that a whole one is, whoever asks, or which entry depends on who asks
-abbrev pub AnswersEveryone : Settings → List (Bor (List ℕ)) → Result DescriptorValue SpecializeFault → AnswerValue
-    → Type 0
-AnswersEveryone settings arguments (Ok d) = AnswersOn settings about.Who arguments d
-AnswersEveryone settings arguments (Err fault) = IsUndecided fault
+-- what `who` answers: of the whole object the types are noted
+abbrev pub AnswersWhoOfWhole : Settings → List ℕ → List (Bor (List ℕ)) → AnswerValue → Type 0
+AnswersWhoOfWhole settings text arguments = AnswersOfEveryone (codes "SDDL") settings text
+    (λ typed d. NotingTypes settings (typed && is_of_whole (types_of settings.chain))
+    (AnswersOn settings about.Who arguments d))
 
--- what it answers of a whole descriptor, where it doesn't lack the list that is required: without the SACL
-abbrev pub AnswersWhoOfWhole : Settings → List (Bor (List ℕ)) → WholeDescriptor → AnswerValue → Type 0
-AnswersWhoOfWhole settings arguments d = Noting (codes "SDDL") (has_sacl d)
-    (AnswersFit (codes "SDDL") (missing_dacl settings.require_dacl d.dacl)
-    (AnswersEveryone settings arguments (unconditional (everyone_context settings) d)))
+-- what `compare` answers of OLD
+abbrev pub AnswersCompareTo : Settings → Bool → DescriptorValue → List (Bor (List ℕ)) → AnswerValue → Type 0
+AnswersCompareTo settings old_typed old arguments = AnswersOfEveryone (codes "NEW") settings (argument arguments 0)
+    (λ new_typed new. NotingTypes settings (old_typed || new_typed)
+    (AnswersOfBase settings (drop 1 arguments) (AnswersComparison settings old new)))
 
--- what a command answers of all that the text is: a verdict, whom rights are granted to, or what is printed, sorted or
--- written
+-- what it answers
+abbrev pub AnswersCompareOfWhole : Settings → List ℕ → List (Bor (List ℕ)) → AnswerValue → Type 0
+AnswersCompareOfWhole settings text arguments = AnswersOfEveryone (codes "OLD") settings text
+    (λ old_typed old. AnswersCompareTo settings old_typed old arguments)
+
+-- what a command answers of all that the text is: a verdict, whom rights are granted to, who gains and loses some, or
+-- what is printed, sorted or written
 abbrev pub AnswersWholly : Settings → DescriptorCommand → List ℕ → List (Bor (List ℕ)) → AnswerValue → Type 0
-AnswersWholly settings about.Who text arguments =
-    AnswersOfWhole (codes "SDDL") settings text (AnswersWhoOfWhole settings arguments)
+AnswersWholly settings about.Who text arguments = AnswersWhoOfWhole settings text arguments
+AnswersWholly settings about.Compare text arguments = AnswersCompareOfWhole settings text arguments
 AnswersWholly settings about.Verdict text arguments = AnswersWholeUser settings Short text arguments
 AnswersWholly settings about.Why text arguments = AnswersWholeUser settings Explained text arguments
 AnswersWholly settings question text arguments = AnswersWholeText settings question text
@@ -378,7 +384,7 @@ AnswersWholly settings question text arguments = AnswersWholeText settings quest
 -- the descriptor, and others at its plain part
 abbrev pub AnswersDescriptor : Settings → DescriptorCommand → List ℕ → List (Bor (List ℕ)) → AnswerValue → Type 0
 AnswersDescriptor settings question text arguments answer =
-    MatchBool (settings.whole && takes_whole settings.below question)
+    MatchBool (settings.whole && takes_whole settings.below settings.object question)
     (AnswersWholly settings question text arguments answer) (AnswersPlainly settings question text arguments answer)
 
 -- what a command answers to a text and the arguments after it

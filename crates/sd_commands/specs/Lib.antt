@@ -6,11 +6,13 @@ pub mod Chain
 pub mod Concern
 pub mod Diagnostic
 pub mod Escaped
+pub mod ForEveryone
 pub mod FromBinary
 pub mod Kinds
 pub mod Logon
 pub mod Mapping
 pub mod Object
+pub mod ObjectTypes
 pub mod Pointer
 pub mod Required
 pub mod Risks

@@ -71,21 +71,22 @@ specialize_fault_line (Refused entry) = entry_fault_line entry.entry (refused_na
 specialize_fault_line TooLarge = line_of (form FAULT_NAMED) (values.Text (codes "dacl")
     ∷ values.Number (fault_number TooLarge) ∷ values.Text (fault_name TooLarge) ∷ [])
 
-abbrev pub IsUndecided : SpecializeFault → AnswerValue → Type 0
-IsUndecided fault = IsFault (specialize_fault_line fault) (told_line (codes "SDDL") (told_fault fault))
+-- an entry of the argument of this name can't be decided
+abbrev pub IsUndecided : List ℕ → SpecializeFault → AnswerValue → Type 0
+IsUndecided argument fault = IsFault (specialize_fault_line fault) (told_line argument (told_fault fault))
 
 -- ---- the answer
 
 -- the verdict's line
 abbrev pub AnswersShortly : Result Verdict SpecializeFault → AnswerValue → Type 0
 AnswersShortly (Ok verdict) = IsAnswer (verdict_line verdict ∷ []) [] (verdict_outcome verdict)
-AnswersShortly (Err fault) = IsUndecided fault
+AnswersShortly (Err fault) = IsUndecided (codes "SDDL") fault
 
 -- with it the reasons, by the entries of the plain descriptor that the whole one is for the question
 abbrev pub AnswersWhy : Result (DescriptorValue × List (Option Reason)) SpecializeFault → AnswerValue → Type 0
 AnswersWhy (Ok explained) =
     IsAnswer (explanation_lines explained.0 explained.1) [] (verdict_outcome (told_verdict (reason_in explained.1)))
-AnswersWhy (Err fault) = IsUndecided fault
+AnswersWhy (Err fault) = IsUndecided (codes "SDDL") fault
 
 -- the answer is the verdict on the descriptor, in this form, or which entry can't be decided
 abbrev pub IsWholeVerdict : Settings → Form → WholeDescriptor → ClientValue → ℕ → AnswerValue → Type 0

@@ -118,7 +118,12 @@ impl CommandContext<'_> {
         Ok(note_left_out_sacl(self.alloc, "NEW", left_out, answer)?)
     }
 
-    fn compare_with_base(&self, old: Descriptor, new: Descriptor, words: &[&str]) -> Answered
+    pub(crate) fn compare_with_base(
+        &self,
+        old: Descriptor,
+        new: Descriptor,
+        words: &[&str],
+    ) -> Answered
         ensures { IfOk result (λ answer. AnswersOfBase self.now.settings.now words.now
             (AnswersComparison self.now.settings.now (descriptor_of old) (descriptor_of new)) (answer_of answer)) }
     {

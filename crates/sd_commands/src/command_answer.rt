@@ -176,8 +176,8 @@ pub(crate) fn found(alloc: Global, lines: Vec<Line>, nothing: LineForm) -> Answe
 }
 
 impl CommandContext<'_> {
-    /// The answer to a question about the descriptor that the text is: under `--whole`, of a verdict or of what is
-    /// printed, sorted or written, with all that it says.
+    /// The answer to a question about the descriptor that the text is: under `--whole`, where the command looks at it,
+    /// with all that it says.
     fn answer_descriptor(
         &self,
         question: DescriptorCommand,
@@ -187,7 +187,8 @@ impl CommandContext<'_> {
         ensures { IfOk result (λ answer. AnswersDescriptor self.now.settings.now question sddl.now arguments.now
             (answer_of answer)) }
     {
-        if self.settings.whole && takes_whole(self.settings.below, question) {
+        let (below, object) = (self.settings.below, self.settings.object);
+        if self.settings.whole && takes_whole(below, object, question) {
             return self.answer_wholly(question, sddl, arguments);
         }
         self.answer(question, sddl, arguments)
@@ -202,6 +203,7 @@ impl CommandContext<'_> {
             DescriptorCommand::Verdict => self.whole_verdict(Form::Short, sddl, arguments),
             DescriptorCommand::Why => self.whole_verdict(Form::Explained, sddl, arguments),
             DescriptorCommand::Who => self.whole_who(sddl, arguments),
+            DescriptorCommand::Compare => self.whole_compare(sddl, arguments),
             _ => self.answer_whole_text(question, sddl),
         }
     }

@@ -1,5 +1,7 @@
-//! What holds of canonical order, and of objects. Each law is the contract of a function that does nothing.
+//! What holds of canonical order, of objects, and of object types. Each law is the contract of a function that does
+//! nothing.
 ghost use Rattle.sd_commands.specs.Object.{ObjectDecidesAlike, ObjectHandsNothingOn};
+ghost use Rattle.sd_commands.specs.ObjectTypes.{TypesChangeNothing};
 ghost use Rattle.sd_commands.specs.Sort.{CanonicalStays, SortedIsCanonical};
 
 /// What `sort` prints is in canonical order, and a list that is in it stays as it is ([MS-DTYP] 2.4.5).
@@ -19,4 +21,11 @@ pub fn object_decides_alike()
 #[tactic(auto, using(crate::proofs::ObjectList::object_hands_nothing_on))]
 pub fn object_hands_nothing_on()
     ensures { ObjectHandsNothingOn }
+{}
+
+/// Where no note says which object types an answer is about, it is about all: the plain descriptor is the same for each
+/// ([MS-DTYP] 2.5.3.2).
+#[tactic(auto, using(crate::proofs::TypesAlike::types_change_nothing))]
+pub fn types_change_nothing()
+    ensures { TypesChangeNothing }
 {}

@@ -32,10 +32,10 @@ pub struct Settings {
     pub kind: Option<ObjectKind>,
     /// How the user logged on, if that is said.
     pub logon: Option<Logon>,
-    /// Whether descriptors may have a SACL and entries of every type: `verdict` and `why` look at these, and other
-    /// questions leave them out.
+    /// Whether descriptors may have a SACL and entries of every type: `verdict` and `why` look at both, `who` without
+    /// `below` and `compare` with `object` at entries for object types, and other questions at neither.
     pub whole: bool,
-    /// Under `whole`, the object types that `verdict` and `why` are asked about.
+    /// Under `whole`, the object types that those are asked about.
     pub chain: Chain,
     /// Under `whole`, the SID for which PRINCIPAL SELF stands, if it is given.
     pub principal_self: Option<Sid>,

@@ -120,7 +120,7 @@ impl CommandContext<'_> {
                 let lines = vec![in self.alloc; verdict_line(self.alloc, verdict)?]?;
                 Ok(Answer::of(self.alloc, lines, outcome_of(&verdict)))
             }
-            Err(SpecializeError::Fault(fault)) => self.undecided(fault),
+            Err(SpecializeError::Fault(fault)) => self.undecided("SDDL", fault),
             Err(SpecializeError::Memory) => Err(AllocError),
         }
     }
@@ -135,17 +135,17 @@ impl CommandContext<'_> {
                 let outcome = outcome_of(&explanation.verdict());
                 Ok(Answer::of(self.alloc, lines, outcome))
             }
-            Err(SpecializeError::Fault(fault)) => self.undecided(fault),
+            Err(SpecializeError::Fault(fault)) => self.undecided("SDDL", fault),
             Err(SpecializeError::Memory) => Err(AllocError),
         }
     }
 
-    /// The answer where an entry of the DACL can't be decided, or the list gets too large.
-    pub(crate) fn undecided(&self, fault: SpecializeFault) -> Answered
-        ensures { IfOk result (λ answer. IsUndecided fault (answer_of answer)) }
+    /// The answer where an entry of the DACL of the argument of this name can't be decided, or the list gets too large.
+    pub(crate) fn undecided(&self, name: &str, fault: SpecializeFault) -> Answered
+        ensures { IfOk result (λ answer. IsUndecided name.now fault (answer_of answer)) }
     {
         let reason = fault_reason(self.alloc, fault)?;
-        let told = told_line(self.alloc, "SDDL", reason.as_str())?;
+        let told = told_line(self.alloc, name, reason.as_str())?;
         fault_told(self.alloc, specialize_fault_line(self.alloc, fault)?, told)
     }
 }

@@ -7,18 +7,21 @@ ghost use Rattle.sd_arguments.specs.CommandLine.{request_of};
 use crate::found::{found_in_descriptor, found_in_mask, found_in_user, found_in_word};
 use crate::notes::notes_on;
 use crate::remedies::{
-    CHILDREN, EACH, HEX, NO_BITS, NO_CHILDREN, ODD_ENTRY, OTHER_USER, POLICIES, RemedyRow, SACLS,
-    WHOLE_BITS, WHOLE_ENTRY, WHOLE_RANGE, WHOLE_SACL, row_line,
+    CHILDREN, EACH, HEX, NO_BITS, NO_CHILDREN, OBJECT_ENTRY, ODD_ENTRY, OTHER_USER, POLICIES,
+    RemedyRow, SACLS, WHOLE_BITS, WHOLE_ENTRY, WHOLE_RANGE, WHOLE_SACL, row_line,
 };
 use crate::spoken::{answer_text, asks_who};
 use sd_answer::{TokenError, read_base, read_token};
 use sd_arguments::{Options, TextRequest};
 use sd_client::read_client;
-use sd_commands::{Answer, ByteForm, Outcome, Settings, fits_logon, takes_whole, told_line};
+use sd_commands::{
+    Answer, ByteForm, Outcome, Settings, fits_logon, takes_whole, told_line, types_text,
+};
 use sd_line::{Value, read_mask_in};
 use sd_sid::Sid;
 use sd_text::{TextError, TextFault, read_sddl_in, read_sid_text_in};
 use sd_usage::{DescriptorCommand, OptionName, TextCommand};
+use sd_whole::{OddEntry, OddKind};
 use sd_whole_parse::{PartError, read_sddl_part, read_whole_sddl};
 use sd_whole_text::NoText;
 use sd_wire::WireFault;
@@ -80,6 +83,7 @@ pub(crate) fn advice_on_each(
     let mut advice = misplaced_line(alloc, request)?;
     if options.has(OptionName::Whole) {
         push_left_out(alloc, request.question, &mut advice)?;
+        push_types(alloc, options, request.question, &mut advice)?;
     }
     if asks_who(request.question) && !options.has(OptionName::Below) {
         let note = told_line(alloc, "SDDL", CHILDREN)?;
@@ -111,6 +115,28 @@ fn push_left_out(
     };
     let note = told_line(alloc, "SDDL", what)?;
     advice.push_str(note.as_str())
+}
+
+/// Notes which object types the answers of a command that looks at them are about.
+fn push_types(
+    alloc: Global,
+    options: Options<'_>,
+    question: TextCommand,
+    advice: &mut String,
+) -> Result<(), AllocError> {
+    let is_of_whole = !options.has(OptionName::Type);
+    let depends = match question {
+        TextCommand::Descriptor(DescriptorCommand::Who) => {
+            is_of_whole && !options.has(OptionName::Below)
+        }
+        TextCommand::Descriptor(DescriptorCommand::Compare) => options.has(OptionName::Object),
+        _ => false,
+    };
+    if depends {
+        let note = told_line(alloc, "--type", types_text(is_of_whole))?;
+        advice.push_str(note.as_str())?;
+    }
+    Ok(())
 }
 
 /// The line of a descriptor that stands where USER does.
@@ -169,8 +195,8 @@ fn text_row(
     question: DescriptorCommand,
     text: &str,
 ) -> Option<RemedyRow> {
-    if !takes_whole(settings.below, question) {
-        return part_row(alloc, settings, text);
+    if !takes_whole(settings.below, settings.object, question) {
+        return part_row(alloc, settings, question, text);
     }
     if settings.whole {
         return whole_row(alloc, settings, text);
@@ -216,14 +242,27 @@ fn found_in_whole(text: &str, fault: TextFault, place: u64) -> Option<RemedyRow>
 }
 
 /// The row of advice for the text of a descriptor of which the plain part is asked about.
-fn part_row(alloc: Global, settings: &Settings, text: &str) -> Option<RemedyRow> {
+fn part_row(
+    alloc: Global,
+    settings: &Settings,
+    question: DescriptorCommand,
+    text: &str,
+) -> Option<RemedyRow> {
     match read_sddl_part(alloc, settings.aliases, settings.whole, text) {
         Err(PartError::Fault { fault, place }) if settings.whole => found_in_whole(
             text, fault, place,
         ),
         Err(PartError::Fault { fault, place }) => found_in_descriptor(text, fault, place),
-        Err(PartError::Odd(_)) => Some(ODD_ENTRY),
+        Err(PartError::Odd(odd)) => Some(odd_row(question, odd)),
         _ => None,
+    }
+}
+
+/// The row of advice for an entry that is no allow and no deny.
+fn odd_row(question: DescriptorCommand, odd: OddEntry) -> RemedyRow {
+    match (question, odd.kind) {
+        (DescriptorCommand::Compare, OddKind::ObjectAce) => OBJECT_ENTRY,
+        _ => ODD_ENTRY,
     }
 }
 
@@ -231,7 +270,7 @@ fn part_row(alloc: Global, settings: &Settings, text: &str) -> Option<RemedyRow>
 fn undecided_row(question: DescriptorCommand, answer: &Answer) -> Option<RemedyRow> {
     answer.lines.first()?.value(b"entry")?;
     match question {
-        DescriptorCommand::Who => Some(ODD_ENTRY),
+        DescriptorCommand::Who | DescriptorCommand::Compare => Some(ODD_ENTRY),
         _ => None,
     }
 }
@@ -286,7 +325,7 @@ fn argument_row(
             group_row(alloc, settings, words)
         }
         (DescriptorCommand::Compare, [new, words @ ..]) => {
-            match part_row(alloc, settings, new) {
+            match text_row(alloc, settings, question, new) {
                 Some(row) => Some(row),
                 None => group_row(alloc, settings, words),
             }

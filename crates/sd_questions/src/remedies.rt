@@ -236,6 +236,12 @@ pub(crate) const ODD_ENTRY: RemedyRow = (
     "verdict and why take it, and print, sort, tobin, frombin, show and diff",
 );
 
+pub(crate) const OBJECT_ENTRY: RemedyRow = (
+    "an entry for object types",
+    "an allow or a deny",
+    "write --object before the command: compare takes it then, but leaves out what is made in a container",
+);
+
 pub(crate) const EACH: RemedyRow = (
     "a descriptor",
     "an argument after it",

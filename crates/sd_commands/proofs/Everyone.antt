@@ -1,0 +1,69 @@
+-- What is answered of a whole descriptor whoever asks, by what the code finds of it.
+use Rattle.sd_commands.proofs.Cited.{Bool, List, None, Option, Some, answer_of, descriptor_of, inl, inr, subst, sym, ℕ, ◌≡◌}
+use Rattle.std.specs.Prelude.{Err, Ok, Result}
+use Rattle.sd_acl.specs.Descriptor.{DescriptorValue}
+use Rattle.sd_specialize.specs.Everyone.{unconditional}
+use Rattle.sd_specialize.specs.declared.fault.SpecializeFault.{SpecializeFault}
+use Rattle.sd_whole.specs.Plain.{has_sacl}
+use Rattle.sd_whole.specs.declared.descriptor.WholeDescriptor.{WholeDescriptor}
+use Rattle.sd_whole_parse.specs.Part.{IsWhole}
+use Rattle.sd_commands.specs.Answer.{AnswerValue, AnswersFit, IsNoted}
+use Rattle.sd_commands.specs.ForEveryone.{AnswersOfEveryone, AnswersSpecialized, IsForEveryone, IsOfEveryone}
+use Rattle.sd_commands.specs.ObjectTypes.{has_types}
+use Rattle.sd_commands.specs.Required.{missing_dacl}
+use Rattle.sd_commands.specs.WholeVerdict.{everyone_context}
+use Rattle.sd_commands.specs.declared.for_everyone.ForEveryone.{ForEveryone}
+use Rattle.sd_commands.specs.declared.for_everyone.ForEveryone.TheVariants.{Plain, Refused}
+use Rattle.sd_commands.specs.declared.for_everyone.PlainForEveryone.{PlainForEveryone}
+use Rattle.sd_commands.specs.declared.settings.Settings.{Settings}
+
+module _ (argument : List ℕ) (Answers : DescriptorValue → AnswerValue → Type 0) (answer : AnswerValue) where
+  -- an answer that is that of no plain descriptor
+  refused_fit : (missing : Option (List ℕ)) (found : Result DescriptorValue SpecializeFault)
+      → AnswersFit argument missing (AnswersSpecialized argument found (λ plain other. ⊥)) answer
+      → AnswersFit argument missing (AnswersSpecialized argument found Answers) answer
+  refused_fit (Some missing) found said = said
+  refused_fit None (Ok plain) said = absurd said
+  refused_fit None (Err fault) said = said
+
+  -- an answer of a plain descriptor
+  fits : (missing : Option (List ℕ)) (found : Result DescriptorValue SpecializeFault) (plain : DescriptorValue)
+      → missing ≡ None → found ≡ Ok plain → Answers plain answer
+      → AnswersFit argument missing (AnswersSpecialized argument found Answers) answer
+  fits missing found plain is_there is_plain said =
+      subst (λ m. AnswersFit argument m (AnswersSpecialized argument found Answers) answer) (sym is_there)
+      (subst (λ f. AnswersSpecialized argument f Answers answer) (sym is_plain) said)
+
+module _ (argument : List ℕ) (settings : Settings) (text : List ℕ) (Answers : Bool → DescriptorValue → AnswerValue → Type 0) (answer : AnswerValue) where
+  pub refused : AnswersOfEveryone argument settings text (λ typed plain other. ⊥) answer → AnswersOfEveryone argument settings text Answers answer
+  refused (inl (d, is, (inner, noted, said))) = inl (
+    d,
+    is,
+    (
+      inner,
+      noted,
+      refused_fit argument (Answers (has_types d.dacl)) inner (missing_dacl settings.require_dacl d.dacl) (unconditional (everyone_context settings) d) said,
+    ),
+  )
+  refused (inr fault) = inr fault
+
+  pub taken : (plain : PlainForEveryone) (inner : AnswerValue) → IsOfEveryone argument settings text (Plain plain)
+      → Answers plain.typed (descriptor_of plain.descriptor) inner → IsNoted argument plain.left_out inner answer
+      → AnswersOfEveryone argument settings text Answers answer
+  taken plain inner (d, is, (is_there, is_plain, left_out, typed)) said noted = inl (
+    d,
+    is,
+    (
+      inner,
+      subst (λ left. IsNoted argument left inner answer) left_out noted,
+      fits argument (Answers (has_types d.dacl)) inner (missing_dacl settings.require_dacl d.dacl) (unconditional (everyone_context settings) d)
+          (descriptor_of plain.descriptor) is_there is_plain
+          (subst (λ of_types. Answers of_types (descriptor_of plain.descriptor) inner) typed said),
+    ),
+  )
+
+-- what the code finds of the descriptor that the text is
+pub of_text : (argument : List ℕ) (settings : Settings) (text : List ℕ) (d : WholeDescriptor) → IsWhole settings.aliases text d
+    → (given : ForEveryone) → IsForEveryone argument settings d given → IsOfEveryone argument settings text given
+of_text argument settings text d is (Plain plain) found = (d, is, found)
+of_text argument settings text d is (Refused answer) said = inl (d, is, said)

@@ -1,0 +1,110 @@
+//! The plain descriptor that an argument's text is whoever asks, under `--whole`.
+ghost use Rattle.std.specs.Prelude.{◌≡◌, IfOk};
+ghost use Rattle.sd_acl.specs.Descriptor.{descriptor_of};
+ghost use Rattle.sd_commands.specs.ForEveryone.{IsForEveryone, IsOfEveryone, IsSpecialized};
+ghost use Rattle.sd_commands.specs.WholeVerdict.{everyone_context};
+ghost use Rattle.sd_specialize.specs.Everyone.{unconditional};
+ghost use Rattle.sd_specialize.specs.Specialize.{Gives};
+ghost use Rattle.sd_whole.specs.Plain.{has_sacl};
+
+use crate::command_answer::Answer;
+use crate::descriptor::{missing_dacl, note_left_out_sacl};
+use crate::object_types::has_types;
+use crate::settings::CommandContext;
+use sd_acl::Descriptor;
+use sd_specialize::{SpecializeError, specialized_for_everyone};
+use sd_text::TextError;
+use sd_whole::{WholeAcl, WholeDescriptor};
+use sd_whole_parse::read_whole_sddl;
+use std::alloc::AllocError;
+
+/// The plain descriptor that a whole one is for the object types asked about.
+#[derive(Drop)]
+pub(crate) struct PlainForEveryone {
+    pub(crate) descriptor: Descriptor,
+    /// There is a SACL, which is left out.
+    pub(crate) left_out: bool,
+    /// An effective entry has an ObjectType.
+    pub(crate) typed: bool,
+}
+
+/// What an argument is whoever asks.
+#[derive(Drop)]
+pub(crate) enum ForEveryone {
+    Plain(PlainForEveryone),
+    /// None that is taken, and this is the answer.
+    Refused(Answer),
+}
+
+impl CommandContext<'_> {
+    /// What the argument of this name is whoever asks ([MS-DTYP] 2.5.1.1, 2.5.3.2). The only error is out of memory.
+    pub(crate) fn of_everyone(&self, name: &str, sddl: &str) -> Result<ForEveryone, AllocError>
+        ensures { IfOk result (IsOfEveryone name.now self.now.settings.now sddl.now) }
+    {
+        match read_whole_sddl(self.alloc, self.settings.aliases, sddl) {
+            Ok(descriptor) => self.for_everyone(name, &descriptor),
+            Err(TextError::Fault { fault, place }) => {
+                let answer = self.sddl_fault(name, sddl, fault, place)?;
+                Ok(ForEveryone::Refused(answer))
+            }
+            Err(TextError::Memory) => Err(AllocError),
+        }
+    }
+
+    /// What the descriptor, the argument of this name, is whoever asks.
+    fn for_everyone(
+        &self,
+        name: &str,
+        descriptor: &WholeDescriptor,
+    ) -> Result<ForEveryone, AllocError>
+        ensures { IfOk result (IsForEveryone name.now self.now.settings.now descriptor.now) }
+    {
+        match self.specialized(name, descriptor)? {
+            ForEveryone::Plain(plain) => Ok(ForEveryone::Plain(plain)),
+            ForEveryone::Refused(answer) => {
+                let left_out = has_sacl(descriptor);
+                let answer = note_left_out_sacl(self.alloc, name, left_out, answer)?;
+                Ok(ForEveryone::Refused(answer))
+            }
+        }
+    }
+
+    /// What the descriptor is, before it is noted that a SACL is left out.
+    fn specialized(
+        &self,
+        name: &str,
+        descriptor: &WholeDescriptor,
+    ) -> Result<ForEveryone, AllocError>
+        ensures { IfOk result (IsSpecialized name.now self.now.settings.now descriptor.now) }
+    {
+        if let Some(missing) = missing_dacl(self.settings, &descriptor.dacl) {
+            return Ok(ForEveryone::Refused(self.fault("nodacl", name, missing)?));
+        }
+        match self.unconditional(descriptor) {
+            Ok(plain) => Ok(ForEveryone::Plain(PlainForEveryone {
+                descriptor: plain,
+                left_out: has_sacl(descriptor),
+                typed: has_types(&descriptor.dacl),
+            })),
+            Err(SpecializeError::Fault(fault)) => {
+                Ok(ForEveryone::Refused(self.undecided(name, fault)?))
+            }
+            Err(SpecializeError::Memory) => Err(AllocError),
+        }
+    }
+
+    /// The plain descriptor that the whole one is for the object types asked about, whoever asks ([MS-DTYP] 2.5.3.2).
+    fn unconditional(&self, descriptor: &WholeDescriptor) -> Result<Descriptor, SpecializeError>
+        ensures { Gives descriptor_of result
+            (unconditional (everyone_context self.now.settings.now) descriptor.now) }
+    {
+        let (chain, principal_self) = (self.settings.chain.types(), self.settings.principal_self);
+        specialized_for_everyone(self.alloc, chain, principal_self, descriptor)
+    }
+}
+
+fn has_sacl(descriptor: &WholeDescriptor) -> bool
+    ensures { result ≡ has_sacl descriptor.now }
+{
+    !matches!(descriptor.sacl, WholeAcl::Absent)
+}
