@@ -8,3 +8,4 @@ mod Told
 mod Changes
 mod Unasked
 mod Reviewing
+mod Words

@@ -11,6 +11,7 @@ use Rattle.sd_explain.specs.declared.reason.Cause.TheVariants.{Security, NoSecur
 use Rattle.sd_explain.specs.declared.reason.Finding.{Finding}
 use Rattle.sd_explain.specs.declared.reason.Finding.TheVariants.{Allowed, Denied, NoEntry}
 use Rattle.sd_explain.specs.declared.reason.Reason.{Reason}
+use Rattle.sd_c.specs.declared.call_answer.CheckAnswer.{CheckAnswer}
 use Rattle.sd_c.specs.declared.explaining.Explained.{Explained}
 use Rattle.sd_c.specs.declared.explaining.FindingAnswer.{FindingAnswer}
 use Rattle.sd_c.specs.declared.explaining.PartAnswer.{PartAnswer}
@@ -70,6 +71,10 @@ parts_of reasons = map (λ b. part_told (part_at reasons b)) (range_with_len 0 3
 -- the reasons of a request
 abbrev pub reasons_on : RequestValue → ℕ → List (Option Reason)
 reasons_on r asked = reasons_of r.descriptor.owner (dacl_entries r.descriptor.dacl) r.mapping r.token asked
+
+-- an answer without parts
+abbrev pub unexplained : CheckAnswer → Explained
+unexplained told = record { answer = told; parts = map (λ b. no_part) (range_with_len 0 32) }
 
 abbrev pub parts_read : Result RequestValue NotRead → ℕ → List PartAnswer
 parts_read (Ok r) asked = parts_of (reason_in (reasons_on r asked))

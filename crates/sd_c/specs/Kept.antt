@@ -5,6 +5,7 @@ use Rattle.std.specs.Prelude.{if◌then◌else◌}
 use Rattle.std.specs.Arc.{arc_value}
 use Rattle.sd_acl.specs.Descriptor.{DescriptorValue, descriptor_of}
 use Rattle.sd_check.specs.Token.{TokenValue}
+use Rattle.sd_client.specs.Client.{ClientValue}
 use Rattle.sd_edit.specs.History.{History, history_of}
 use Rattle.sd_line.specs.Line.{LineOf}
 use Rattle.sd_versions.specs.Versions.{VersionsValue}
@@ -17,7 +18,7 @@ use Rattle.sd_c.specs.declared.handle.kept.Kept.TheVariants as kinds
 use Rattle.sd_c.specs.declared.mapping.Mapping.{Mapping}
 use Rattle.sd_c.specs.declared.refusal.Refusal.{Refusal}
 use Rattle.sd_c.specs.declared.stop.NotRead.{NotRead}
-use Rattle.sd_c.specs.declared.stop.NotRead.TheVariants.{DescriptorHandle, TokenHandle}
+use Rattle.sd_c.specs.declared.stop.NotRead.TheVariants.{ClientHandle, DescriptorHandle, TokenHandle}
 use Rattle.sd_c.specs.CallAnswer.{check_memory, not_read, unread}
 use Rattle.sd_c.specs.Request.{◌>>=◌, RequestValue, mapping_read}
 use Rattle.sd_c.specs.Written.{not_written, refused}
@@ -35,6 +36,10 @@ descriptor_in _ = Err DescriptorHandle
 abbrev pub token_in : Kept → Result TokenValue NotRead
 token_in (kinds.Token t) = Ok (arc_value t)
 token_in _ = Err TokenHandle
+
+abbrev pub client_in : Kept → Result ClientValue NotRead
+client_in (kinds.Client c) = Ok (arc_value c)
+client_in _ = Err ClientHandle
 
 -- of a store its published edits and those that are pending
 abbrev pub store_in : Kept → Option VersionsValue
@@ -130,7 +135,7 @@ has_one_handle _ = false
 -- what gives the same answers
 abbrev pub IsSame : Kept → Kept → Type 0
 IsSame kept other =
-    (descriptor_in other ≡ descriptor_in kept) × (token_in other ≡ token_in kept)
+    (descriptor_in other ≡ descriptor_in kept) × (token_in other ≡ token_in kept) × (client_in other ≡ client_in kept)
     × (store_in other ≡ store_in kept) × (view_in other ≡ view_in kept)
 
 -- the second handle keeps the same as the first, or is unchanged: out of memory, or one of the handles is refused

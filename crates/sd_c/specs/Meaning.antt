@@ -20,6 +20,8 @@ use Rattle.sd_edit.specs.declared.refusal.EditRefusal.TheVariants as refusals
 use Rattle.sd_whole.specs.Plain.{odd_name, odd_number}
 use Rattle.sd_whole.specs.declared.plain.OddKind.{OddKind}
 use Rattle.sd_whole.specs.declared.plain.OddKind.TheVariants as odd
+use Rattle.sd_specialize.specs.Specialize.{fault_name as specialize_fault_name, fault_number as specialize_fault_number}
+use Rattle.sd_specialize.specs.declared.fault.SpecializeFault.{SpecializeFault}
 use Rattle.sd_whole_text.specs.NoText.{no_text_name, no_text_number}
 use Rattle.sd_whole_text.specs.declared.no_text.NoText.{NoText}
 
@@ -48,6 +50,10 @@ status_text n =
     else if n == 19 then codes "a limit of the store is out of range"
     else if n == 20 then codes "a part of the descriptor has no text"
     else if n == 21 then codes "an entry of the DACL isn't plain"
+    else if n == 22 then codes "a word says nothing of a client"
+    else if n == 23 then codes "the last word has no zero byte after it"
+    else if n == 24 then codes "the object types are more than five, or not of 16 bytes"
+    else if n == 25 then codes "the DACL can't be decided for the question"
     else []
 
 -- ---- the fault with a number
@@ -142,6 +148,13 @@ abbrev pub name_or_nothing : {F : Type 0} → (F → List ℕ) → Option F → 
 name_or_nothing name (Some fault) = name fault
 name_or_nothing name None = []
 
+-- of an entry that isn't plain the name of its kind
+abbrev pub undecided_fault_name : ℕ → List ℕ
+undecided_fault_name n =
+    if n == 5 then codes "PassesDiffer"
+    else if n == 6 then codes "TooLarge"
+    else name_or_nothing odd_name (odd_kind n)
+
 abbrev pub fault_name : ℕ → ℕ → List ℕ
 fault_name status n =
     if status == 4 then name_or_nothing text_fault_name (text_fault n)
@@ -152,6 +165,7 @@ fault_name status n =
     else if status == 19 then name_or_nothing limits_error_name (limits_fault n)
     else if status == 20 then no_text_fault_name n
     else if status == 21 then name_or_nothing odd_name (odd_kind n)
+    else if status == 25 then undecided_fault_name n
     else []
 
 -- each fault that a call answers has its name at its number. Bytes have no authority of 2^48, and want of memory is a
@@ -170,3 +184,4 @@ FaultsHaveNames =
     × ((l : LimitsError) → fault_name 19 (limits_error_number l) ≡ limits_error_name l)
     × ((why : NoText) → fault_name 20 (no_text_number why) ≡ no_text_name why)
     × ((k : OddKind) → fault_name 21 (odd_number k) ≡ odd_name k)
+    × ((f : SpecializeFault) → fault_name 25 (specialize_fault_number f) ≡ specialize_fault_name f)

@@ -1,7 +1,7 @@
 //! The answers of the calls, as C takes them: by value, and as numbers.
 
 ghost use Rattle.std.specs.Prelude.{◌≡◌};
-ghost use Rattle.sd_c.specs.CallAnswer.{given, verdict_given, unread, not_read, unwritten, why_not};
+ghost use Rattle.sd_c.specs.CallAnswer.{given, verdict_given, unread, not_read, undecided_place, unwritten, why_not};
 ghost use Rattle.sd_c.specs.Length.{length_told};
 ghost use Rattle.sd_c.specs.Written.{Writes, index_of, mask_given, no_mask, not_written, refused};
 
@@ -9,6 +9,7 @@ use crate::refusal::Refusal;
 use crate::stop::{NotRead, Stop};
 use sd_check::Verdict;
 use sd_sid::Mask;
+use sd_specialize::SpecializeFault;
 use sd_whole_text::NoText;
 
 /// Success.
@@ -55,6 +56,14 @@ pub const LIMITS: u32 = 19;
 pub const NO_TEXT: u32 = 20;
 /// An entry of a DACL isn't plain; the fault is one of those of `OddKind`.
 pub const NOT_PLAIN: u32 = 21;
+/// A word says nothing of a client.
+pub const WORD: u32 = 22;
+/// The last word has no zero byte after it.
+pub const UNENDED: u32 = 23;
+/// Object types are more than five, or not of 16 bytes each.
+pub const TYPES: u32 = 24;
+/// A DACL can't be decided for a question; the fault is one of those of `SpecializeFault`.
+pub const UNDECIDED: u32 = 25;
 
 /// The answer of a check: a verdict and its mask, or which argument is invalid.
 #[repr(C)]
@@ -67,7 +76,7 @@ pub struct CheckAnswer {
     pub fault: u32,
     /// The verdict, 0 where there is none.
     pub kind: u32,
-    /// The index of the invalid group.
+    /// The index of the invalid group, word or entry, or the byte offset where a text isn't UTF-8.
     pub place: u64,
     pub mask: u32,
 }
@@ -134,6 +143,25 @@ pub(crate) fn not_read(why: NotRead) -> CheckAnswer
         NotRead::DescriptorHandle => unread(HANDLE, 1, 0, 0),
         NotRead::TokenHandle => unread(HANDLE, 8, 0, 0),
         NotRead::NewHandle => unread(HANDLE, 14, 0, 0),
+        NotRead::DomainSid(fault) => unread(SID, 18, fault.number(), 0),
+        NotRead::NoDomain => unread(DOMAIN, 18, 0, 0),
+        NotRead::WordsUtf8 { at } => unread(UTF8, 19, 0, at),
+        NotRead::Unended => unread(UNENDED, 19, 0, 0),
+        NotRead::NoWord { at } => unread(WORD, 19, 0, at),
+        NotRead::Types => unread(TYPES, 20, 0, 0),
+        NotRead::PrincipalSelf(fault) => unread(SID, 21, fault.number(), 0),
+        NotRead::ClientHandle => unread(HANDLE, 22, 0, 0),
+        NotRead::Undecided(fault) => unread(UNDECIDED, 1, fault.number(), undecided_place(fault)),
+    }
+}
+
+/// The index, from 0, of the entry that is refused, which the fault counts from 1; else 0.
+fn undecided_place(fault: SpecializeFault) -> u64
+    ensures { result ≡ undecided_place fault }
+{
+    match fault {
+        SpecializeFault::Refused(refused) => refused.entry.saturating_sub(1) as u64,
+        SpecializeFault::TooLarge => 0,
     }
 }
 

@@ -2,7 +2,7 @@
 
 ghost use Rattle.std.specs.Prelude.{◌≡◌, Ok, Err, IfErr, IfOk};
 ghost use Rattle.sd_c.specs.Explaining.{explained, parts_of, part_told, cause_number, findings_of, finding_told};
-ghost use Rattle.sd_c.specs.Explaining.{reasons_on};
+ghost use Rattle.sd_c.specs.Explaining.{reasons_on, unexplained};
 ghost use Rattle.sd_c.specs.Kept.{Stays, asked_of, kept_request};
 ghost use Rattle.sd_c.specs.Request.{RequestValue, verdict_of};
 ghost use Rattle.sd_explain.specs.Parts.{reason_in, told_verdict};
@@ -75,11 +75,11 @@ pub extern "C" fn hudarin_explain(
     ensures token { Stays token.old token.new }
 {
     let Some(first) = descriptor.take(alloc) else {
-        return unexplained(NotRead::DescriptorHandle);
+        return unexplained(not_read(NotRead::DescriptorHandle));
     };
     let Some(second) = token.take(alloc) else {
         descriptor.put(first);
-        return unexplained(NotRead::TokenHandle);
+        return unexplained(not_read(NotRead::TokenHandle));
     };
     let answer = explained_of(&first, &second, mapping, asked);
     descriptor.put(first);
@@ -95,16 +95,16 @@ fn explained_of(first: &Kept, second: &Kept, mapping: Mapping, asked: u32) -> Ex
             answer: verdict_given(explanation.verdict()),
             parts: parts_of(&explanation),
         },
-        Err(why) => unexplained(why),
+        Err(why) => unexplained(not_read(why)),
     }
 }
 
-/// The answer that says which argument is invalid.
-fn unexplained(why: NotRead) -> Explained
-    ensures { result ≡ explained (Err why) 0 }
+/// The answer without parts.
+pub(crate) fn unexplained(told: CheckAnswer) -> Explained
+    ensures { result ≡ unexplained told }
 {
     Explained {
-        answer: not_read(why),
+        answer: told,
         parts: [NO_PART; 32],
     }
 }
@@ -132,7 +132,7 @@ fn explanation_of(
 }
 
 /// The parts of an explanation, at the indices of their lowest bits.
-fn parts_of(explanation: &Explanation) -> [PartAnswer; 32]
+pub(crate) fn parts_of(explanation: &Explanation) -> [PartAnswer; 32]
     ensures { result ≡ parts_of (reason_in explanation.now.reasons) }
 {
     let mut parts = [NO_PART; 32];

@@ -13,6 +13,7 @@ mod analysis;
 mod bytes;
 mod call_answer;
 mod check;
+mod client;
 mod edits;
 mod entries;
 mod explaining;
@@ -28,6 +29,7 @@ mod nodes;
 mod not_done;
 mod over_bytes;
 mod plain;
+mod question;
 mod refusal;
 mod request;
 mod review;
@@ -38,6 +40,8 @@ mod text;
 mod version;
 mod views;
 mod whole;
+mod whole_check;
+mod whole_explaining;
 mod whole_parts;
 mod with_parts;
 
@@ -45,6 +49,7 @@ pub use analysis::{CompareAnswer, hudarin_compare, hudarin_lint, hudarin_who};
 pub use bytes::{hudarin_bytes_to_sddl, hudarin_sid_bytes_to_full_text, hudarin_sid_bytes_to_text};
 pub use call_answer::{CheckAnswer, MaskAnswer, Written};
 pub use check::hudarin_check;
+pub use client::hudarin_keep_client;
 pub use entries::{
     DaclAnswer, EntryAnswer, NoPart, SidPart, hudarin_descriptor_dacl, hudarin_descriptor_entry,
     hudarin_descriptor_group, hudarin_descriptor_owner, hudarin_descriptor_subject,
@@ -75,6 +80,8 @@ pub use text::{
 pub use version::{Version, hudarin_version};
 pub use views::{ViewAnswer, hudarin_journal_length, hudarin_view_check, hudarin_view_descriptor};
 pub use whole::{hudarin_whole_at, hudarin_whole_from_sddl};
+pub use whole_check::hudarin_check_whole;
+pub use whole_explaining::hudarin_explain_whole;
 pub use whole_parts::{
     WholeEntry, WholeListAnswer, hudarin_whole_entry, hudarin_whole_list, hudarin_whole_trustee,
 };

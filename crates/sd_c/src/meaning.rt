@@ -3,12 +3,13 @@
 ghost use Rattle.std.specs.Prelude.{◌≡◌};
 ghost use Rattle.sd_c.specs.Meaning.{FaultsHaveNames, fault_name, limits_fault, no_text_fault_name, odd_kind};
 ghost use Rattle.sd_c.specs.Meaning.{path_fault_name, refusal_of, sid_fault, status_text, text_fault, wire_fault};
+ghost use Rattle.sd_c.specs.Meaning.{undecided_fault_name};
 ghost use Rattle.sd_c.specs.Written.{Writes};
 
 use crate::call_answer::{
     BEHIND_GROUPS, DOMAIN, EDIT, HANDLE, LIMITS, MAPPING, MEMORY, NO_NODE, NO_PART, NO_TEXT,
-    NOT_PLAIN, OK, PARTS, PATH, PRIVILEGES, REFUSED, ROOM, SID, STATE, TEXT, UTF8, WIRE, Written,
-    write,
+    NOT_PLAIN, OK, PARTS, PATH, PRIVILEGES, REFUSED, ROOM, SID, STATE, TEXT, TYPES, UNDECIDED,
+    UNENDED, UTF8, WIRE, WORD, Written, write,
 };
 use sd_sid::SidError;
 use sd_text::TextFault;
@@ -63,6 +64,10 @@ fn status_text(status: u32) -> &'static str
         LIMITS => "a limit of the store is out of range",
         NO_TEXT => "a part of the descriptor has no text",
         NOT_PLAIN => "an entry of the DACL isn't plain",
+        WORD => "a word says nothing of a client",
+        UNENDED => "the last word has no zero byte after it",
+        TYPES => "the object types are more than five, or not of 16 bytes",
+        UNDECIDED => "the DACL can't be decided for the question",
         _ => "",
     }
 }
@@ -97,6 +102,7 @@ fn fault_name(status: u32, fault: u32) -> &'static str
             Some(kind) => kind.name(),
             None => "",
         },
+        UNDECIDED => undecided_fault_name(fault),
         _ => "",
     }
 }
@@ -181,6 +187,19 @@ fn odd_kind(number: u32) -> Option<OddKind>
         3 => Some(OddKind::SystemAce),
         4 => Some(OddKind::OpaqueAce),
         _ => None,
+    }
+}
+
+fn undecided_fault_name(number: u32) -> &'static str
+    ensures { result.now ≡ undecided_fault_name number }
+{
+    match number {
+        5 => "PassesDiffer",
+        6 => "TooLarge",
+        _ => match odd_kind(number) {
+            Some(kind) => kind.name(),
+            None => "",
+        },
     }
 }
 

@@ -59,7 +59,7 @@ pub(crate) fn token_of(
 }
 
 /// The SID at the front of the user's bytes.
-fn user_of(bytes: &[u8]) -> Result<Sid, NotRead>
+pub(crate) fn user_of(bytes: &[u8]) -> Result<Sid, NotRead>
     ensures { result ≡ of_user (sid_reading bytes.now) }
 {
     match read_sid(bytes) {

@@ -42,6 +42,7 @@ fn shared(alloc: Global, kept: &Kept) -> Result<Option<Box<Kept>>, AllocError>
     let second = match kept {
         Kept::Descriptor(descriptor) => Kept::Descriptor(Arc::try_clone(descriptor)?),
         Kept::Token(token) => Kept::Token(Arc::try_clone(token)?),
+        Kept::Client(client) => Kept::Client(Arc::try_clone(client)?),
         Kept::View(tree) => Kept::View(tree.share()?),
         Kept::Store(_) | Kept::Lines(_) => return Ok(None),
     };

@@ -4,10 +4,11 @@ ghost use Rattle.std.specs.Prelude.{◌≡◌};
 ghost use Rattle.sd_c.specs.declared.stop.Stop.TheVariants as stops;
 
 use sd_sid::SidError;
+use sd_specialize::SpecializeFault;
 use sd_wire::WireFault;
 use std::alloc::{AllocError, AllocFailed};
 
-/// The first invalid argument from the left, and why.
+/// The first invalid argument in the order of the call, and why.
 #[derive(Clone, Copy)]
 pub enum NotRead {
     /// The descriptor's bytes hold none.
@@ -32,6 +33,24 @@ pub enum NotRead {
     TokenHandle,
     /// The handle of a comparison's new descriptor keeps none.
     NewHandle,
+    /// The domain's bytes don't start with a SID.
+    DomainSid(SidError),
+    /// The SID at their front is no domain's.
+    NoDomain,
+    /// The words aren't UTF-8 from this byte on.
+    WordsUtf8 { at: u64 },
+    /// The last word has no zero byte after it.
+    Unended,
+    /// The word with this index says nothing of a client.
+    NoWord { at: u64 },
+    /// The client's handle keeps no client, or is in use where one is to be kept.
+    ClientHandle,
+    /// The object types are more than five, or not of 16 bytes each.
+    Types,
+    /// The bytes for PRINCIPAL SELF don't start with a SID.
+    PrincipalSelf(SidError),
+    /// The descriptor's DACL can't be decided for the question.
+    Undecided(SpecializeFault),
 }
 
 /// Why a check stops: an invalid argument, or out of memory.

@@ -2,6 +2,7 @@
 
 use sd_acl::Descriptor;
 use sd_check::Token;
+use sd_client::Client;
 use sd_line::Line;
 use sd_tree::{Shared, Tree};
 use sd_versions::Versions;
@@ -13,6 +14,7 @@ use std::sync::Arc;
 pub enum Kept {
     Descriptor(Arc<Descriptor>),
     Token(Arc<Token>),
+    Client(Arc<Client>),
     Store(Box<Versions>),
     View(Shared<Tree>),
     Lines(Vec<Line>),

@@ -1,0 +1,122 @@
+//! A question about the whole descriptor in bytes, from the arguments of a call.
+
+ghost use Rattle.std.specs.Prelude.{◌≡◌, ◌<◌, length, IfOk, IsErrOf, OnErr};
+ghost use Rattle.sd_whole.specs.Memory.{WholeTakesMemory};
+ghost use Rattle.sd_whole.specs.Reading.{whole_read};
+ghost use Rattle.sd_c.specs.Request.{Gives};
+ghost use Rattle.sd_c.specs.WholeCheck.{of_whole, question_of, self_read, terms_read, types_of, types_read};
+
+use crate::mapping::Mapping;
+use crate::request::mapping_of;
+use crate::stop::{NotRead, Stop};
+use sd_access::Question;
+use sd_client::Client;
+use sd_sid::{GenericMapping, Mask, Sid, read_sid};
+use sd_whole::{GUID_BYTES, Guid, WholeDescriptor, read_whole};
+use sd_wire::WireError;
+use std::alloc::{AllocError, Global};
+use std::marker::Model;
+
+/// The most object types: in the list of a question they have the levels 0 to 4 ([MS-DTYP] 2.5.3.2, ObjectTypeList).
+const MAX_TYPES: usize = 5;
+
+/// What is asked about, beside who asks and for which rights. Contracts see the values.
+#[derive(Drop)]
+pub(crate) struct Terms {
+    chain: Vec<Guid>,
+    principal_self: Option<Sid>,
+    mapping: GenericMapping,
+}
+
+impl Model for Terms {
+    ghost use Rattle.sd_c.specs.WholeCheck.{TermsValue};
+
+    ghost Value = { TermsValue };
+
+    ghost view = { λ t. record {
+      chain = t.chain.items;
+      principal_self = t.principal_self;
+      mapping = t.mapping;
+    } };
+}
+
+impl Terms {
+    /// The terms of the arguments: the first invalid one is refused.
+    pub(crate) fn read(
+        alloc: Global,
+        types: &[u8],
+        principal_self: &[u8],
+        mapping: Mapping,
+    ) -> Result<Terms, Stop>
+        ensures read { Gives (λ terms. terms) result (terms_read types.now principal_self.now mapping) }
+        ensures memory { IsErrOf result Stop.Memory → 0 < length types.now }
+    {
+        Ok(Terms {
+            chain: types_in(alloc, types)?,
+            principal_self: self_of(principal_self)?,
+            mapping: mapping_of(mapping)?,
+        })
+    }
+
+    /// The question of a client who asks for these rights.
+    pub(crate) fn question<'a>(&'a self, client: &'a Client, asked: u32) -> Question<'a>
+        ensures { result ≡ question_of client.entry.now self.entry.now asked }
+    {
+        Question {
+            client,
+            chain: &self.chain,
+            principal_self: self.principal_self,
+            mapping: &self.mapping,
+            asked: Mask(asked),
+        }
+    }
+}
+
+/// The whole descriptor that the bytes hold.
+pub(crate) fn whole_of(alloc: Global, bytes: &[u8]) -> Result<WholeDescriptor, Stop>
+    ensures read { Gives (λ w. w) result (of_whole (whole_read bytes.now)) }
+    ensures memory { IsErrOf result Stop.Memory → WholeTakesMemory bytes.now }
+{
+    match read_whole(alloc, bytes) {
+        Ok(descriptor) => Ok(descriptor),
+        Err(WireError::Fault(fault)) => Err(Stop::NotRead(NotRead::Descriptor(fault))),
+        Err(WireError::Memory) => Err(Stop::Memory),
+    }
+}
+
+/// The object types that the bytes are.
+fn types_in(alloc: Global, bytes: &[u8]) -> Result<Vec<Guid>, Stop>
+    ensures read { Gives (λ types. types.items) result (types_read bytes.now) }
+    ensures memory { IsErrOf result Stop.Memory → 0 < length bytes.now }
+{
+    let (parts, rest) = bytes.as_chunks::<GUID_BYTES>();
+    if !rest.is_empty() || parts.len() > MAX_TYPES {
+        return Err(Stop::NotRead(NotRead::Types));
+    }
+    Ok(types_of(alloc, parts)?)
+}
+
+/// Each part as an object type.
+fn types_of(alloc: Global, parts: &[[u8; GUID_BYTES]]) -> Result<Vec<Guid>, AllocError>
+    ensures types { IfOk result (λ types. types.items ≡ types_of parts.now) }
+    ensures memory { OnErr result (0 < length parts.now) }
+{
+    let mut types = Vec::new(alloc);
+    for part in parts {
+        types.push(Guid { bytes: *part })?;
+    }
+    Ok(types)
+}
+
+/// The SID at the front of the bytes; none without bytes.
+fn self_of(bytes: &[u8]) -> Result<Option<Sid>, NotRead>
+    ensures { result ≡ self_read bytes.now }
+{
+    if bytes.is_empty() {
+        return Ok(None);
+    }
+    match read_sid(bytes) {
+        Ok((sid, _)) => Ok(Some(sid)),
+        Err(fault) => Err(NotRead::PrincipalSelf(fault)),
+    }
+}
