@@ -104,7 +104,16 @@ typedef enum hudarin_status {
     HUDARIN_NO_TEXT = 20,
     /* An entry of a whole descriptor's DACL is no allow and no deny of a plain list: the fault is HUDARIN_NOT_PLAIN_..,
      * of the first such entry, whose index is `place`. */
-    HUDARIN_NOT_PLAIN = 21
+    HUDARIN_NOT_PLAIN = 21,
+    /* A word says nothing of a client. `place` is its index. */
+    HUDARIN_WORD = 22,
+    /* The last word has no zero byte after it. */
+    HUDARIN_UNENDED = 23,
+    /* Object types are more than five, or not of 16 bytes each. */
+    HUDARIN_TYPES = 24,
+    /* The DACL of a whole descriptor can't be decided for the question: the fault is HUDARIN_UNDECIDED_.. Of an entry
+     * it is of the first such one, whose index is `place`. */
+    HUDARIN_UNDECIDED = 25
 } hudarin_status;
 
 /* ---- Faults of a text (HUDARIN_TEXT) */
@@ -209,6 +218,20 @@ typedef enum hudarin_not_plain_fault {
     HUDARIN_NOT_PLAIN_OPAQUE_ACE = 4
 } hudarin_not_plain_fault;
 
+/* ---- Why a DACL can't be decided for a question (HUDARIN_UNDECIDED). Of entries that aren't plain the numbers are
+ * those above; the first two of them are decided, and no fault. */
+
+typedef enum hudarin_undecided_fault {
+    /* The entry's type is of SACLs. */
+    HUDARIN_UNDECIDED_SYSTEM_ACE = 3,
+    /* The entry's type has no layout, or its body doesn't have the layout of its type. */
+    HUDARIN_UNDECIDED_OPAQUE_ACE = 4,
+    /* The token is restricted, and the entry's condition lets it apply in one of the two passes alone. */
+    HUDARIN_UNDECIDED_PASSES_DIFFER = 5,
+    /* With longer SIDs in place of PRINCIPAL SELF the list takes more than 65,535 bytes. */
+    HUDARIN_UNDECIDED_TOO_LARGE = 6
+} hudarin_undecided_fault;
+
 /* ---- Arguments of a check: the number of the invalid one, in an answer's `argument` */
 
 typedef enum hudarin_argument {
@@ -233,7 +256,13 @@ typedef enum hudarin_argument {
     HUDARIN_ARGUMENT_NODES = 15,
     HUDARIN_ARGUMENT_EDITS = 16,
     /* The handle for lines. */
-    HUDARIN_ARGUMENT_LINES = 17
+    HUDARIN_ARGUMENT_LINES = 17,
+    /* Those of hudarin_keep_client and hudarin_check_whole; a client is their handle. */
+    HUDARIN_ARGUMENT_DOMAIN = 18,
+    HUDARIN_ARGUMENT_WORDS = 19,
+    HUDARIN_ARGUMENT_TYPES = 20,
+    HUDARIN_ARGUMENT_PRINCIPAL_SELF = 21,
+    HUDARIN_ARGUMENT_CLIENT = 22
 } hudarin_argument;
 
 /* ---- Verdicts */
@@ -268,7 +297,7 @@ typedef enum hudarin_cause {
     HUDARIN_CAUSE_BEYOND_ALL = 7,
     /* The bits are reserved. */
     HUDARIN_CAUSE_RESERVED = 8,
-    /* Taken by the object's integrity label. No call answers it yet: it is what the program's `why` says. */
+    /* Taken by the object's integrity label: of hudarin_explain_whole alone. */
     HUDARIN_CAUSE_LABEL = 9
 } hudarin_cause;
 
@@ -414,13 +443,14 @@ typedef struct hudarin_mapping {
 #define HUDARIN_SERVICE_MAPPING { 0x0002008du, 0x00020002u, 0x00020170u, 0x000f01ffu }
 #define HUDARIN_PROCESS_MAPPING { 0x00020410u, 0x00020beau, 0x00121001u, 0x001fffffu }
 
-/* The answer of a check, an edit, hudarin_keep_token, hudarin_who, hudarin_lint and a call that opens a store. `place`
- * is, of HUDARIN_SID and HUDARIN_STATE, the index of the group or restricting SID, from 0; of HUDARIN_BEHIND_GROUPS the
- * number of states; of HUDARIN_UTF8 the number of valid bytes at the front of the path. */
+/* The answer of a check, an edit, hudarin_keep_token, hudarin_keep_client, hudarin_who, hudarin_lint and a call that
+ * opens a store. `place` is, of HUDARIN_SID and HUDARIN_STATE, the index of the group or restricting SID, from 0; of
+ * HUDARIN_WORD and HUDARIN_UNDECIDED that of the word or entry; of HUDARIN_BEHIND_GROUPS the number of states; of
+ * HUDARIN_UTF8 the number of valid bytes at the front of the path or the words. */
 typedef struct hudarin_verdict {
     uint32_t status;   /* HUDARIN_OK, or why there is no verdict, or the edit isn't made */
     uint32_t argument; /* the invalid argument: HUDARIN_ARGUMENT_.., else 0 */
-    uint32_t fault;    /* HUDARIN_WIRE_.., _SID_.., _PATH_.., _REFUSED_.. or _LIMITS_.., else 0 */
+    uint32_t fault;    /* HUDARIN_WIRE_.., _SID_.., _PATH_.., _REFUSED_.., _LIMITS_.. or _UNDECIDED_.., else 0 */
     uint32_t kind;     /* with HUDARIN_OK the verdict: HUDARIN_GRANTED .., else 0 */
     uint64_t place;    /* as above, else 0 */
     uint32_t mask;     /* of the verdict */
@@ -449,7 +479,7 @@ typedef struct hudarin_part {
 
 /* The answer of an explanation. */
 typedef struct hudarin_explanation {
-    hudarin_verdict answer;  /* that of hudarin_check_kept */
+    hudarin_verdict answer;  /* that of hudarin_check_kept or hudarin_check_whole */
     hudarin_part parts[32];  /* at the index of each bit the part whose lowest bit it is */
 } hudarin_explanation;
 
@@ -622,6 +652,11 @@ typedef struct hudarin_descriptor {
 typedef struct hudarin_token {
     hudarin_kept kept;
 } hudarin_token;
+
+/* Keeps who asks about whole descriptors: a token, a device's groups, claims and an integrity level. */
+typedef struct hudarin_client {
+    hudarin_kept kept;
+} hudarin_client;
 
 /* Keeps a store. */
 typedef struct hudarin_store {
@@ -904,9 +939,45 @@ HUDARIN_ANSWERS hudarin_value hudarin_line_value(hudarin_lines *lines, uint64_t 
                                                  size_t name_length, uint64_t place, void *room, size_t room_length)
     HUDARIN_NONNULL(1);
 
+/*
+ * Keeps the client of the user whose SID is at the front of `user`, and of words, as of `sdstore --whole verdict`: a
+ * group (`BU`, `S-1-5-32-545=deny`), `SID=restrict`, `+security`, `+take`, a device's group (`SID=device`), an integrity
+ * level (`level=low`), a claim (`@User.Project="VP"`). `words` is UTF-8, with a zero byte after each word, also after
+ * the last one. No group is added, and of two claims with one name the first counts. SIDs may have the aliases of the
+ * domain whose SID is at the front of `domain`. If `domain_length` is 0 there is no domain. The handle is tested first;
+ * then the arguments are parsed in their order. With HUDARIN_OK the answer's `kind` and `mask` are 0.
+ */
+HUDARIN_ANSWERS hudarin_verdict hudarin_keep_client(const void *domain, size_t domain_length, const void *user,
+                                                    size_t user_length, const char *words, size_t words_length,
+                                                    hudarin_client *client)
+    HUDARIN_NONNULL(7);
+
+/*
+ * The verdict on `asked`, for the whole descriptor at the front of the bytes and a kept client, which stays: that of
+ * `sdstore --whole verdict`, by entries of every type, conditions, the claims in the SACL and its integrity label.
+ * `types` has the object types that are asked about, from the class on, of 16 bytes each as in an entry: at most five.
+ * Without one the question is about the whole object. PRINCIPAL SELF (S-1-5-10) stands for the SID at the front of
+ * `principal_self`, and for itself if `self_length` is 0. The client's handle is tested first, then the object types,
+ * the SID, the mapping and the bytes; HUDARIN_UNDECIDED comes last.
+ */
+HUDARIN_ANSWERS hudarin_verdict hudarin_check_whole(const void *descriptor, size_t descriptor_length,
+                                                    hudarin_client *client, const void *types, size_t types_length,
+                                                    const void *principal_self, size_t self_length,
+                                                    hudarin_mapping mapping, uint32_t asked)
+    HUDARIN_NONNULL(3);
+
+/* The reasons for hudarin_check_whole's verdict of the same arguments, as in hudarin_explain. An `entry` is an index of
+ * the DACL, for hudarin_whole_entry. It applies as the plain entry that it is for the question: PRINCIPAL SELF as the
+ * SID that it stands for, and OWNER RIGHTS as the owner. */
+HUDARIN_ANSWERS hudarin_explanation hudarin_explain_whole(const void *descriptor, size_t descriptor_length,
+                                                          hudarin_client *client, const void *types,
+                                                          size_t types_length, const void *principal_self,
+                                                          size_t self_length, hudarin_mapping mapping, uint32_t asked)
+    HUDARIN_NONNULL(3);
+
 /* Makes `other` another handle of what `handle` keeps, as for another thread: nothing is copied, and the object is
  * freed with its last handle. HUDARIN_HANDLE if `handle` keeps nothing, a store or lines, or `other` is in use. The
- * answer's `length` is 0. The three below do the same for each other kind. */
+ * answer's `length` is 0. The four below do the same for each other kind. */
 HUDARIN_ANSWERS hudarin_written hudarin_share(hudarin_kept *handle, hudarin_kept *other)
     HUDARIN_NONNULL(1, 2);
 
@@ -919,6 +990,12 @@ static inline HUDARIN_ANSWERS hudarin_written hudarin_descriptor_share(hudarin_d
 
 /* Another handle of a token. */
 static inline HUDARIN_ANSWERS hudarin_written hudarin_token_share(hudarin_token *handle, hudarin_token *other)
+{
+    return hudarin_share(&handle->kept, &other->kept);
+}
+
+/* Another handle of a client. */
+static inline HUDARIN_ANSWERS hudarin_written hudarin_client_share(hudarin_client *handle, hudarin_client *other)
 {
     return hudarin_share(&handle->kept, &other->kept);
 }

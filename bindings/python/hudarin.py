@@ -7,8 +7,8 @@
     (True, 'granted 0x120089')
 
 A ``Sid``, a ``Descriptor`` and a ``WholeDescriptor`` are values: they never change, and are compared, copied and
-pickled by their bytes. A ``Token``, a ``KeptDescriptor``, a ``Store`` and a ``View`` hold memory of the library until
-they are closed, and can't be copied. Any number of threads may use this module.
+pickled by their bytes. A ``Token``, a ``Client``, a ``KeptDescriptor``, a ``Store`` and a ``View`` hold memory of the
+library until they are closed, and can't be copied. Any number of threads may use this module.
 
 A value of the wrong type is a TypeError. A number out of range is a ValueError. What the library rejects is a
 ``Refused``, which is a ValueError too. Out of memory is a MemoryError.
@@ -35,6 +35,7 @@ __all__ = [
     "Access",
     "CAUSES",
     "Change",
+    "Client",
     "Comparison",
     "DENY_ONLY",
     "DISABLED",
@@ -105,6 +106,10 @@ STATUSES = {
     19: "limits",
     20: "no text",
     21: "not plain",
+    22: "word",
+    23: "unended",
+    24: "types",
+    25: "undecided",
 }
 VERDICTS = {1: "granted", 2: "denied", 3: "reserved", 4: "empty"}
 ARGUMENTS = {
@@ -125,6 +130,11 @@ ARGUMENTS = {
     15: "nodes",
     16: "edits",
     17: "lines",
+    18: "domain",
+    19: "words",
+    20: "types",
+    21: "principal self",
+    22: "client",
 }
 
 CAUSES = {
@@ -156,7 +166,7 @@ OF_OWNER, OF_GROUP, OF_DACL, OF_SACL = 0x1, 0x2, 0x4, 0x8
 
 _MAXIMUM_ALLOWED = 0x02000000
 _MEMORY, _ROOM, _TEXT, _HANDLE, _NO_NODE, _NO_PART = 1, 2, 4, 11, 16, 18
-_WITH_FAULTS = (_TEXT, 5, 6, 13, 15, 19, 20, 21)
+_WITH_FAULTS = (_TEXT, 5, 6, 13, 15, 19, 20, 21, 25)
 _CONTAINER = 1
 _LIST, _ALLOW, _PROTECTED = 3, 1, 0x1000
 _LISTS = {1: "DACL", 2: "SACL"}
@@ -340,6 +350,7 @@ def _load() -> ctypes.CDLL:
         "check": (given + token + request, _Verdict),
         "keep_bytes": (given + [kept], _Written),
         "keep_token": (token + [kept], _Verdict),
+        "keep_client": (given * 3 + [kept], _Verdict),
         "descriptor_owner": ([kept] + buffer, _Written),
         "descriptor_group": ([kept] + buffer, _Written),
         "descriptor_dacl": ([kept], _Dacl),
@@ -347,6 +358,7 @@ def _load() -> ctypes.CDLL:
         "descriptor_subject": ([kept, _U64] + buffer, _Written),
         "check_kept": ([kept, kept] + request, _Verdict),
         "check_bytes": (given + [kept] + request, _Verdict),
+        "check_whole": (given + [kept] + given * 2 + request, _Verdict),
         "explain": ([kept, kept] + request, _Explanation),
         "who": ([kept] + groups + request + [kept], _Verdict),
         "lint": ([kept] + groups + [_Mapping, kept], _Verdict),
@@ -406,7 +418,7 @@ def _fault_names(status: int) -> Iterator[str]:
 
 #: The names of faults, by status and in the order of their numbers, which count from 1: of a text (SDDL, a SID or a
 #: mask), of a descriptor's bytes, of a SID's bytes, of a path, of an edit that the tree refuses, of the limits of a
-#: store, of what has no text, and of an entry that isn't plain.
+#: store, of what has no text, of an entry that isn't plain, and of a DACL that can't be decided.
 FAULTS = {STATUSES[status]: tuple(_fault_names(status)) for status in _WITH_FAULTS}
 
 
@@ -419,7 +431,7 @@ class Refused(ValueError):
     fault: int
     #: The fault's name in ``FAULTS``, or None.
     name: Optional[str]
-    #: Of a text the offset of the fault in bytes, of groups, restricting SIDs and entries the index; otherwise 0.
+    #: Of a text the offset of the fault in bytes, of groups, restricting SIDs, words and entries the index; otherwise 0.
     place: int
     #: The name of the argument in ``ARGUMENTS``, or None. Of what has no text or isn't plain its list, "DACL" or
     #: "SACL".
@@ -802,6 +814,41 @@ class Token(_Held):
 
     def share(self) -> "Token":
         """Another token of the same user, groups and privileges, which is closed by itself."""
+        return self._share()
+
+
+def _words(words: Iterable[str]) -> bytes:
+    """Words as an argument of the library: a zero byte ends each, so none may have one."""
+    if isinstance(words, (str, bytes)):
+        raise TypeError(f"words: expected several words, not {words!r}")
+    given = [_text(word) for word in words]
+    for index, word in enumerate(given):
+        if b"\0" in word:
+            raise ValueError(f"words: the one at {index} has a zero byte")
+    return b"".join(word + b"\0" for word in given)
+
+
+class Client(_Held):
+    """Who asks about a ``WholeDescriptor``, prepared for many checks: a user, and words as those of ``sdstore --whole
+    verdict``. Each is a group, "S-1-5-32-545", "BU=deny" or "BU=off"; "BU=restrict"; "+security" or "+take"; a group of
+    the device, "BU=device"; an integrity level, "level=low"; or a claim, '@User.Project="VP"'. No group is added, and of
+    two claims with one name the first counts. With a ``domain`` the aliases of a domain's accounts and groups, as "DA",
+    are SIDs of that domain. Threads take turns at it, or use a ``share`` each."""
+
+    __slots__ = ()
+
+    _argument = "client"
+    _uncopied = "share makes another"
+
+    def __init__(self, user: Sid, words: Iterable[str] = (), domain: Optional[Sid] = None) -> None:
+        sid = b"" if domain is None else bytes(_of_type(domain, Sid, "domain"))
+        who, given = bytes(_of_type(user, Sid, "user")), _words(words)
+        with self._turn:
+            call = _library.hudarin_keep_client
+            _checked(call(sid, len(sid), who, len(who), given, len(given), self._kept))
+
+    def share(self) -> "Client":
+        """Another client of the same user and words, which is closed by itself."""
         return self._share()
 
 
@@ -1196,6 +1243,27 @@ class WholeEntry(NamedTuple):
         return struct.pack("<BBH", self.type, self.flags, 4 + len(body)) + body
 
 
+#: A type of objects, as a UUID or as its text in SDDL.
+ObjectType = Union[uuid.UUID, str]
+
+
+def _types(types: Iterable[ObjectType]) -> bytes:
+    """Object types as an argument of the library."""
+    if isinstance(types, (str, bytes)):
+        raise TypeError(f"types: expected several object types, not {types!r}")
+    return b"".join(_object_type(kind).bytes_le for kind in types)
+
+
+def _object_type(kind: object) -> uuid.UUID:
+    if not isinstance(kind, str):
+        return _of_type(kind, uuid.UUID, "types")
+    made = uuid.UUID(kind)
+    # uuid.UUID takes other spellings too.
+    if str(made) != kind.lower():
+        raise ValueError(f"types: {kind!r} is no GUID")
+    return made
+
+
 class WholeDescriptor(_Bytes):
     """A security descriptor with all that Windows writes: a SACL, entries of every type in both lists, every control
     bit. ``WholeDescriptor(data)`` is the one at the front of the bytes, which are in self-relative form; its own bytes
@@ -1262,6 +1330,28 @@ class WholeDescriptor(_Bytes):
     def sacl(self) -> Optional[Tuple[WholeEntry, ...]]:
         """The entries of the SACL in their order. None if there is no list, but an absent or a null SACL."""
         return self._entries(2)
+
+    def check(
+        self,
+        client: Client,
+        asked: Mask = 0,
+        types: Iterable[ObjectType] = (),
+        principal_self: Optional[Sid] = None,
+        mapping: Iterable[Mask] = FILES,
+    ) -> Verdict:
+        """Whether the descriptor grants ``asked`` to the client, by entries of every type, conditions, claims and the
+        integrity label. The question is about the object ``types``, at most five from the class on, or else about the
+        whole object. ``principal_self`` takes the place of PRINCIPAL SELF (S-1-5-10) in entries. A DACL that can't be
+        decided is ``Refused`` as "undecided", with the index of the entry; so is a closed client."""
+        _of_type(client, Client, "client")
+        given, who, chain = self._bytes, b"", _types(types)
+        if principal_self is not None:
+            who = bytes(_of_type(principal_self, Sid, "principal_self"))
+        request = _mapping(mapping), _mask(asked, "asked")
+        call = _library.hudarin_check_whole
+        with client._turn:
+            answer = call(given, len(given), client._kept, chain, len(chain), who, len(who), *request)
+        return _verdict(answer)
 
     def plain(self) -> Tuple[Descriptor, int]:
         """The descriptor that has the owner, the group and the DACL, and what is left out: joined by | 1 for a SACL, 2
