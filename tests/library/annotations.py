@@ -12,6 +12,7 @@ from hudarin import (
     OF_SACL,
     Access,
     Change,
+    Client,
     Comparison,
     Descriptor,
     Entry,
@@ -61,6 +62,8 @@ audits: Optional[Tuple[WholeEntry, ...]] = whole.sacl
 types: Tuple[Optional[UUID], ...] = tuple(entry.object_type for entry in joined.dacl or ())
 data: Tuple[bytes, ...] = tuple(entry.data + bytes(entry) for entry in audits or () if entry.sid == whole.owner)
 trustees: Tuple[Optional[Sid], ...] = (whole.owner, whole.group)
+with Client(user, ["BU", "level=low"], domain=user) as client:
+    whole_verdict: Verdict = whole.check(client.share(), "FR", [UUID(int=0), ""], principal_self=user, mapping=FILES)
 copied: Descriptor = Descriptor(descriptor)
 small: Store = Store(descriptor, FILES, nodes=2, edits=3)
 
@@ -100,4 +103,7 @@ store.review("/")  # type: ignore
 view.check("/a", user)  # type: ignore
 verdict.missing  # type: ignore
 WholeDescriptor.from_sddl("S:").with_parts("S:", OF_SACL)  # type: ignore
+Client(user, [user])  # type: ignore
+whole.check(token)  # type: ignore
+whole.check(client, types=[b""])  # type: ignore
 whole.sacl[0].text.lower()  # type: ignore

@@ -8,7 +8,8 @@
 /* The three before CHECK keep lines; it and those after it check, or keep something by which a check is made. */
 enum call {
     TO_BYTES, TO_SDDL, CANONICAL, LENGTH, WHOLE_BYTES, WHOLE_TEXT, WHOLE_AT, PLAIN, JOINED, TRUSTEE, ACE, SID_BYTES, SID_TEXT,
-    FULL_TEXT, MASK_TEXT, OWNER, ENTRY, SUBJECT, LINE, OBJECT, VALUE, WHO, LINT, COMPARE, CHECK, KEEP_SDDL, KEEP_BYTES, KEEP_TOKEN, SHARE
+    FULL_TEXT, MASK_TEXT, OWNER, ENTRY, SUBJECT, LINE, OBJECT, VALUE, WHO, LINT, COMPARE, CHECK, CHECK_WHOLE, KEEP_SDDL, KEEP_BYTES, KEEP_TOKEN,
+    KEEP_CLIENT, SHARE
 };
 
 /* A call, what it is given, and what it answers: what it writes, NULL where that isn't looked at, and how much; a fault of a
@@ -82,10 +83,12 @@ static const row rows[] = {
     { LINT, DOUBLED, "entry 2 (A;;FR;;;BU) repeats entry 1\nentry 2 (A;;FR;;;BU) has no effect\n", 72, 0, 0 },
     { COMPARE, CHECKED, "lost 0x2 by S-1-5-21-1-2-3-1001\n", 32, 0, 0 },
     { CHECK, CHECKED, NULL, 0, 0, 0 },
+    { CHECK_WHOLE, CHECKED, NULL, 0, 0, 0 },
     { KEEP_SDDL, CHECKED, NULL, 0, 0, 0 },
     { KEEP_SDDL, "O:DA", NULL, 0, HUDARIN_TEXT_DOMAIN_ALIAS, 2 },
     { KEEP_BYTES, CHECKED, NULL, 0, 0, 0 },
     { KEEP_TOKEN, CHECKED, NULL, 0, 0, 0 },
+    { KEEP_CLIENT, CHECKED, NULL, 0, 0, 0 },
     { SHARE, CHECKED, NULL, 0, 0, 0 },
 };
 
@@ -101,12 +104,14 @@ typedef struct loan {
 static loan lent;
 static hudarin_descriptor descriptor, changed, doubled;
 static hudarin_token token;
+static hudarin_client client;
 static hudarin_lines lines;
 /* What the call keeps, of one kind or another. */
 static union {
     hudarin_kept kept;
     hudarin_descriptor descriptor;
     hudarin_token token;
+    hudarin_client client;
     hudarin_lines lines;
 } held;
 
@@ -137,6 +142,18 @@ static hudarin_verdict keep_token(hudarin_token *handle)
     return hudarin_keep_token(lent.user, lent.user_length, lent.groups, lent.groups_length, states, 2, NULL, 0, 0, handle);
 }
 
+static hudarin_verdict keep_client(hudarin_client *handle)
+{
+    static const char words[] = "BU\0WD\0@User.Level={3, 4}";
+    return hudarin_keep_client(NULL, 0, lent.user, lent.user_length, words, sizeof words, handle);
+}
+
+static hudarin_verdict check_whole(hudarin_client *handle)
+{
+    static const unsigned char types[16] = { 1 };
+    return hudarin_check_whole(lent.bytes, lent.length, handle, types, sizeof types, NULL, 0, files, 0x80000000u);
+}
+
 static hudarin_verdict who(hudarin_lines *handle)
 {
     return hudarin_who(&descriptor, lent.groups, lent.groups_length, states, 2, files, 0x3, handle);
@@ -162,6 +179,8 @@ static void used(const row *row, outcome *it)
     }
     if (row->call == KEEP_TOKEN) {
         judged(it, hudarin_check_kept(&descriptor, &held.token, files, 0x80000000u));
+    } else if (row->call == KEEP_CLIENT) {
+        judged(it, check_whole(&held.client));
     } else if (row->call > CHECK) {
         judged(it, hudarin_check_kept(&held.descriptor, &token, files, 0x80000000u));
     }
@@ -206,9 +225,11 @@ static void made(const row *row, outcome *it)
         judged(it, hudarin_check(lent.bytes, lent.length, lent.user, lent.user_length, lent.groups, lent.groups_length, states, 2,
                                  NULL, 0, 0, files, 0x80000000u));
         break;
+    case CHECK_WHOLE: judged(it, check_whole(&client)); break;
     case KEEP_SDDL: written(it, hudarin_keep_sddl(row->text, text, &held.descriptor)); break;
     case KEEP_BYTES: written(it, hudarin_keep_bytes(lent.bytes, lent.length, &held.descriptor)); break;
     case KEEP_TOKEN: judged(it, keep_token(&held.token)); break;
+    case KEEP_CLIENT: judged(it, keep_client(&held.client)); break;
     case SHARE: written(it, hudarin_descriptor_share(&descriptor, &held.descriptor)); break;
     }
     granted = -1;
@@ -352,7 +373,7 @@ int main(void)
     HOLDS(hudarin_keep_sddl(CHECKED, sizeof CHECKED - 1, &descriptor).status == HUDARIN_OK);
     HOLDS(hudarin_keep_sddl(CHANGED, sizeof CHANGED - 1, &changed).status == HUDARIN_OK);
     HOLDS(hudarin_keep_sddl(DOUBLED, sizeof DOUBLED - 1, &doubled).status == HUDARIN_OK);
-    HOLDS(keep_token(&token).status == HUDARIN_OK && who(&lines).status == HUDARIN_OK);
+    HOLDS(keep_token(&token).status == HUDARIN_OK && keep_client(&client).status == HUDARIN_OK && who(&lines).status == HUDARIN_OK);
     HOLDS(descriptor.kept.is_there && token.kept.is_there);
     for (at = 0; at < sizeof rows / sizeof rows[0]; at++) {
         static outcome due;
@@ -368,6 +389,7 @@ int main(void)
     hudarin_free(&changed.kept);
     hudarin_free(&doubled.kept);
     hudarin_free(&token.kept);
+    hudarin_free(&client.kept);
     hudarin_free(&lines.kept);
     HOLDS(taken == 0 && refusals > 0);
     printf("%ld requests for memory were refused\n", refusals);

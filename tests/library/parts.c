@@ -200,6 +200,7 @@ static const struct {
     { HUDARIN_LIMITS, { "NoNodes", "TooManyNodes", "TooManyEdits" } },
     { HUDARIN_NO_TEXT, { "ResourceManager", "Control", "Keywords", "Opaque", "Kind", "Data" } },
     { HUDARIN_NOT_PLAIN, { "ObjectAce", "ConditionalAce", "SystemAce", "OpaqueAce" } },
+    { HUDARIN_UNDECIDED, { "ObjectAce", "ConditionalAce", "SystemAce", "OpaqueAce", "PassesDiffer", "TooLarge" } },
 };
 
 static void names(void)
@@ -220,7 +221,7 @@ static void names(void)
     WRITES(hudarin_status_text(HUDARIN_MEMORY, room, length), "out of memory", 13);
     WRITES(hudarin_status_text(HUDARIN_REFUSED, room, length), "the tree refuses the edit", 25);
     /* Each status has a text of its own, and no other number has one. */
-    for (status = 0; status <= HUDARIN_NOT_PLAIN; status++) {
+    for (status = 0; status <= HUDARIN_UNDECIDED; status++) {
         hudarin_written answer = hudarin_status_text(status, one, sizeof one);
         HOLDS(answer.status == HUDARIN_OK && answer.length > 0);
         for (before = 0; before < status; before++) {
@@ -228,7 +229,7 @@ static void names(void)
             HOLDS(earlier.length != answer.length || memcmp(one, other, (size_t)answer.length) != 0);
         }
     }
-    HOLDS(is_unwritten(hudarin_status_text(HUDARIN_NOT_PLAIN + 1, one, sizeof one), HUDARIN_OK));
+    HOLDS(is_unwritten(hudarin_status_text(HUDARIN_UNDECIDED + 1, one, sizeof one), HUDARIN_OK));
     HOLDS(is_unwritten(hudarin_status_text(UINT32_MAX, one, sizeof one), HUDARIN_OK));
 }
 
