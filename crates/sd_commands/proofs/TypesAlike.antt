@@ -1,8 +1,7 @@
 -- Where no effective entry has an ObjectType, the plain descriptor is the same for all object types.
-use Rattle.sd_commands.proofs.Cited.{Bool, List, None, Option, Some, [], ap, ap₂, arith, false, if◌then◌else◌, list_any, not, refl, true, ℕ, ◌&&◌, ◌+◌, ◌==◌, ◌∷◌, ◌≡◌, ◌||◌}
+use Rattle.sd_commands.proofs.Cited.{Bool, List, None, Option, Some, [], ap, ap₂, arith, false, if◌then◌else◌, list_any, not, refl, true, ℕ, ◌&&◌, ◌+◌, ◌∷◌, ◌≡◌, ◌||◌}
 use Rattle.std.specs.Prelude.{Err, Ok, Result, is_some}
 use Rattle.std.specs.Bool.{beq}
-use Rattle.sd_acl.specs.Dacl.{Dacl}
 use Rattle.sd_acl.specs.declared.ace.Ace.{Ace}
 use Rattle.sd_acl.specs.declared.ace.AceKind.{AceKind}
 use Rattle.sd_acl.specs.declared.descriptor.DaclOf.TheVariants.{Absent, Null, List as Entries}
@@ -19,7 +18,7 @@ use Rattle.sd_whole.specs.declared.kind.WholeKind.{WholeKind}
 use Rattle.sd_whole.specs.declared.kind.WholeKind.TheVariants as kinds
 use Rattle.sd_whole.specs.declared.types.Guid.{Guid}
 use Rattle.sd_specialize.specs.Context.{ContextValue}
-use Rattle.sd_specialize.specs.Entry.{allows_by_condition, allows_type, applies_as, deciding_for, decides, denies_by_condition, denies_type, effective_for, entry_for, other_for, plain_for, typed_for, without_part}
+use Rattle.sd_specialize.specs.Entry.{allows_by_condition, allows_type, applies_as, deciding_for, decides, denies_by_condition, denies_type, effective_for, entry_for, plain_for, typed_for, without_part}
 use Rattle.sd_specialize.specs.Everyone.{conditional_place, unless_conditional}
 use Rattle.sd_specialize.specs.Laws.{asking}
 use Rattle.sd_specialize.specs.Specialize.{entries_for, fitting, numbered, specialized_acl, ◌>>=◌}
