@@ -13,8 +13,8 @@ from table import Table, say
 _DESCRIPTION = "Reads the descriptors of file systems into scripts for sdstore, and writes changes back."
 _END = """\
 statuses: 0 done, and an answer leaves nothing out; 1 a node is skipped by read, has a finding, gains or loses rights,
-or forbids the write; 2 invalid arguments or input; 3 a read or write failed; 4 the answer, or the write, leaves nodes
-out, which rows name. The table is on standard output, messages are on standard error."""
+denies them, or forbids the write; 2 invalid arguments or input; 3 a read or write failed; 4 the answer, or the write,
+leaves nodes out, which rows name. The table is on standard output, messages are on standard error."""
 
 
 def main(words: Sequence[str] | None = None) -> int:
@@ -65,6 +65,7 @@ def _parser() -> argparse.ArgumentParser:
     lint.add_argument("script", metavar="SCRIPT")
     _add_who(command("who", commands.who, "print whom a node grants rights, of all possible users"))
     _add_find(command("find", commands.find, "print the nodes at and below a path that grant a user rights"))
+    _add_why(command("why", commands.why, "print whether a node of a volume grants a user rights, by all that it has"))
     _add_review(command("review", commands.review, "print what a script's changes grant and take away, node by node"))
     report = command("report", commands.report, "write a page of a script's folders, as they are after its changes")
     report.add_argument("script", metavar="SCRIPT")
@@ -150,6 +151,18 @@ def _add_find(find: argparse.ArgumentParser) -> None:
     find.add_argument("mask", metavar="MASK", help="rights, as sdstore takes them: FR, 0x2")
     find.add_argument("words", metavar="ARG", nargs="*", help="groups and privileges, as sdstore verdict takes them")
     _add_only_given(find)
+
+
+def _add_why(why: argparse.ArgumentParser) -> None:
+    why.add_argument("folder", metavar="FOLDER", help="the mounted folder")
+    why.add_argument("path", metavar="PATH", help="a node of it, as a script spells it: /, /plans/a%%20b")
+    why.add_argument("user", metavar="USER", help="the user's SID")
+    why.add_argument("mask", metavar="MASK", help="rights, as sdstore takes them: FR, 0x2")
+    why.add_argument(
+        "words", metavar="ARG", nargs="*", help="groups, claims and a level, as sdstore --whole why takes them"
+    )
+    _add_attribute(why)
+    _add_only_given(why)
 
 
 def _add_review(review: argparse.ArgumentParser) -> None:

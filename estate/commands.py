@@ -202,6 +202,17 @@ def find(arguments: argparse.Namespace, table: Table) -> int:
     return _answered(table, "found", plural(count, "node"), {"nodes": count}, gaps)
 
 
+def why(arguments: argparse.Namespace, table: Table) -> int:
+    """Whether a node of a volume grants a user rights, by the descriptor that the disk has, and for which reasons."""
+    with _volume(arguments.folder, arguments) as volume:
+        text = questions.text_on(volume, arguments.path)
+    assumed = questions.assumed_groups([arguments.user, *arguments.words], arguments.only_given, table)
+    words = [arguments.user, arguments.mask, *arguments.words, *assumed]
+    is_granted = questions.why(text, arguments.path, words, table)
+    text = "granted" if is_granted else "denied"
+    return _answered(table, "answered", text, {"granted": int(is_granted)}, [], 0 if is_granted else 1)
+
+
 def review(arguments: argparse.Namespace, table: Table) -> int:
     """What a script's changes grant and take away, of all possible users."""
     with read_script(arguments.script) as script:

@@ -49,11 +49,12 @@ class Kept:
 
 def kept_in(attribute: Attribute, blob: bytes) -> Kept:
     """The descriptor that the attribute holds. A ValueError says why there is none."""
-    descriptor, left_out = _whole_in(attribute, blob).plain()
+    descriptor, left_out = whole_in(attribute, blob).plain()
     return Kept(str(descriptor), bool(left_out & 1))
 
 
-def _whole_in(attribute: Attribute, blob: bytes) -> WholeDescriptor:
+def whole_in(attribute: Attribute, blob: bytes) -> WholeDescriptor:
+    """All that the descriptor of the attribute has. A ValueError says why there is none."""
     return WholeDescriptor.from_blob(blob, attribute.place_in(blob))
 
 
@@ -61,7 +62,7 @@ def replaced(attribute: Attribute, blob: bytes, before: str, after: str) -> byte
     """The attribute with the parts of the descriptor that differ between two texts, before and after a change. All else
     stays, as the SACL and what Samba keeps beside the descriptor. The texts are canonical SDDL; a ValueError says why
     the attribute has no descriptor."""
-    place, has = attribute.place_in(blob), _whole_in(attribute, blob)
+    place, has = attribute.place_in(blob), whole_in(attribute, blob)
     kept_in(attribute, blob)
     old, new = (WholeDescriptor(Descriptor.from_sddl(text)) for text in (before, after))
     changed = sum(part for part in (OF_OWNER, OF_GROUP, OF_DACL) if old.with_parts(new, part) != old)

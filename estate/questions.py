@@ -13,9 +13,11 @@ from typing import Any
 from hudarin import Refused, Sid
 
 from errors import Failed, Invalid
+from forms import whole_in
 from paths import Path, parsed, spelled
 from script import Script
 from table import Table
+from volumes import Volume, text_of
 
 #: Where the program is: of a checkout what ./sdstore builds, of an installation the one beside this.
 _HERE = File(__file__).resolve().parent
@@ -98,12 +100,14 @@ def findings_of(texts: Iterable[str]) -> dict[str, list[str]]:
 #: What a file server gives each authenticated user, Everyone and Authenticated Users; and Anonymous, who is none.
 _ASSUMED = ("S-1-1-0", "S-1-5-11")
 _ANONYMOUS = "S-1-5-7"
+#: The states of a SID that is no group of the user.
+_OF_OTHERS = ("restrict", "device")
 
 
 def assumed_groups(words: list[str], only_given: bool, table: Table) -> list[str]:
     """The groups that a user of these arguments has on a file server besides, and a row that says so: none of
     Anonymous, and none that an argument has already, as one for denies alone."""
-    sids = [_full(sid) for sid, _, state in (word.partition("=") for word in words) if state != "restrict"]
+    sids = [_full(sid) for sid, _, state in (word.partition("=") for word in words) if state not in _OF_OTHERS]
     assumed = [] if only_given or _ANONYMOUS in sids else [sid for sid in _ASSUMED if sid not in sids]
     table.row("assumed", {"groups": " ".join(assumed) or "none"})
     return assumed
@@ -218,11 +222,43 @@ def find(script: Script, path_text: str, words: list[str], table: Table) -> int:
 
 def node_of(script: Script, path_text: str) -> Path:
     """The path that the text spells, of a node of the script."""
-    try:
-        path = parsed(path_text)
-    except ValueError as error:
-        raise Invalid(f"{path_text}: {error}") from error
+    path = _path_of(path_text)
     if path not in script.nodes:
         whys = [gap.why for gap in script.gaps if gap.what == "skipped" and path[: len(gap.path)] == gap.path]
         raise Invalid(f"{path_text}: the script has no such node{''.join(f': {why}' for why in whys)}")
     return path
+
+
+def _path_of(text: str) -> Path:
+    try:
+        return parsed(text)
+    except ValueError as error:
+        raise Invalid(f"{text}: {error}") from error
+
+
+# Whether a node of a volume grants a user rights
+
+
+def text_on(volume: Volume, path_text: str) -> str:
+    """All that the descriptor of a node of the volume has, in SDDL. The bits of its header that have no text decide
+    nothing."""
+    path = _path_of(path_text)
+    try:
+        with volume.node(path) as node:
+            return whole_in(volume.attribute, node.read()).without_bits()[0]
+    except OSError as error:
+        raise Failed(f"{path_text}: {text_of(error)}") from error
+    except ValueError as error:
+        raise Invalid(f"{path_text}: its descriptor isn't supported: {error}") from error
+
+
+def why(descriptor: str, path_text: str, words: list[str], table: Table) -> bool:
+    """A row for each line of `sdstore --whole why` about the descriptor of a node, and whether the rights are granted:
+    by object entries, conditions and the label too."""
+    lines = _ran(["--whole", "--stdin", "why", "--", *words], [descriptor]).splitlines()
+    verdict = lines[0].split(" ")[0] if lines else ""
+    if verdict not in ("granted", "denied"):
+        raise Invalid(f"sdstore why: {' '.join(lines)}")
+    for line in lines:
+        table.row("why", {"path": spelled(_path_of(path_text)), "reason": line})
+    return verdict == "granted"
