@@ -10,12 +10,13 @@ import shlex
 import sys
 import uuid
 from pathlib import Path
-from typing import Any, Callable, Dict, List, Optional, Tuple
+from typing import Any, Dict, List, Optional, Tuple
 
 TOP = Path(__file__).resolve().parents[2]
 sys.path[:0] = [str(TOP / "tests"), str(TOP / "bindings/python")]
 
 from hudarin import FILES, Client, Refused, Sid, Token, WholeDescriptor, mask  # noqa: E402
+from objects import refused  # noqa: E402
 from tally import close, gives, holds, raises  # noqa: E402
 
 USER = Sid.from_text("S-1-5-21-1-2-3-1001")
@@ -68,15 +69,6 @@ def rows(path: str) -> None:
             asked += 1
             gives(f"{name}:{number}", lines[number].partition(" ")[2], lambda: answered(options, *words))
     holds(name, asked > 140, f"{asked} rows are asked")
-
-
-def refused(call: Callable[[], Any]) -> Optional[Tuple[Any, ...]]:
-    """What the call is refused with."""
-    try:
-        call()
-    except Refused as e:
-        return e.status, e.fault, e.name, e.place, e.argument
-    return None
 
 
 def clients() -> None:
