@@ -61,6 +61,15 @@ pub const NO_LONGER_PROTECTED: LineForm = (
 
 pub const NOW_PROTECTED: LineForm = ("now protected", "inheritance: is protected, was not");
 
+// The integrity label.
+pub const LABEL_CHANGED: LineForm = ("label", "label: was {was}, is {is}");
+
+// What an answer leaves out.
+pub const WHOLE_ALONE: LineForm = (
+    "whole object alone",
+    "of the whole object alone: object types are left out",
+);
+
 // What is doubtful.
 pub const NO_DACL: LineForm = ("no DACL", "no DACL grants everything");
 
