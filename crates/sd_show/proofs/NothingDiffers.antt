@@ -1,10 +1,10 @@
 -- Where nothing differs, `diff` has no line.
-use Rattle.std.proofs.Common.{inl, inr, Bool, List, None, Option, Some, [], ap, arith, false, get_or, length, map, refl, suc, take, true, zero, ℕ, ◌&&◌, ◌+◌, ◌<◌, ◌==◌, ◌≡◌, ◌≤◌, ◌∙◌, ◌∷◌}
+use Rattle.std.proofs.Common.{inl, inr, Bool, List, None, Option, Some, [], ap, arith, false, get_or, length, map, refl, subst, suc, take, true, zero, ℕ, ◌&&◌, ◌+◌, ◌<◌, ◌==◌, ◌≡◌, ◌≤◌, ◌∙◌, ◌∷◌}
 use Rattle.std.proofs.lemmas.Bool.{and_parts, cases_Bool, eq-eqb, eqb-true, lt-ltb}
 use Rattle.std.proofs.lemmas.List.Sums.{position_or_len_is}
 use Rattle.std.proofs.lemmas.Option.{get_or_from_slice_get, slice_get-map}
 use Rattle.std.proofs.lemmas.Slice.Eq.{bytes_eq-Decides}
-use Rattle.std.specs.Bool.{beq}
+use Rattle.std.specs.Bool.{Decides, beq}
 use Rattle.std.specs.List.{count_by, flat_map, position, slice_get}
 use Rattle.std.specs.Option.{option_map}
 use Rattle.std.specs.Str.{bytes_eq}
@@ -59,6 +59,9 @@ entry_itself (Typed e) =
     both _ _ (both _ _ (both _ _ (both _ _ (both _ _ (both _ _ (itself (kind_number e.kind)) (itself e.flags.0)) (itself e.mask))
     (guid_itself e.types.object)) (guid_itself e.types.inherited)) (same_sid-itself e.sid)) (text_itself e.trailing)
 entry_itself (Opaque e) = both _ _ (both _ _ (itself e.kind) (itself e.flags.0)) (text_itself e.body)
+
+pub same_entry_decides : (a b : WholeAce) → Decides (same_entry a b) (a ≡ b)
+same_entry_decides a b = (same_entries a b, λ one. subst (λ e. same_entry a e ≡ true) one (entry_itself a))
 
 -- ---- an entry's partner in its own list is itself
 

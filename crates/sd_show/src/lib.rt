@@ -23,4 +23,5 @@ mod show;
 
 pub use diff::diff_lines;
 pub use laws::{alike_has_no_line, no_line_means_alike};
+pub use same::same_acl;
 pub use show::show_lines;

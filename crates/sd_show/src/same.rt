@@ -1,11 +1,46 @@
-//! Whether two entries are equal in all that they have.
+//! Whether two entries, or two lists, are equal in all that they have.
 
 ghost use Rattle.std.specs.Prelude.{◌≡◌};
+ghost use Rattle.std.specs.Bool.{Decides};
 ghost use Rattle.sd_show.specs.Same.{same_entry, same_guid, same_opaque, same_plain, same_typed};
 
 use bitflags::Flags;
 use sd_acl::Ace;
-use sd_whole::{Guid, OpaqueAce, TypedAce, WholeAce};
+use sd_whole::{Guid, OpaqueAce, TypedAce, WholeAce, WholeAcl};
+
+/// Whether both are absent, both null, or both lists of the same revision with the same entries in the same order.
+pub fn same_acl(one: &WholeAcl, other: &WholeAcl) -> bool
+    ensures { Decides result (one.now ≡ other.now) }
+{
+    match (one, other) {
+        (WholeAcl::Absent, WholeAcl::Absent) | (WholeAcl::Null, WholeAcl::Null) => true,
+        (WholeAcl::List(one), WholeAcl::List(other)) => {
+            one.revision() == other.revision() && same_entries(one.entries(), other.entries())
+        }
+        _ => false,
+    }
+}
+
+fn same_entries(one: &[WholeAce], other: &[WholeAce]) -> bool
+    ensures { Decides result (one.now ≡ other.now) }
+{
+    if one.len() != other.len() {
+        return false;
+    }
+    for (i, entry) in one.iter().enumerate() {
+        if !is_one(entry, &other[i]) {
+            return false;
+        }
+    }
+    true
+}
+
+#[tactic(auto, using(crate::proofs::NothingDiffers::same_entry_decides))]
+fn is_one(entry: &WholeAce, other: &WholeAce) -> bool
+    ensures { Decides result (entry.now ≡ other.now) }
+{
+    same_entry(entry, other)
+}
 
 /// Whether both have the same type, flags, mask, object types, SID and data.
 pub(crate) fn same_entry(one: &WholeAce, other: &WholeAce) -> bool
