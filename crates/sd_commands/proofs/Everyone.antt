@@ -1,5 +1,5 @@
 -- What is answered of a whole descriptor whoever asks, by what the code finds of it.
-use Rattle.sd_commands.proofs.Cited.{Bool, List, None, Option, Some, answer_of, descriptor_of, inl, inr, subst, sym, ℕ, ◌≡◌}
+use Rattle.sd_commands.proofs.Cited.{List, None, Option, Some, descriptor_of, inl, inr, subst, sym, ℕ, ◌≡◌}
 use Rattle.std.specs.Prelude.{Err, Ok, Result}
 use Rattle.sd_acl.specs.Descriptor.{DescriptorValue}
 use Rattle.sd_specialize.specs.Everyone.{unconditional}
@@ -7,9 +7,9 @@ use Rattle.sd_specialize.specs.declared.fault.SpecializeFault.{SpecializeFault}
 use Rattle.sd_whole.specs.Plain.{has_sacl}
 use Rattle.sd_whole.specs.declared.descriptor.WholeDescriptor.{WholeDescriptor}
 use Rattle.sd_whole_parse.specs.Part.{IsWhole}
-use Rattle.sd_commands.specs.Answer.{AnswerValue, AnswersFit, IsNoted}
+use Rattle.sd_commands.specs.Answer.{AnswerValue, AnswersFit, IsTold}
+use Rattle.sd_commands.specs.Diagnostic.{sacl_note}
 use Rattle.sd_commands.specs.ForEveryone.{AnswersOfEveryone, AnswersSpecialized, IsForEveryone, IsOfEveryone}
-use Rattle.sd_commands.specs.ObjectTypes.{has_types}
 use Rattle.sd_commands.specs.Required.{missing_dacl}
 use Rattle.sd_commands.specs.WholeVerdict.{everyone_context}
 use Rattle.sd_commands.specs.declared.for_everyone.ForEveryone.{ForEveryone}
@@ -34,36 +34,36 @@ module _ (argument : List ℕ) (Answers : DescriptorValue → AnswerValue → Ty
       subst (λ m. AnswersFit argument m (AnswersSpecialized argument found Answers) answer) (sym is_there)
       (subst (λ f. AnswersSpecialized argument f Answers answer) (sym is_plain) said)
 
-module _ (argument : List ℕ) (settings : Settings) (text : List ℕ) (Answers : Bool → DescriptorValue → AnswerValue → Type 0) (answer : AnswerValue) where
-  pub refused : AnswersOfEveryone argument settings text (λ typed plain other. ⊥) answer → AnswersOfEveryone argument settings text Answers answer
+module _ (argument what : List ℕ) (settings : Settings) (text : List ℕ) (Answers : WholeDescriptor → DescriptorValue → AnswerValue → Type 0) (answer : AnswerValue) where
+  pub refused : AnswersOfEveryone argument what settings text (λ whole plain other. ⊥) answer → AnswersOfEveryone argument what settings text Answers answer
   refused (inl (d, is, (inner, noted, said))) = inl (
     d,
     is,
     (
       inner,
       noted,
-      refused_fit argument (Answers (has_types d.dacl)) inner (missing_dacl settings.require_dacl d.dacl) (unconditional (everyone_context settings) d) said,
+      refused_fit argument (Answers d) inner (missing_dacl settings.require_dacl d.dacl) (unconditional (everyone_context settings) d) said,
     ),
   )
   refused (inr fault) = inr fault
 
-  pub taken : (plain : PlainForEveryone) (inner : AnswerValue) → IsOfEveryone argument settings text (Plain plain)
-      → Answers plain.typed (descriptor_of plain.descriptor) inner → IsNoted argument plain.left_out inner answer
-      → AnswersOfEveryone argument settings text Answers answer
-  taken plain inner (d, is, (is_there, is_plain, left_out, typed)) said noted = inl (
+  pub taken : (plain : PlainForEveryone) (inner : AnswerValue) → IsOfEveryone argument what settings text (Plain plain)
+      → Answers plain.whole (descriptor_of plain.descriptor) inner → IsTold (sacl_note argument what (has_sacl plain.whole)) inner answer
+      → AnswersOfEveryone argument what settings text Answers answer
+  taken plain inner (d, is, (is_there, is_plain, one)) said noted = inl (
     d,
     is,
     (
       inner,
-      subst (λ left. IsNoted argument left inner answer) left_out noted,
-      fits argument (Answers (has_types d.dacl)) inner (missing_dacl settings.require_dacl d.dacl) (unconditional (everyone_context settings) d)
+      subst (λ whole. IsTold (sacl_note argument what (has_sacl whole)) inner answer) one noted,
+      fits argument (Answers d) inner (missing_dacl settings.require_dacl d.dacl) (unconditional (everyone_context settings) d)
           (descriptor_of plain.descriptor) is_there is_plain
-          (subst (λ of_types. Answers of_types (descriptor_of plain.descriptor) inner) typed said),
+          (subst (λ whole. Answers whole (descriptor_of plain.descriptor) inner) one said),
     ),
   )
 
 -- what the code finds of the descriptor that the text is
-pub of_text : (argument : List ℕ) (settings : Settings) (text : List ℕ) (d : WholeDescriptor) → IsWhole settings.aliases text d
-    → (given : ForEveryone) → IsForEveryone argument settings d given → IsOfEveryone argument settings text given
-of_text argument settings text d is (Plain plain) found = (d, is, found)
-of_text argument settings text d is (Refused answer) said = inl (d, is, said)
+pub of_text : (argument what : List ℕ) (settings : Settings) (text : List ℕ) (d : WholeDescriptor) → IsWhole settings.aliases text d
+    → (given : ForEveryone) → IsForEveryone argument what settings d given → IsOfEveryone argument what settings text given
+of_text argument what settings text d is (Plain plain) found = (d, is, found)
+of_text argument what settings text d is (Refused answer) said = inl (d, is, said)

@@ -11,6 +11,7 @@ use Rattle.sd_analysis.specs.declared.descendants_who.DescendantAccess.{Descenda
 use Rattle.sd_analysis.specs.declared.who_has.Access.{Access}
 use Rattle.sd_answer.specs.Descendants.{descendants_who_lines}
 use Rattle.sd_answer.specs.Parts.{entries_in}
+use Rattle.sd_answer.specs.Who.{rights_asked, who_lines}
 use Rattle.sd_line.specs.Line.{LineOf}
 use Rattle.sd_commands.specs.declared.settings.Settings.{Settings}
 
@@ -32,3 +33,10 @@ AreBelowLines settings d base rights lines = MatchBool settings.below
 -- the object's own lines, and then those; none where no right is asked about
 abbrev pub with_below : List LineOf → List LineOf → List LineOf
 with_below own below = if length own == 0 then [] else own ++ below
+
+-- the lines of whom the rights are granted to
+abbrev pub AreWhoLines : Settings → ℕ → DescriptorValue → List (SidValue × GroupState) → List LineOf → Type 0
+AreWhoLines settings asked d base lines = (accesses : List Access) × (below : List LineOf)
+    × AreAccesses settings.mapping d base (rights_asked settings.mapping asked) accesses
+    × AreBelowLines settings d base (rights_asked settings.mapping asked) below
+    × (lines ≡ with_below (who_lines accesses) below)

@@ -11,7 +11,7 @@ use Rattle.sd_line.specs.declared.line.Value.{Value}
 use Rattle.sd_line.specs.declared.line.Value.TheVariants as values
 use Rattle.sd_answer.specs.VerdictLines.{fault_line}
 use Rattle.sd_answer.specs.declared.forms.TheConstants.{FAULT_NAMED}
-use Rattle.sd_commands.specs.Diagnostic.{fault_text, sacl_note, told_line}
+use Rattle.sd_commands.specs.Diagnostic.{all_left_out, fault_text, sacl_note, told_line}
 use Rattle.sd_commands.specs.declared.command_answer.Answer.{Answer}
 use Rattle.sd_commands.specs.declared.command_answer.Outcome.{Outcome}
 use Rattle.sd_commands.specs.declared.command_answer.Outcome.TheVariants.{Done, Refused, Fault}
@@ -68,6 +68,16 @@ AreDone lines = IsAnswer lines [] Done
 abbrev pub IsDone : LineOf → AnswerValue → Type 0
 IsDone line = AreDone (line ∷ [])
 
+-- these are the lines, and after them what is left out: nothing, or not all that was asked for was done
+abbrev pub AreDoneBut : (left_out : List LineOf) → List LineOf → AnswerValue → Type 0
+AreDoneBut [] lines = AreDone lines
+AreDoneBut (line ∷ left_out) lines = IsAnswer (lines ++ line ∷ left_out) [] Refused
+
+-- these are the lines of what was found; or this one, where nothing was
+abbrev pub IsFound : (nothing : LineOf) → List LineOf → AnswerValue → Type 0
+IsFound nothing [] = IsDone nothing
+IsFound nothing (line ∷ lines) = IsAnswer (line ∷ lines) [] Refused
+
 -- this line of a fault is the answer, and standard error says this of it
 abbrev pub IsFault : LineOf → List ℕ → AnswerValue → Type 0
 IsFault line told = IsAnswer (line ∷ []) told Fault
@@ -91,17 +101,16 @@ AnswersFit argument (Some missing) Answers answer = IsMissingDacl argument missi
 abbrev pub descriptor_line : DescriptorValue → LineOf
 descriptor_line d = value_line (values.Descriptor d)
 
--- ---- what is left out
+-- ---- what standard error says beside an answer
 
 -- the other answer, and before what else standard error says, this
 unfoldable pub IsTold : List ℕ → AnswerValue → AnswerValue → Type 0
 IsTold note inner answer = answer ≡ record inner { told = note ++ inner.told }
 
--- the other answer, and where a SACL was left out, standard error says that first
-unfoldable pub IsNoted : List ℕ → Bool → AnswerValue → AnswerValue → Type 0
-IsNoted argument left_out inner answer = answer ≡ record inner { told = sacl_note argument left_out ++ inner.told }
-
 -- what is answered otherwise, with that
+abbrev pub Telling : List ℕ → (AnswerValue → Type 0) → AnswerValue → Type 0
+Telling note Answers answer = (inner : AnswerValue) × IsTold note inner answer × Answers inner
+
+-- what is answered otherwise, and where a SACL was left out, that
 abbrev pub Noting : List ℕ → Bool → (AnswerValue → Type 0) → AnswerValue → Type 0
-Noting argument left_out Answers answer =
-    (inner : AnswerValue) × IsNoted argument left_out inner answer × Answers inner
+Noting argument left_out = Telling (sacl_note argument all_left_out left_out)

@@ -1,7 +1,7 @@
 -- What a command about a descriptor answers, and whether it did what was asked for. The arguments are read from left to
 -- right, and the answer is the fault of the first that is invalid.
 use Rattle.std.specs.Prelude.{◌≡◌, ◌⊎◌, ℕ, Bool, ◌&&◌, ◌||◌, MatchBool, List, [], ◌∷◌, ◌++◌, codes, Some, None, drop}
-use Rattle.std.specs.Prelude.{slice_get, Result, Ok, Err}
+use Rattle.std.specs.Prelude.{slice_get}
 use Rattle.std.specs.Option.{option_map_or}
 use Rattle.std.specs.Borrow.{Bor}
 use Rattle.hex.specs.Hex.{encode_lower}
@@ -25,7 +25,6 @@ use Rattle.sd_analysis.specs.Compare.{AreGains}
 use Rattle.sd_analysis.specs.Descendants.{AreDescendantChanges}
 use Rattle.sd_analysis.specs.declared.descendants_compare.DescendantChange.{DescendantChange}
 use Rattle.sd_analysis.specs.declared.compare_report.Change.{Change}
-use Rattle.sd_analysis.specs.declared.who_has.Access.{Access}
 use Rattle.sd_check.specs.declared.token.GroupState.{GroupState}
 use Rattle.sd_answer.specs.Compare.{gains_and_losses}
 use Rattle.sd_answer.specs.Descendants.{descendants_lines, inheritance_lines}
@@ -33,23 +32,23 @@ use Rattle.sd_answer.specs.Lint.{AreFindings}
 use Rattle.sd_line.specs.Mask.{IsMaskErrorIn, IsMaskIn}
 use Rattle.sd_answer.specs.Parts.{entries_in, parts_in}
 use Rattle.sd_line.specs.Rights.{rights_line}
-use Rattle.sd_answer.specs.Who.{rights_asked, who_lines}
 use Rattle.sd_answer.specs.Why.{why_lines}
 use Rattle.sd_answer.specs.Word.{AreGroups, IsFirstNoGroup, IsFirstNoWord, IsToken, texts}
-use Rattle.sd_commands.specs.Analysis.{AreAccesses, AreBelowLines, with_below}
+use Rattle.sd_commands.specs.Analysis.{AreWhoLines}
 use Rattle.sd_commands.specs.Logon.{fits_logon, words_for}
 use Rattle.sd_commands.specs.Object.{leaves_out, looked_at}
-use Rattle.sd_commands.specs.ObjectTypes.{NotingTypes, is_of_whole}
+use Rattle.sd_commands.specs.Labels.{label_changes}
+use Rattle.sd_commands.specs.ObjectTypes.{ChangeHasTypes, NotingTypes, has_types, is_of_whole}
 use Rattle.sd_commands.specs.Required.{missing_dacl}
 use Rattle.sd_usage.specs.declared.row.TextCommand.{TextCommand}
 use Rattle.sd_usage.specs.declared.row.TextCommand.TheVariants as questions
 use Rattle.sd_commands.specs.Risks.{risk_lines}
 use Rattle.sd_commands.specs.Sort.{move_notes, sorted_descriptor}
-use Rattle.sd_commands.specs.Diagnostic.{object_note, sddl_fault_text, told_line, word_argument, IsStateReason}
-use Rattle.sd_commands.specs.Diagnostic.{IsWordReason}
+use Rattle.sd_commands.specs.Diagnostic.{all_but_label, all_left_out, object_note, sddl_fault_text, told_line}
+use Rattle.sd_commands.specs.Diagnostic.{word_argument, IsStateReason, IsWordReason}
 use Rattle.sd_usage.specs.declared.row.DescriptorCommand.{DescriptorCommand}
 use Rattle.sd_usage.specs.declared.row.DescriptorCommand.TheVariants as about
-use Rattle.sd_commands.specs.declared.command_answer.Outcome.TheVariants.{Done, Refused}
+use Rattle.sd_commands.specs.declared.command_answer.Outcome.TheVariants.{Done}
 use Rattle.sd_commands.specs.declared.descriptor.Given.{Given}
 use Rattle.sd_commands.specs.declared.descriptor.Given.TheVariants as givens
 use Rattle.sd_commands.specs.declared.settings.Settings.{Settings}
@@ -57,8 +56,8 @@ use Rattle.sd_commands.specs.declared.verdict.Form.{Form}
 use Rattle.sd_commands.specs.declared.verdict.Subject.{Subject}
 use Rattle.sd_commands.specs.declared.verdict.Subject.TheVariants as subjects
 use Rattle.sd_commands.specs.declared.verdict.Form.TheVariants.{Short, Explained}
-use Rattle.sd_commands.specs.Answer.{value_line, AnswerValue, answer_of, IsAnswer, AreDone, IsDone, IsFault}
-use Rattle.sd_commands.specs.Answer.{AnswersFit, IsFaultOf, Noting, IsMissingDacl, descriptor_line}
+use Rattle.sd_commands.specs.Answer.{value_line, AnswerValue, answer_of, IsAnswer, AreDone, AreDoneBut, IsDone, IsFault}
+use Rattle.sd_commands.specs.Answer.{AnswersFit, IsFaultOf, IsFound, Noting, Telling, IsMissingDacl, descriptor_line}
 use Rattle.sd_commands.specs.Chain.{types_of}
 use Rattle.sd_commands.specs.ForEveryone.{AnswersOfEveryone}
 use Rattle.sd_commands.specs.FromBinary.{AnswersFromBinary}
@@ -97,15 +96,6 @@ abbrev pub argument : List (Bor (List ℕ)) → ℕ → List ℕ
 argument arguments place = option_map_or (λ text. text.now) (slice_get arguments place) []
 
 -- ---- a descriptor's text
-
--- the other answer, and where OI or CI of entries were left out, standard error says that first
-unfoldable pub IsObjectNoted : Bool → AnswerValue → AnswerValue → Type 0
-IsObjectNoted left_out inner answer = answer ≡ record inner { told = object_note left_out ++ inner.told }
-
--- what is answered otherwise, with that
-abbrev pub NotingObject : Bool → (AnswerValue → Type 0) → AnswerValue → Type 0
-NotingObject left_out Answers answer =
-    (inner : AnswerValue) × IsObjectNoted left_out inner answer × Answers inner
 
 -- the argument of this name has an entry that no question takes
 abbrev pub IsEntryFault : List ℕ → OddEntry → AnswerValue → Type 0
@@ -243,13 +233,15 @@ AnswersOfBase settings words Answers answer =
     ((base : List (SidValue × GroupState)) × AreGroups settings.aliases (texts words) base × Answers base answer)
     ⊎ IsGroupFault settings words answer
 
--- whom the rights are granted to
-abbrev pub PrintsWho : Settings → ℕ → DescriptorValue → List (SidValue × GroupState) → AnswerValue → Type 0
-PrintsWho settings asked d base answer =
-    (accesses : List Access) × (below : List LineOf)
-    × AreAccesses settings.mapping d base (rights_asked settings.mapping asked) accesses
-    × AreBelowLines settings d base (rights_asked settings.mapping asked) below
-    × AreDone (with_below (who_lines accesses) below) answer
+-- whom the rights are granted to, and what of it is left out
+abbrev pub PrintsWho : Settings → List LineOf → ℕ → DescriptorValue → List (SidValue × GroupState) → AnswerValue
+    → Type 0
+PrintsWho settings left_out asked d base answer =
+    (lines : List LineOf) × AreWhoLines settings asked d base lines × AreDoneBut left_out lines answer
+
+abbrev pub AnswersWho : Settings → List LineOf → List (Bor (List ℕ)) → DescriptorValue → AnswerValue → Type 0
+AnswersWho settings left_out arguments d = AnswersOfMask settings (argument arguments 0)
+    (λ asked. AnswersOfBase settings (drop 1 arguments) (PrintsWho settings left_out asked d))
 
 -- what tokens gain and lose of the object itself
 abbrev pub AreOwnChanges : Settings → DescriptorValue → DescriptorValue → List (SidValue × GroupState) → List LineOf
@@ -268,25 +260,21 @@ AreDescendantLines settings old new base lines =
     × AreDescendantChanges settings.mapping base (entries_in old.dacl) (entries_in new.dacl) changes
     × (lines ≡ descendants_lines changes)
 
--- what was found, or that there is nothing
-abbrev pub IsFound : LineOf → List LineOf → AnswerValue → Type 0
-IsFound nothing [] answer = IsDone nothing answer
-IsFound nothing (line ∷ lines) answer = IsAnswer (line ∷ lines) [] Refused answer
-
--- what tokens gain and lose, and whether the list inherits where it did not; or that nothing of it changes
-abbrev pub PrintsComparison : Settings → DescriptorValue → DescriptorValue → List (SidValue × GroupState) → AnswerValue
-    → Type 0
-PrintsComparison settings old new base answer =
+-- what tokens gain and lose, whether the list inherits where it did not, and these lines; or that nothing of it changes
+abbrev pub PrintsComparison : Settings → List LineOf → DescriptorValue → DescriptorValue
+    → List (SidValue × GroupState) → AnswerValue → Type 0
+PrintsComparison settings last old new base answer =
     (own : List LineOf) × (below : List LineOf) × AreOwnChanges settings old new base own
     × AreDescendantLines settings old new base below
-    × IsFound (line_of (form SAME) []) ((own ++ below) ++ inheritance_lines old.protected new.protected) answer
+    × IsFound (line_of (form SAME) [])
+    (((own ++ below) ++ inheritance_lines old.protected new.protected) ++ last) answer
 
 -- what tokens gain and lose by the descriptors as they are looked at, and whether something was left out of them
-abbrev pub AnswersComparison : Settings → DescriptorValue → DescriptorValue → List (SidValue × GroupState)
-    → AnswerValue → Type 0
-AnswersComparison settings old new base =
-    NotingObject (leaves_out settings.object old || leaves_out settings.object new)
-    (PrintsComparison settings (looked_at settings.object old) (looked_at settings.object new) base)
+abbrev pub AnswersComparison : Settings → List LineOf → DescriptorValue → DescriptorValue
+    → List (SidValue × GroupState) → AnswerValue → Type 0
+AnswersComparison settings last old new base =
+    Telling (object_note (leaves_out settings.object old || leaves_out settings.object new))
+    (PrintsComparison settings last (looked_at settings.object old) (looked_at settings.object new) base)
 
 -- ---- findings
 
@@ -298,7 +286,7 @@ PrintsFindings settings d base answer = (lines : List LineOf) × AreFindings set
 -- the findings in the descriptor as it is looked at, and whether something was left out of it
 abbrev pub AnswersFindings : Settings → DescriptorValue → List (SidValue × GroupState) → AnswerValue → Type 0
 AnswersFindings settings d base =
-    NotingObject (leaves_out settings.object d) (PrintsFindings settings (looked_at settings.object d) base)
+    Telling (object_note (leaves_out settings.object d)) (PrintsFindings settings (looked_at settings.object d) base)
 
 -- ---- whole descriptors in words
 
@@ -334,10 +322,9 @@ AnswersSid settings text = AnswersOfSid (codes "SID") settings text (λ sid. IsD
 abbrev pub AnswersOn : Settings → DescriptorCommand → List (Bor (List ℕ)) → DescriptorValue → AnswerValue → Type 0
 AnswersOn settings about.Verdict arguments d = AnswersUser settings Short arguments (Plain d)
 AnswersOn settings about.Why arguments d = AnswersUser settings Explained arguments (Plain d)
-AnswersOn settings about.Who arguments d = AnswersOfMask settings (argument arguments 0)
-    (λ asked. AnswersOfBase settings (drop 1 arguments) (PrintsWho settings asked d))
+AnswersOn settings about.Who arguments d = AnswersWho settings [] arguments d
 AnswersOn settings about.Compare arguments old = AnswersOfArgument (codes "NEW") settings (argument arguments 0)
-    (λ new. AnswersOfBase settings (drop 1 arguments) (AnswersComparison settings old new))
+    (λ new. AnswersOfBase settings (drop 1 arguments) (AnswersComparison settings [] old new))
 AnswersOn settings about.Lint arguments d = AnswersOfBase settings arguments (AnswersFindings settings d)
 AnswersOn settings about.Print arguments d = IsDone (descriptor_line d)
 AnswersOn settings about.Sort arguments d = IsSorted settings d
@@ -354,22 +341,30 @@ abbrev pub AnswersPlainly : Settings → DescriptorCommand → List ℕ → List
 AnswersPlainly settings question text arguments =
     AnswersOfArgument (descriptor_name question) settings text (AnswersOn settings question arguments)
 
--- what `who` answers: of the whole object the types are noted
+-- what `who` answers: of the whole object alone types are left out
 abbrev pub AnswersWhoOfWhole : Settings → List ℕ → List (Bor (List ℕ)) → AnswerValue → Type 0
-AnswersWhoOfWhole settings text arguments = AnswersOfEveryone (codes "SDDL") settings text
-    (λ typed d. NotingTypes settings (typed && is_of_whole (types_of settings.chain))
-    (AnswersOn settings about.Who arguments d))
+AnswersWhoOfWhole settings text arguments = AnswersOfEveryone (codes "SDDL") all_left_out settings text
+    (λ whole d. NotingTypes settings (has_types whole.dacl && is_of_whole (types_of settings.chain))
+    (λ left_out. AnswersWho settings left_out arguments d))
 
--- what `compare` answers of OLD
-abbrev pub AnswersCompareTo : Settings → Bool → DescriptorValue → List (Bor (List ℕ)) → AnswerValue → Type 0
-AnswersCompareTo settings old_typed old arguments = AnswersOfEveryone (codes "NEW") settings (argument arguments 0)
-    (λ new_typed new. NotingTypes settings (old_typed || new_typed)
-    (AnswersOfBase settings (drop 1 arguments) (AnswersComparison settings old new)))
+-- what `compare` answers of two: also whether the label is another, and the types that are left out
+abbrev pub AnswersCompareOfBoth : Settings → (old : WholeDescriptor) → DescriptorValue → (new : WholeDescriptor)
+    → DescriptorValue → List (Bor (List ℕ)) → AnswerValue → Type 0
+AnswersCompareOfBoth settings old plain_old new plain_new words answer =
+    (depends : Bool) × ChangeHasTypes depends old new × NotingTypes settings depends
+    (λ left_out. AnswersOfBase settings words
+    (AnswersComparison settings (label_changes old new ++ left_out) plain_old plain_new)) answer
+
+-- what it answers of OLD
+abbrev pub AnswersCompareTo : Settings → WholeDescriptor → DescriptorValue → List (Bor (List ℕ)) → AnswerValue → Type 0
+AnswersCompareTo settings old plain_old arguments =
+    AnswersOfEveryone (codes "NEW") all_but_label settings (argument arguments 0)
+    (λ new plain_new. AnswersCompareOfBoth settings old plain_old new plain_new (drop 1 arguments))
 
 -- what it answers
 abbrev pub AnswersCompareOfWhole : Settings → List ℕ → List (Bor (List ℕ)) → AnswerValue → Type 0
-AnswersCompareOfWhole settings text arguments = AnswersOfEveryone (codes "OLD") settings text
-    (λ old_typed old. AnswersCompareTo settings old_typed old arguments)
+AnswersCompareOfWhole settings text arguments = AnswersOfEveryone (codes "OLD") all_but_label settings text
+    (λ old plain_old. AnswersCompareTo settings old plain_old arguments)
 
 -- what a command answers of all that the text is: a verdict, whom rights are granted to, who gains and loses some, or
 -- what is printed, sorted or written

@@ -46,9 +46,16 @@ wire_fault_text fault = decimal (wire_fault_number fault) ++ codes " " ++ wire_f
 abbrev pub told_wire_fault : List ℕ → WireFault → List ℕ
 told_wire_fault bytes fault = wire_fault_text fault ++ wire_kind_note bytes fault
 
--- a SACL was in the argument, and was left out
-abbrev pub sacl_note : List ℕ → Bool → List ℕ
-sacl_note argument left_out = if left_out then told_line argument (codes "the SACL is left out") else []
+-- what of a SACL is left out, where the argument has one
+abbrev pub sacl_note : (argument what : List ℕ) → Bool → List ℕ
+sacl_note argument what is_there = if is_there then told_line argument what else []
+
+-- all of it, or all but the label
+abbrev pub all_left_out : List ℕ
+all_left_out = codes "the SACL is left out"
+
+abbrev pub all_but_label : List ℕ
+all_but_label = codes "of the SACL only the label is looked at"
 
 -- OI or CI of entries were left out
 abbrev pub object_note : Bool → List ℕ

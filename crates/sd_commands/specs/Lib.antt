@@ -9,6 +9,7 @@ pub mod Escaped
 pub mod ForEveryone
 pub mod FromBinary
 pub mod Kinds
+pub mod Labels
 pub mod Logon
 pub mod Mapping
 pub mod Object

@@ -1,6 +1,9 @@
--- Which object types an answer is about, where that depends on it: what standard error then says.
-use Rattle.std.specs.Prelude.{◌≡◌, ℕ, Bool, true, false, not, ◌&&◌, is_some, List, [], ◌∷◌, codes, if◌then◌else◌}
+-- Which object types an answer is about, where that depends on it: what the answer leaves out, and standard error says.
+use Rattle.std.specs.Prelude.{◌≡◌, ℕ, Bool, true, false, not, ◌&&◌, ◌||◌, is_some, List, [], ◌∷◌, codes}
+use Rattle.std.specs.Prelude.{if◌then◌else◌, Ok}
+use Rattle.std.specs.Bool.{Decides}
 use Rattle.std.specs.List.{list_any}
+use Rattle.sd_acl.specs.Descriptor.{DescriptorValue}
 use Rattle.sd_acl.specs.declared.descriptor.DaclOf.TheVariants.{Absent, Null, List as Entries}
 use Rattle.sd_specialize.specs.Context.{ContextValue}
 use Rattle.sd_specialize.specs.Everyone.{unconditional}
@@ -11,7 +14,9 @@ use Rattle.sd_whole.specs.declared.ace.WholeAce.{WholeAce}
 use Rattle.sd_whole.specs.declared.ace.WholeAce.TheVariants.{Plain, Typed, Opaque}
 use Rattle.sd_whole.specs.declared.descriptor.WholeDescriptor.{WholeDescriptor}
 use Rattle.sd_whole.specs.declared.types.Guid.{Guid}
-use Rattle.sd_commands.specs.Answer.{AnswerValue, IsTold}
+use Rattle.sd_line.specs.Line.{LineOf, form, line_of}
+use Rattle.sd_answer.specs.declared.forms.TheConstants.{WHOLE_ALONE}
+use Rattle.sd_commands.specs.Answer.{AnswerValue, Telling}
 use Rattle.sd_commands.specs.Chain.{types_of}
 use Rattle.sd_commands.specs.Diagnostic.{told_line}
 use Rattle.sd_commands.specs.declared.settings.Settings.{Settings}
@@ -33,22 +38,39 @@ abbrev pub is_of_whole : List Guid → Bool
 is_of_whole [] = true
 is_of_whole (type ∷ types) = false
 
--- what an answer is about: the whole object, or the object types asked about
+-- whether `compare` depends on them: one of the two has such an entry, and they don't have one owner and one DACL
+abbrev pub ChangeHasTypes : Bool → (old new : WholeDescriptor) → Type 0
+ChangeHasTypes depends old new = (same : Bool) × Decides same ((old.owner ≡ new.owner) × (old.dacl ≡ new.dacl))
+    × (depends ≡ ((has_types old.dacl || has_types new.dacl) && not same))
+
+-- the line of an answer that depends on them, where none is asked about
+abbrev pub types_left_out : Settings → Bool → List LineOf
+types_left_out settings depends =
+    if depends && is_of_whole (types_of settings.chain) then line_of (form WHOLE_ALONE) [] ∷ [] else []
+
+-- what standard error says: how an object type is asked about, or that others aren't looked at
 abbrev pub types_text : Bool → List ℕ
-types_text true = codes "without it only the whole object is looked at: of an object type the answer may be another"
+types_text true = codes "asks about an object type"
 types_text false = codes "only these object types are looked at: of others the answer may be another"
 
--- that is said where the answer depends on it
+-- that is said where the answer depends on them
 abbrev pub types_note : Settings → Bool → List ℕ
 types_note settings depends =
     if depends then told_line (codes "--type") (types_text (is_of_whole (types_of settings.chain))) else []
 
--- what is answered otherwise, and before what else standard error says, that
-abbrev pub NotingTypes : Settings → Bool → (AnswerValue → Type 0) → AnswerValue → Type 0
-NotingTypes settings depends Answers answer =
-    (inner : AnswerValue) × IsTold (types_note settings depends) inner answer × Answers inner
+-- what is answered with that line, and before what else standard error says, that
+abbrev pub NotingTypes : Settings → Bool → (List LineOf → AnswerValue → Type 0) → AnswerValue → Type 0
+NotingTypes settings depends Answers =
+    Telling (types_note settings depends) (Answers (types_left_out settings depends))
 
 -- where there is no such entry, the plain descriptor is the same for all object types
 abbrev pub TypesChangeNothing : Type 0
 TypesChangeNothing = (c : ContextValue) (other : List Guid) (d : WholeDescriptor) → has_types d.dacl ≡ false
     → unconditional (asking c other) d ≡ unconditional c d
+
+-- where both have one owner and one DACL, so have the plain descriptors of each question
+abbrev pub OneListForAllTypes : Type 0
+OneListForAllTypes = (c : ContextValue) (old new : WholeDescriptor) (plain_old plain_new : DescriptorValue)
+    → old.owner ≡ new.owner → old.dacl ≡ new.dacl
+    → unconditional c old ≡ Ok plain_old → unconditional c new ≡ Ok plain_new
+    → (plain_old.owner ≡ plain_new.owner) × (plain_old.dacl ≡ plain_new.dacl)

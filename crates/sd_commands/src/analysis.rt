@@ -2,10 +2,10 @@
 ghost use Rattle.std.specs.Prelude.{◌<◌, IfOk, length};
 ghost use Rattle.sd_acl.specs.Descriptor.{descriptor_of};
 ghost use Rattle.sd_answer.specs.Word.{IsFirstNoGroup, texts};
-ghost use Rattle.sd_commands.specs.Analysis.{AreBelowLines};
+ghost use Rattle.sd_commands.specs.Analysis.{AreBelowLines, AreWhoLines};
 ghost use Rattle.sd_commands.specs.Answer.{answer_of};
 ghost use Rattle.sd_commands.specs.CommandAnswer.{AnswersComparison, AnswersOfBase, AnswersOn, AreDescendantLines};
-ghost use Rattle.sd_commands.specs.CommandAnswer.{AreOwnChanges, IsGroupFault, PrintsComparison, PrintsWho};
+ghost use Rattle.sd_commands.specs.CommandAnswer.{AnswersWho, AreOwnChanges, IsGroupFault, PrintsComparison, PrintsWho};
 
 use crate::command_answer::{Answer, Answered, found};
 use crate::descriptor::{Given, note_left_out_sacl, note_object};
@@ -26,11 +26,16 @@ use sd_whole::PlainPart;
 use std::alloc::AllocError;
 
 impl CommandContext<'_> {
-    /// Whom rights are granted to by a descriptor, where the mask and the base are the arguments; or the fault of the
-    /// first from the left that is invalid.
+    /// Whom rights are granted to by a descriptor, and what is left out of that, where the mask and the base are the
+    /// arguments; or the fault of the first from the left that is invalid.
     #[inline(never)]
-    pub(crate) fn who(&self, descriptor: &Descriptor, arguments: &[&str]) -> Answered
-        ensures { IfOk result (λ answer. AnswersOn self.now.settings.now DescriptorCommand.Who arguments.now
+    pub(crate) fn who(
+        &self,
+        descriptor: &Descriptor,
+        left_out: Vec<Line>,
+        arguments: &[&str],
+    ) -> Answered
+        ensures { IfOk result (λ answer. AnswersWho self.now.settings.now left_out.items arguments.now
             (descriptor_of descriptor.now) (answer_of answer)) }
     {
         let mask = argument(arguments, 0);
@@ -40,7 +45,7 @@ impl CommandContext<'_> {
         };
         let words = items_from(arguments, 1);
         match read_base(self.alloc, self.settings.aliases, words) {
-            Ok(groups) => self.who_has(descriptor, asked, &groups),
+            Ok(groups) => self.who_has(descriptor, left_out, asked, &groups),
             Err(TokenError::NoWord { place }) => self.group_fault(words, place),
             Err(TokenError::Memory) => Err(AllocError),
         }
@@ -49,11 +54,25 @@ impl CommandContext<'_> {
     fn who_has(
         &self,
         descriptor: &Descriptor,
+        left_out: Vec<Line>,
         asked: Mask,
         groups: &[(Sid, GroupState)],
     ) -> Answered
-        ensures { IfOk result (λ answer. PrintsWho self.now.settings.now asked (descriptor_of descriptor.now) groups.now
-            (answer_of answer)) }
+        ensures { IfOk result (λ answer. PrintsWho self.now.settings.now left_out.items asked
+            (descriptor_of descriptor.now) groups.now (answer_of answer)) }
+    {
+        let lines = self.lines_of_who(descriptor, asked, groups)?;
+        Answer::done_but(self.alloc, left_out, lines)
+    }
+
+    fn lines_of_who(
+        &self,
+        descriptor: &Descriptor,
+        asked: Mask,
+        groups: &[(Sid, GroupState)],
+    ) -> Result<Vec<Line>, AllocError>
+        ensures { IfOk result (λ lines. AreWhoLines self.now.settings.now asked (descriptor_of descriptor.now)
+            groups.now lines.items) }
     {
         let (owner, dacl) = (descriptor.owner, dacl_ref(&descriptor.dacl));
         let (base, mapping) = (Base { groups }, &self.settings.mapping);
@@ -64,7 +83,7 @@ impl CommandContext<'_> {
         if !lines.is_empty() {
             lines.append(&mut below)?;
         }
-        Ok(Answer::done(self.alloc, lines))
+        Ok(lines)
     }
 
     /// Whom they are granted to of all that is made in it, if it is a container and that is asked for.
@@ -114,21 +133,25 @@ impl CommandContext<'_> {
             left_out,
         } = part;
         let words = items_from(arguments, 1);
-        let answer = self.compare_with_base(old, descriptor, words)?;
+        let answer = self.compare_with_base(old, descriptor, Vec::new(self.alloc), words)?;
         Ok(note_left_out_sacl(self.alloc, "NEW", left_out, answer)?)
     }
 
+    /// The comparison for the base that the words are, with these lines at its end; or the fault of the first word that
+    /// is no group.
     pub(crate) fn compare_with_base(
         &self,
         old: Descriptor,
         new: Descriptor,
+        last: Vec<Line>,
         words: &[&str],
     ) -> Answered
         ensures { IfOk result (λ answer. AnswersOfBase self.now.settings.now words.now
-            (AnswersComparison self.now.settings.now (descriptor_of old) (descriptor_of new)) (answer_of answer)) }
+            (AnswersComparison self.now.settings.now last.items (descriptor_of old) (descriptor_of new))
+            (answer_of answer)) }
     {
         match read_base(self.alloc, self.settings.aliases, words) {
-            Ok(groups) => self.comparison_seen(old, new, &groups),
+            Ok(groups) => self.comparison_seen(old, new, last, &groups),
             Err(TokenError::NoWord { place }) => self.group_fault(words, place),
             Err(TokenError::Memory) => Err(AllocError),
         }
@@ -140,16 +163,17 @@ impl CommandContext<'_> {
         &self,
         old: Descriptor,
         new: Descriptor,
+        last: Vec<Line>,
         groups: &[(Sid, GroupState)],
     ) -> Answered
-        ensures { IfOk result (λ answer. AnswersComparison self.now.settings.now (descriptor_of old) (descriptor_of new)
-            groups.now (answer_of answer)) }
+        ensures { IfOk result (λ answer. AnswersComparison self.now.settings.now last.items (descriptor_of old)
+            (descriptor_of new) groups.now (answer_of answer)) }
     {
         let (alloc, is_object) = (self.alloc, self.settings.object);
         let left_out = either_leaves_out(is_object, &old, &new);
         let old = looked_at(alloc, is_object, old)?;
         let new = looked_at(alloc, is_object, new)?;
-        let answer = self.comparison(&old, &new, groups)?;
+        let answer = self.comparison(&old, &new, last, groups)?;
         note_object(alloc, left_out, answer)
     }
 
@@ -157,9 +181,10 @@ impl CommandContext<'_> {
         &self,
         old: &Descriptor,
         new: &Descriptor,
+        mut last: Vec<Line>,
         groups: &[(Sid, GroupState)],
     ) -> Answered
-        ensures { IfOk result (λ answer. PrintsComparison self.now.settings.now (descriptor_of old.now)
+        ensures { IfOk result (λ answer. PrintsComparison self.now.settings.now last.items (descriptor_of old.now)
             (descriptor_of new.now) groups.now (answer_of answer)) }
     {
         let base = Base { groups };
@@ -167,6 +192,7 @@ impl CommandContext<'_> {
         let mut below = self.descendant_changes(old, new, &base)?;
         lines.append(&mut below)?;
         push_inheritance(self.alloc, &mut lines, old.protected, new.protected)?;
+        lines.append(&mut last)?;
         found(self.alloc, lines, SAME)
     }
 

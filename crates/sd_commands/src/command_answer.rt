@@ -3,10 +3,10 @@ ghost use Rattle.std.specs.Prelude.{◌≡◌, ◌⊎◌, ◌≤◌, ◌<◌, �
 ghost use Rattle.sd_line.specs.Line.{form_of, line_of};
 ghost use Rattle.sd_answer.specs.VerdictLines.{fault_line, sddl_fault_line};
 ghost use Rattle.sd_acl.specs.Descriptor.{descriptor_of};
-ghost use Rattle.sd_commands.specs.Answer.{AreDone, IsAnswer, IsDone, IsFault, IsFaultOf, answer_of, or_worse};
-ghost use Rattle.sd_commands.specs.Answer.{outcome_status, value_line};
+ghost use Rattle.sd_commands.specs.Answer.{AreDone, AreDoneBut, IsAnswer, IsDone, IsFault, IsFaultOf, IsFound};
+ghost use Rattle.sd_commands.specs.Answer.{answer_of, or_worse, outcome_status, value_line};
 ghost use Rattle.sd_commands.specs.CommandAnswer.{AnswersDescriptor, AnswersOn, AnswersPlainly, AnswersQuestion};
-ghost use Rattle.sd_commands.specs.CommandAnswer.{AnswersWholly, IsFound, IsTokenFault, descriptor_name};
+ghost use Rattle.sd_commands.specs.CommandAnswer.{AnswersWholly, IsTokenFault, descriptor_name};
 ghost use Rattle.sd_commands.specs.Diagnostic.{sddl_fault_text, told_line};
 
 use crate::descriptor::{Given, note_left_out_sacl};
@@ -85,6 +85,18 @@ impl Answer {
     {
         let lines = vec![in alloc; line]?;
         Ok(Answer::done(alloc, lines))
+    }
+
+    /// These are the lines, and after them what is left out: nothing, or not all that was asked for was done.
+    #[inline(always)]
+    pub(crate) fn done_but(alloc: Global, mut left_out: Vec<Line>, mut lines: Vec<Line>) -> Answered
+        ensures { IfOk result (λ answer. AreDoneBut left_out.items lines.items (answer_of answer)) }
+    {
+        if left_out.is_empty() {
+            return Ok(Answer::done(alloc, lines));
+        }
+        lines.append(&mut left_out)?;
+        Ok(Answer::of(alloc, lines, Outcome::Refused))
     }
 
     /// Standard error says nothing beside the lines.
@@ -239,7 +251,7 @@ impl CommandContext<'_> {
             DescriptorCommand::Why => {
                 self.verdict(Form::Explained, Subject::Plain(&on), arguments)
             }
-            DescriptorCommand::Who => self.who(&on, arguments),
+            DescriptorCommand::Who => self.who(&on, Vec::new(self.alloc), arguments),
             DescriptorCommand::Compare => self.compare(on, arguments),
             DescriptorCommand::Lint => self.lint(on, arguments),
             DescriptorCommand::Print => self.print(on),

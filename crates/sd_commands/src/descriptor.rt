@@ -1,14 +1,15 @@
 //! The descriptor that an argument's text is, or the plain part of it where whole descriptors are taken.
-ghost use Rattle.std.specs.Prelude.{◌≡◌, true, IfOk, option_map, string_bytes};
+ghost use Rattle.std.specs.Prelude.{◌≡◌, IfOk, option_map, string_bytes};
 ghost use Rattle.sd_commands.specs.Required.{missing_dacl};
-ghost use Rattle.sd_commands.specs.Answer.{IsNoted, answer_of};
-ghost use Rattle.sd_commands.specs.CommandAnswer.{IsEntryFault, IsGiven, IsObjectNoted};
+ghost use Rattle.sd_commands.specs.Answer.{IsTold, answer_of};
+ghost use Rattle.sd_commands.specs.CommandAnswer.{IsEntryFault, IsGiven};
+ghost use Rattle.sd_commands.specs.Diagnostic.{all_left_out, object_note, sacl_note, told_line};
 ghost use Rattle.sd_commands.specs.Whole.{told_odd};
 
 use crate::command_answer::{Answer, Answered, fault_told};
 use crate::diagnostic::told_line;
 use crate::settings::{CommandContext, Settings};
-use crate::whole::entry_place;
+use crate::whole::{entry_place, told_before};
 use sd_acl::DaclOf;
 use sd_answer::entry_fault_line;
 use sd_whole::{OddEntry, PlainPart};
@@ -82,44 +83,61 @@ pub(crate) fn missing_dacl<L>(settings: &Settings, dacl: &DaclOf<L>) -> Option<&
     }
 }
 
+/// What of a SACL a question leaves out: all of it, or all but the label.
+pub(crate) const ALL_LEFT_OUT: &str = "the SACL is left out";
+
+pub(crate) const ALL_BUT_LABEL: &str = "of the SACL only the label is looked at";
+
 /// The answer, and before what else standard error says, that a SACL was left out of the argument, where one was.
 #[inline(always)]
-#[tactic(auto, unfolding(crate::specs::Answer::IsNoted))]
 pub(crate) fn note_left_out_sacl(
     alloc: Global,
     name: &str,
     left_out: bool,
     answer: Answer,
 ) -> Answered
-    ensures { IfOk result (λ noted. IsNoted name.now left_out (answer_of answer) (answer_of noted)) }
+    ensures { IfOk result
+        (λ noted. IsTold (sacl_note name.now all_left_out left_out) (answer_of answer) (answer_of noted)) }
 {
-    if left_out {
-        note_sacl(alloc, name, answer)
+    note_sacl(alloc, name, ALL_LEFT_OUT, left_out, answer)
+}
+
+/// The answer, and before what else standard error says, what was left out of the argument's SACL, where there is one.
+#[inline(always)]
+#[tactic(auto, unfolding(crate::specs::Answer::IsTold))]
+pub(crate) fn note_sacl(
+    alloc: Global,
+    name: &str,
+    what: &str,
+    is_there: bool,
+    answer: Answer,
+) -> Answered
+    ensures { IfOk result
+        (λ noted. IsTold (sacl_note name.now what.now is_there) (answer_of answer) (answer_of noted)) }
+{
+    if is_there {
+        note_before(alloc, name, what, answer)
     } else {
         Ok(answer)
     }
 }
 
-#[tactic(auto, unfolding(crate::specs::Answer::IsNoted))]
-fn note_sacl(alloc: Global, name: &str, mut answer: Answer) -> Answered
-    ensures { IfOk result (λ noted. IsNoted name.now true (answer_of answer) (answer_of noted)) }
+/// The answer, and before what else standard error says, this of the argument.
+fn note_before(alloc: Global, name: &str, what: &str, answer: Answer) -> Answered
+    ensures { IfOk result
+        (λ noted. IsTold (told_line name.now what.now) (answer_of answer) (answer_of noted)) }
 {
-    let mut told = told_line(alloc, name, "the SACL is left out")?;
-    told.push_str(answer.told.as_str())?;
-    answer.told = told;
-    Ok(answer)
+    told_before(told_line(alloc, name, what)?, answer)
 }
 
 /// The answer, and before what else standard error says, that OI or CI of entries were left out, where they were.
-#[tactic(auto, unfolding(crate::specs::CommandAnswer::IsObjectNoted))]
-pub(crate) fn note_object(alloc: Global, left_out: bool, mut answer: Answer) -> Answered
-    ensures { IfOk result (λ noted. IsObjectNoted left_out (answer_of answer) (answer_of noted)) }
+#[tactic(auto, unfolding(crate::specs::Answer::IsTold))]
+pub(crate) fn note_object(alloc: Global, left_out: bool, answer: Answer) -> Answered
+    ensures { IfOk result (λ noted. IsTold (object_note left_out) (answer_of answer) (answer_of noted)) }
 {
-    if left_out {
-        let what = "what entries pass on to what is made in a container is left out";
-        let mut told = told_line(alloc, "--object", what)?;
-        told.push_str(answer.told.as_str())?;
-        answer.told = told;
+    if !left_out {
+        return Ok(answer);
     }
-    Ok(answer)
+    let what = "what entries pass on to what is made in a container is left out";
+    note_before(alloc, "--object", what, answer)
 }

@@ -8,8 +8,7 @@ ghost use Rattle.sd_specialize.specs.Specialize.{Gives};
 ghost use Rattle.sd_whole.specs.Plain.{has_sacl};
 
 use crate::command_answer::Answer;
-use crate::descriptor::{missing_dacl, note_left_out_sacl};
-use crate::object_types::has_types;
+use crate::descriptor::{missing_dacl, note_sacl};
 use crate::settings::CommandContext;
 use sd_acl::Descriptor;
 use sd_specialize::{SpecializeError, specialized_for_everyone};
@@ -18,14 +17,11 @@ use sd_whole::{WholeAcl, WholeDescriptor};
 use sd_whole_parse::read_whole_sddl;
 use std::alloc::AllocError;
 
-/// The plain descriptor that a whole one is for the object types asked about.
+/// A whole descriptor, and the plain one that it is for the object types asked about.
 #[derive(Drop)]
 pub(crate) struct PlainForEveryone {
     pub(crate) descriptor: Descriptor,
-    /// There is a SACL, which is left out.
-    pub(crate) left_out: bool,
-    /// An effective entry has an ObjectType.
-    pub(crate) typed: bool,
+    pub(crate) whole: WholeDescriptor,
 }
 
 /// What an argument is whoever asks.
@@ -37,12 +33,18 @@ pub(crate) enum ForEveryone {
 }
 
 impl CommandContext<'_> {
-    /// What the argument of this name is whoever asks ([MS-DTYP] 2.5.1.1, 2.5.3.2). The only error is out of memory.
-    pub(crate) fn of_everyone(&self, name: &str, sddl: &str) -> Result<ForEveryone, AllocError>
-        ensures { IfOk result (IsOfEveryone name.now self.now.settings.now sddl.now) }
+    /// What the argument of this name is whoever asks ([MS-DTYP] 2.5.1.1, 2.5.3.2), of whose SACL this is left out. The
+    /// only error is out of memory.
+    pub(crate) fn of_everyone(
+        &self,
+        name: &str,
+        what: &str,
+        sddl: &str,
+    ) -> Result<ForEveryone, AllocError>
+        ensures { IfOk result (IsOfEveryone name.now what.now self.now.settings.now sddl.now) }
     {
         match read_whole_sddl(self.alloc, self.settings.aliases, sddl) {
-            Ok(descriptor) => self.for_everyone(name, &descriptor),
+            Ok(descriptor) => self.for_everyone(name, what, descriptor),
             Err(TextError::Fault { fault, place }) => {
                 let answer = self.sddl_fault(name, sddl, fault, place)?;
                 Ok(ForEveryone::Refused(answer))
@@ -55,37 +57,30 @@ impl CommandContext<'_> {
     fn for_everyone(
         &self,
         name: &str,
-        descriptor: &WholeDescriptor,
+        what: &str,
+        descriptor: WholeDescriptor,
     ) -> Result<ForEveryone, AllocError>
-        ensures { IfOk result (IsForEveryone name.now self.now.settings.now descriptor.now) }
+        ensures { IfOk result (IsForEveryone name.now what.now self.now.settings.now descriptor) }
     {
+        let is_there = has_sacl(&descriptor);
         match self.specialized(name, descriptor)? {
             ForEveryone::Plain(plain) => Ok(ForEveryone::Plain(plain)),
             ForEveryone::Refused(answer) => {
-                let left_out = has_sacl(descriptor);
-                let answer = note_left_out_sacl(self.alloc, name, left_out, answer)?;
+                let answer = note_sacl(self.alloc, name, what, is_there, answer)?;
                 Ok(ForEveryone::Refused(answer))
             }
         }
     }
 
     /// What the descriptor is, before it is noted that a SACL is left out.
-    fn specialized(
-        &self,
-        name: &str,
-        descriptor: &WholeDescriptor,
-    ) -> Result<ForEveryone, AllocError>
-        ensures { IfOk result (IsSpecialized name.now self.now.settings.now descriptor.now) }
+    fn specialized(&self, name: &str, whole: WholeDescriptor) -> Result<ForEveryone, AllocError>
+        ensures { IfOk result (IsSpecialized name.now self.now.settings.now whole) }
     {
-        if let Some(missing) = missing_dacl(self.settings, &descriptor.dacl) {
+        if let Some(missing) = missing_dacl(self.settings, &whole.dacl) {
             return Ok(ForEveryone::Refused(self.fault("nodacl", name, missing)?));
         }
-        match self.unconditional(descriptor) {
-            Ok(plain) => Ok(ForEveryone::Plain(PlainForEveryone {
-                descriptor: plain,
-                left_out: has_sacl(descriptor),
-                typed: has_types(&descriptor.dacl),
-            })),
+        match self.unconditional(&whole) {
+            Ok(descriptor) => { Ok(ForEveryone::Plain(PlainForEveryone { descriptor, whole })) }
             Err(SpecializeError::Fault(fault)) => {
                 Ok(ForEveryone::Refused(self.undecided(name, fault)?))
             }
@@ -103,7 +98,7 @@ impl CommandContext<'_> {
     }
 }
 
-fn has_sacl(descriptor: &WholeDescriptor) -> bool
+pub(crate) fn has_sacl(descriptor: &WholeDescriptor) -> bool
     ensures { result ≡ has_sacl descriptor.now }
 {
     !matches!(descriptor.sacl, WholeAcl::Absent)

@@ -1,7 +1,8 @@
-//! What holds of canonical order, of objects, and of object types. Each law is the contract of a function that does
-//! nothing.
+//! What holds of canonical order, of objects, of object types, and of labels. Each law is the contract of a function
+//! that does nothing.
+ghost use Rattle.sd_commands.specs.Labels.{NoLineTakesAlike};
 ghost use Rattle.sd_commands.specs.Object.{ObjectDecidesAlike, ObjectHandsNothingOn};
-ghost use Rattle.sd_commands.specs.ObjectTypes.{TypesChangeNothing};
+ghost use Rattle.sd_commands.specs.ObjectTypes.{OneListForAllTypes, TypesChangeNothing};
 ghost use Rattle.sd_commands.specs.Sort.{CanonicalStays, SortedIsCanonical};
 
 /// What `sort` prints is in canonical order, and a list that is in it stays as it is ([MS-DTYP] 2.4.5).
@@ -23,9 +24,20 @@ pub fn object_hands_nothing_on()
     ensures { ObjectHandsNothingOn }
 {}
 
-/// Where no note says which object types an answer is about, it is about all: the plain descriptor is the same for each
-/// ([MS-DTYP] 2.5.3.2).
+/// Where no effective entry has an ObjectType, an answer is about all object types: the plain descriptor is the same
+/// for each ([MS-DTYP] 2.5.3.2).
 #[tactic(auto, using(crate::proofs::TypesAlike::types_change_nothing))]
 pub fn types_change_nothing()
     ensures { TypesChangeNothing }
+{}
+
+/// Where a change leaves the owner and the DACL as they are, it changes nothing for any object type either: the plain
+/// descriptors of each question have one owner and one list ([MS-DTYP] 2.5.3.2).
+pub fn one_list_for_all_types()
+    ensures { OneListForAllTypes }
+{}
+
+/// Where `compare` has no line of a label, both labels take the same from each level ([MS-DTYP] 2.5.3.3).
+pub fn no_line_takes_alike()
+    ensures { NoLineTakesAlike }
 {}

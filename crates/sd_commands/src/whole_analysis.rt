@@ -3,12 +3,14 @@
 ghost use Rattle.std.specs.Prelude.{IfOk};
 ghost use Rattle.sd_acl.specs.Descriptor.{descriptor_of};
 ghost use Rattle.sd_commands.specs.Answer.{answer_of};
-ghost use Rattle.sd_commands.specs.CommandAnswer.{AnswersCompareOfWhole, AnswersCompareTo, AnswersWhoOfWhole};
+ghost use Rattle.sd_commands.specs.CommandAnswer.{AnswersCompareOfBoth, AnswersCompareOfWhole, AnswersCompareTo};
+ghost use Rattle.sd_commands.specs.CommandAnswer.{AnswersWhoOfWhole};
 
 use crate::command_answer::Answered;
-use crate::descriptor::note_left_out_sacl;
-use crate::for_everyone::{ForEveryone, PlainForEveryone};
-use crate::object_types::{is_of_whole, note_types};
+use crate::descriptor::{ALL_BUT_LABEL, ALL_LEFT_OUT, note_left_out_sacl, note_sacl};
+use crate::for_everyone::{ForEveryone, PlainForEveryone, has_sacl};
+use crate::labels::label_changes;
+use crate::object_types::{change_has_types, note_types, types_left_out, who_has_types};
 use crate::settings::CommandContext;
 use crate::words::{argument, items_from};
 
@@ -18,44 +20,56 @@ impl CommandContext<'_> {
         ensures { IfOk result (λ answer. AnswersWhoOfWhole self.now.settings.now sddl.now arguments.now
             (answer_of answer)) }
     {
-        let plain = match self.of_everyone("SDDL", sddl)? {
+        let plain = match self.of_everyone("SDDL", ALL_LEFT_OUT, sddl)? {
             ForEveryone::Plain(plain) => plain,
             ForEveryone::Refused(answer) => return Ok(answer),
         };
-        let of_whole = is_of_whole(self.settings);
-        let depends = plain.typed && of_whole;
-        let answer = self.who(&plain.descriptor, arguments)?;
+        let depends = who_has_types(self.settings, &plain.whole);
+        let left_out = types_left_out(self.alloc, self.settings, depends)?;
+        let answer = self.who(&plain.descriptor, left_out, arguments)?;
         let answer = note_types(self.alloc, self.settings, depends, answer)?;
-        note_left_out_sacl(self.alloc, "SDDL", plain.left_out, answer)
+        note_left_out_sacl(self.alloc, "SDDL", has_sacl(&plain.whole), answer)
     }
 
-    /// What tokens gain and lose where all that the first of the arguments is ([MS-DTYP] 2.5.1.1), but its SACL, takes
-    /// the place of all that the text is; or the fault of the first from the left that is invalid.
+    /// What tokens gain and lose where all that the first of the arguments is ([MS-DTYP] 2.5.1.1), but for its SACL,
+    /// takes the place of all that the text is, and whether the label is another; or the fault of the first from the
+    /// left that is invalid.
     pub(crate) fn whole_compare(&self, sddl: &str, arguments: &[&str]) -> Answered
         ensures { IfOk result (λ answer. AnswersCompareOfWhole self.now.settings.now sddl.now arguments.now
             (answer_of answer)) }
     {
-        let old = match self.of_everyone("OLD", sddl)? {
+        let old = match self.of_everyone("OLD", ALL_BUT_LABEL, sddl)? {
             ForEveryone::Plain(plain) => plain,
             ForEveryone::Refused(answer) => return Ok(answer),
         };
-        let left_out = old.left_out;
+        let is_there = has_sacl(&old.whole);
         let answer = self.compare_to(old, arguments)?;
-        note_left_out_sacl(self.alloc, "OLD", left_out, answer)
+        note_sacl(self.alloc, "OLD", ALL_BUT_LABEL, is_there, answer)
     }
 
     fn compare_to(&self, old: PlainForEveryone, arguments: &[&str]) -> Answered
-        ensures { IfOk result (λ answer. AnswersCompareTo self.now.settings.now old.typed (descriptor_of old.descriptor)
+        ensures { IfOk result (λ answer. AnswersCompareTo self.now.settings.now old.whole (descriptor_of old.descriptor)
             arguments.now (answer_of answer)) }
     {
-        let new = match self.of_everyone("NEW", argument(arguments, 0))? {
+        let new = match self.of_everyone("NEW", ALL_BUT_LABEL, argument(arguments, 0))? {
             ForEveryone::Plain(plain) => plain,
             ForEveryone::Refused(answer) => return Ok(answer),
         };
-        let (left_out, depends) = (new.left_out, old.typed || new.typed);
-        let words = items_from(arguments, 1);
-        let answer = self.compare_with_base(old.descriptor, new.descriptor, words)?;
-        let answer = note_types(self.alloc, self.settings, depends, answer)?;
-        note_left_out_sacl(self.alloc, "NEW", left_out, answer)
+        let is_there = has_sacl(&new.whole);
+        let answer = self.compare_both(old, new, items_from(arguments, 1))?;
+        note_sacl(self.alloc, "NEW", ALL_BUT_LABEL, is_there, answer)
+    }
+
+    fn compare_both(&self, old: PlainForEveryone, new: PlainForEveryone, words: &[&str]) -> Answered
+        ensures { IfOk result (λ answer. AnswersCompareOfBoth self.now.settings.now
+            old.whole (descriptor_of old.descriptor) new.whole (descriptor_of new.descriptor)
+            words.now (answer_of answer)) }
+    {
+        let depends = change_has_types(&old.whole, &new.whole);
+        let mut last = label_changes(self.alloc, &old.whole, &new.whole)?;
+        let mut left_out = types_left_out(self.alloc, self.settings, depends)?;
+        last.append(&mut left_out)?;
+        let answer = self.compare_with_base(old.descriptor, new.descriptor, last, words)?;
+        note_types(self.alloc, self.settings, depends, answer)
     }
 }

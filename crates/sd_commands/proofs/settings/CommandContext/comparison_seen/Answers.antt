@@ -1,6 +1,8 @@
 -- The comparison is of the descriptors as they are looked at.
 use Rattle.sd_commands.proofs.Cited.{IfOk-weaker, answer_of, descriptor_of, subst}
-use Rattle.sd_commands.specs.CommandAnswer.{IsObjectNoted, PrintsComparison}
+use Rattle.sd_commands.specs.Answer.{IsTold}
+use Rattle.sd_commands.specs.CommandAnswer.{PrintsComparison}
+use Rattle.sd_commands.specs.Diagnostic.{object_note}
 use Rattle.sd_commands.specs.Object.{looked_at}
 use Rattle.sd_commands.proofs.settings.CommandContext.comparison_seen.Goals as goal
 
@@ -8,10 +10,10 @@ pub returns : goal.returns
 returns c =
     let settings = c.args.self.now.settings.now in
     let inner = answer_of c.in_ok-answer.answer in
-    let of_old = subst (λ old. PrintsComparison settings old (descriptor_of c.in_ok-new.new) c.args.groups.now inner) c.in_ok-old.ensures c.in_ok-answer.ensures in
-    let of_both = subst (λ new. PrintsComparison settings (looked_at settings.object (descriptor_of c.args.old)) new c.args.groups.now inner) c.in_ok-new.ensures of_old in
+    let of_old = subst (λ old. PrintsComparison settings c.args.last.items old (descriptor_of c.in_ok-new.new) c.args.groups.now inner) c.in_ok-old.ensures c.in_ok-answer.ensures in
+    let of_both = subst (λ new. PrintsComparison settings c.args.last.items (looked_at settings.object (descriptor_of c.args.old)) new c.args.groups.now inner) c.in_ok-new.ensures of_old in
     IfOk-weaker c.note_object.result _ _ (λ answer is. (
       inner,
-      subst (λ left_out. IsObjectNoted left_out inner (answer_of answer)) c.either_leaves_out-left_out.ensures is,
+      subst (λ left_out. IsTold (object_note left_out) inner (answer_of answer)) c.either_leaves_out-left_out.ensures is,
       of_both,
     )) c.note_object.ensures
