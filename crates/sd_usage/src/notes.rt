@@ -130,7 +130,7 @@ MAXIMUM_ALLOWED, 0x02000000, asks about all rights. Bits from 0x200000 on are le
 
 Statuses:
   0  the lines were printed
-  1  an invalid argument
+  1  object types were left out, as the last line says, or an invalid argument
   2  the arguments aren't a valid command line
   3  out of memory, or an output error";
 
@@ -146,7 +146,9 @@ user, as arguments of 'sdstore verdict' after the descriptor and the mask:
 The last is about what is made in it, if it is a container, and left out with '--object'.
 'everyone' is any user that neither descriptor names.
 With '--whole' and '--object' the lines are about the object types of '--type', or without one about
-the whole object, as in Active Directory; where an entry has an object type, standard error says so.
+the whole object, as in Active Directory. The last lines may be:
+  label: was high no-write-up, is medium no-write-up
+  of the whole object alone: object types are left out
 
 Statuses:
   0  same
