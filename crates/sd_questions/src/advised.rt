@@ -7,8 +7,8 @@ ghost use Rattle.sd_arguments.specs.CommandLine.{request_of};
 use crate::found::{found_in_descriptor, found_in_mask, found_in_user, found_in_word};
 use crate::notes::notes_on;
 use crate::remedies::{
-    CHILDREN, EACH, HEX, NO_BITS, NO_CHILDREN, OBJECT_ENTRY, ODD_ENTRY, OTHER_USER, POLICIES,
-    RemedyRow, SACLS, WHOLE_BITS, WHOLE_ENTRY, WHOLE_RANGE, WHOLE_SACL, row_line,
+    ALL_BUT_LABELS, CHILDREN, EACH, HEX, NO_BITS, NO_CHILDREN, OBJECT_ENTRY, ODD_ENTRY, OTHER_USER,
+    POLICIES, RemedyRow, SACLS, WHOLE_BITS, WHOLE_ENTRY, WHOLE_RANGE, WHOLE_SACL, row_line,
 };
 use crate::spoken::{answer_text, asks_who};
 use sd_answer::{TokenError, read_base, read_token};
@@ -82,7 +82,7 @@ pub(crate) fn advice_on_each(
 ) -> Result<String, AllocError> {
     let mut advice = misplaced_line(alloc, request)?;
     if options.has(OptionName::Whole) {
-        push_left_out(alloc, request.question, &mut advice)?;
+        push_left_out(alloc, options, request.question, &mut advice)?;
         push_types(alloc, options, request.question, &mut advice)?;
     }
     if asks_who(request.question) && !options.has(OptionName::Below) {
@@ -103,11 +103,15 @@ pub(crate) fn advice_on_each(
 /// Notes what of whole descriptors the command doesn't look at.
 fn push_left_out(
     alloc: Global,
+    options: Options<'_>,
     question: TextCommand,
     advice: &mut String,
 ) -> Result<(), AllocError> {
     let what = match question {
         TextCommand::Descriptor(DescriptorCommand::Verdict | DescriptorCommand::Why) => POLICIES,
+        TextCommand::Descriptor(DescriptorCommand::Compare) if options.has(OptionName::Object) => {
+            ALL_BUT_LABELS
+        }
         TextCommand::Descriptor(
             DescriptorCommand::Who | DescriptorCommand::Compare | DescriptorCommand::Lint,
         ) => SACLS,

@@ -252,6 +252,10 @@ pub(crate) const EACH: RemedyRow = (
 pub(crate) const SACLS: &str =
     "a line's SACL, by which Windows may deny what is granted here, and CR of its entries are left out";
 
+/// What a comparison of objects leaves out under `--whole`, where lines are answered.
+pub(crate) const ALL_BUT_LABELS: &str =
+    "all of a line's SACL but the label, and CR of its entries, are left out: Windows may deny what is granted here";
+
 /// What a verdict leaves out under `--whole`, where lines are answered.
 pub(crate) const POLICIES: &str =
     "a line's central policies, trust labels and access filters, by which Windows may deny more, are left out";
