@@ -21,16 +21,26 @@ fn a_domain_has_its_sid(rt: HostRuntime) {
     assert_eq!(rt; alias_of(&account), None);
 }
 
+/// Adds a container.
+fn add(alloc: Global, tree: &mut Tree, path: &str) -> Option<()> {
+    let edit = edit(alloc, Change::Container, path, "O:BAG:SYD:")?;
+    tree.apply(&edit).ok()
+}
+
+/// Removes the node of a path.
+fn remove(alloc: Global, tree: &mut Tree, path: &str) -> Option<()> {
+    let path = Path::read(alloc, path).ok()?;
+    tree.apply(&Edit::Remove { path }).ok()
+}
+
 /// A tree in which `/a` was removed.
 fn tree(alloc: Global) -> Option<Tree> {
     let root = spec(alloc, "O:BAG:SYD:")?;
     let mut tree = Tree::opening(alloc, &GenericMapping::file(), &root).ok()?;
     for path in ["/a", "/b", "/b/c"] {
-        tree.apply(&edit(alloc, Change::Container, path, "O:BAG:SYD:")?)
-            .ok()?;
+        add(alloc, &mut tree, path)?;
     }
-    let path = Path::read(alloc, "/a").ok()?;
-    tree.apply(&Edit::Remove { path }).ok()?;
+    remove(alloc, &mut tree, "/a")?;
     Some(tree)
 }
 
