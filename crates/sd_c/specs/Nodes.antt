@@ -1,5 +1,5 @@
 -- The answers of the calls that return a view's nodes: what was given to each, without what it inherits.
-use Rattle.std.specs.Prelude.{◌≡◌, ◌⊎◌, ℕ, List, Some, None, IsSome, Ok, slice_get}
+use Rattle.std.specs.Prelude.{◌≡◌, ◌⊎◌, ℕ, false, List, Some, None, IsSome, Ok, slice_get}
 use Rattle.std.specs.FinMap.{entries}
 use Rattle.sd_acl.specs.Descriptor.{DescriptorValue, HaveNamedFlags, IsDescriptor}
 use Rattle.sd_path.specs.Names.{Names}
@@ -11,6 +11,8 @@ use Rattle.sd_edit.specs.History.{History}
 use Rattle.sd_edit.specs.Journal.{replay}
 use Rattle.sd_inheritance.specs.declared.kind.NodeKind.{NodeKind}
 use Rattle.sd_inheritance.specs.declared.kind.NodeKind.TheVariants.{Container, Object}
+use Rattle.sd_edit.specs.declared.node.NodeDacl.{NodeDacl}
+use Rattle.sd_edit.specs.declared.node.NodeDacl.TheVariants.{List as Entries, Stored}
 use Rattle.sd_edit.specs.declared.node.NodeRow.{NodeRow}
 use Rattle.sd_c.specs.declared.handle.Handle.{Handle}
 use Rattle.sd_c.specs.declared.handle.kept.Kept.{Kept}
@@ -61,11 +63,17 @@ IsNoOwnAt view path why =
     ⊎ ((h : History) × (names : Names) × (view_in view ≡ Some h) × (path_of path ≡ Ok names)
     × IsNotFound (given_at (replay h.opening h.journal) names) why)
 
--- an edit whose value is what was written of a node gives it the same owner, group and DACL
+-- a DACL without what was inherited elsewhere
+abbrev pub ordinary : NodeDacl → NodeDacl
+ordinary (Stored own inherited offer) = Entries false own
+ordinary dacl = dacl
+
+-- an edit whose value is what was written of a node gives it the same owner, group and DACL, without what it had
+-- inherited elsewhere, if it was stored with that
 abbrev pub OwnFormsComeBack : Type 0
 OwnFormsComeBack =
     (row : NodeRow) → IsDescriptor (own_descriptor_of_row row) → HaveNamedFlags (own_list row.dacl)
-    → IsNode (wire_of (own_descriptor_of_row row)) row.owner row.group row.dacl
+    → IsNode (wire_of (own_descriptor_of_row row)) row.owner row.group (ordinary row.dacl)
 
 -- ---- the nodes in path order
 

@@ -80,7 +80,7 @@ pub extern "C" fn hudarin_view_node(
 }
 
 /// A law: an edit whose value is what `hudarin_view_own` wrote of a node, where no entry has an unnamed flag, gives the
-/// node of its path the same owner, group and DACL.
+/// node of its path the same owner, group and DACL, but for what it had inherited elsewhere, which no edit of C gives.
 pub fn own_forms_come_back()
     ensures { OwnFormsComeBack }
 {}

@@ -9,5 +9,6 @@ pub mod Moved
 pub mod NewRow
 pub mod Refused
 pub mod Rows
+pub mod SameLists
 pub mod Sorted
 pub mod Trustees

@@ -1,7 +1,10 @@
 -- A node that hands on what it did changes the DACL of no other node; so another owner or group of it changes none.
+use Rattle.sd_acl.specs.Canonical.{canonical_order}
+use Rattle.sd_inheritance.specs.Inheritance.{creator_group, creator_owner}
+use Rattle.sd_edit.specs.Inheritance.{handed_to, kept_or_handed, offered, same_list, still_offers}
 use Rattle.sd_edit.proofs.Cited.{Ace, Bool, ChangesOneNode, Container, List, MappingValue, Names, NodeDacl, NodeKind, NodeRow, None, Null, Object, Option, PlainTree, SidValue, Some, [], ap, append-nil, ap₂, arith, cases_Bool, changed, cond, container_inherit, dacl_at, dacl_below, dacl_here, dacl_of_row, dacl_under, effective_copy, effective_hands_nothing, false, flat_map, flat_map-append, handed_on, inl, inr, is_root, is_split, is_within, length, length-up, no_propagate, object_inherit, once, option_map, pass_on, refl, row_at, sym, true, up, waiting_copy, whole_copy, within_rest, ℕ, ◌++◌, ◌∙◌, ◌∷◌, ◌≡◌, ◌≢◌}
 use Rattle.std.proofs.Common.{length-append}
-use Rattle.sd_edit.specs.declared.node.NodeDacl.TheVariants.{List as Entries}
+use Rattle.sd_edit.specs.declared.node.NodeDacl.TheVariants.{List as Entries, Stored}
 use Rattle.sd_edit.proofs.Rows.{row_at-changed_same, row_at-changed_other}
 use Rattle.sd_edit.proofs.Dacls.{dacl_at_here, dacl_over, dacl_at-append, below_alike, dacl_at_outside}
 
@@ -54,26 +57,45 @@ module _ (g : MappingValue) (r : NodeRow) (kind : NodeKind) (owner group other_o
   inherited_alike es None = refl
   inherited_alike es (Some above) = entries_alike g r owner group other_owner other_group kind above
 
-  pub row_alike : (d : NodeDacl) (above : Option (List Ace)) → handed_on g r (dacl_of_row g (one d) above) ≡ handed_on g r (dacl_of_row g (other d) above)
-  row_alike Null above = refl
-  row_alike (Entries true es) above = refl
-  row_alike (Entries false es) above =
+  behind_alike : (es : List Ace) (above : Option (List Ace))
+      → handed_on g r (dacl_of_row g (one (Entries false es)) above) ≡ handed_on g r (dacl_of_row g (other (Entries false es)) above)
+  behind_alike es above =
       flat_map-append (pass_on g r.kind r.owner r.group) es (handed_on g (one (Entries false es)) above)
       ∙ ap (λ xs. flat_map (pass_on g r.kind r.owner r.group) es ++ xs) (inherited_alike es above)
       ∙ sym (flat_map-append (pass_on g r.kind r.owner r.group) es (handed_on g (other (Entries false es)) above))
 
+  kept_alike : (es inherited : List Ace) (above : Option (List Ace)) (keeps : Bool)
+      → flat_map (pass_on g r.kind r.owner r.group) (es ++ kept_or_handed keeps inherited (handed_to g kind owner group above))
+      ≡ flat_map (pass_on g r.kind r.owner r.group) (es ++ kept_or_handed keeps inherited (handed_to g kind other_owner other_group above))
+  kept_alike es inherited above true = refl
+  kept_alike es inherited above false = behind_alike es above
+
+  pub row_alike : (d : NodeDacl) (above : Option (List Ace)) → handed_on g r (dacl_of_row g (one d) above) ≡ handed_on g r (dacl_of_row g (other d) above)
+  row_alike Null above = refl
+  row_alike (Entries true es) above = refl
+  row_alike (Entries false es) above = behind_alike es above
+  row_alike (Stored es inherited offer) above = kept_alike es inherited above (still_offers g kind above offer)
+
 -- ---- what stands below two DACLs that hand on the same
 
+still_offers_alike : (g : MappingValue) (kind : NodeKind) (one other : Option (List Ace)) (offer : List Ace)
+    → offered g kind one ≡ offered g kind other → still_offers g kind one offer ≡ still_offers g kind other offer
+unfolding still_offers
+still_offers_alike g kind one other offer e = ap (λ es. same_list (canonical_order es) (canonical_order offer)) e
+
 under_alike : (g : MappingValue) (row : NodeRow) (d : NodeDacl) (one other : Option (List Ace))
-    → handed_on g row one ≡ handed_on g row other → dacl_under g row d one ≡ dacl_under g row d other
+    → ((child : NodeRow) → handed_on g child one ≡ handed_on g child other) → dacl_under g row d one ≡ dacl_under g row d other
 under_alike g row Null one other h = refl
 under_alike g row (Entries true es) one other h = refl
-under_alike g row (Entries false es) one other h = ap (λ xs. Some (es ++ xs)) h
+under_alike g row (Entries false es) one other h = ap (λ xs. Some (es ++ xs)) (h row)
+under_alike g row (Stored es inherited offer) one other h =
+    ap₂ (λ keeps xs. Some (es ++ kept_or_handed keeps inherited xs))
+    (still_offers_alike g row.kind one other offer (h (record { kind = row.kind; owner = creator_owner; group = creator_group; dacl = Null }))) (h row)
 
 here_alike : (g : MappingValue) (o : Option NodeRow) (one other : Option (List Ace))
     → ((row : NodeRow) → handed_on g row one ≡ handed_on g row other) → dacl_here g o one ≡ dacl_here g o other
 here_alike g None one other h = refl
-here_alike g (Some row) one other h = under_alike g row row.dacl one other (h row)
+here_alike g (Some row) one other h = under_alike g row row.dacl one other h
 
 -- ---- the tree
 

@@ -12,6 +12,7 @@ use Rattle.sd_edit.specs.declared.node.NodeRow.{NodeRow}
 abbrev pub is_protected : NodeDacl → Bool
 is_protected own.Null = false
 is_protected (own.List protected entries) = protected
+is_protected (own.Stored entries inherited offer) = false
 
 -- the descriptor of a node with this DACL: a list has the flag of automatic inheritance, a null one no flag
 abbrev pub descriptor_of_row : NodeRow → Option (List Ace) → DescriptorValue
@@ -36,6 +37,7 @@ descriptor_of_row row (Some entries) = record {
 abbrev pub own_list : NodeDacl → Dacl
 own_list own.Null = Null
 own_list (own.List protected entries) = Entries entries
+own_list (own.Stored entries inherited offer) = Entries entries
 
 -- the DACL that a descriptor gives a node: an absent one is an empty list that isn't protected
 abbrev pub own_dacl : Bool → Dacl → NodeDacl

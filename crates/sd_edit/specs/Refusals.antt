@@ -36,6 +36,7 @@ first_fit (test ∷ tests) = cond test.0 (Some test.1) (first_fit tests)
 abbrev pub own_entries : NodeDacl → List Ace
 own_entries own.Null = []
 own_entries (own.List protected entries) = entries
+own_entries (own.Stored entries inherited offer) = entries
 
 abbrev pub list_tests : NodeDacl → List (Bool × EditRefusal)
 list_tests dacl =

@@ -4,7 +4,7 @@ ghost use Rattle.std.specs.Prelude.{◌≡◌, IfOk};
 ghost use Rattle.sd_edit.specs.Descriptors.{own_dacl};
 
 use crate::entries::Entries;
-use sd_acl::{Dacl, Descriptor};
+use sd_acl::{AceList, Dacl, Descriptor};
 use sd_inheritance::NodeKind;
 use sd_sid::Sid;
 use std::alloc::{AllocError, Global};
@@ -15,7 +15,18 @@ pub enum NodeDacl {
     /// A null DACL: everything is granted, and nothing is inherited or passed down.
     Null,
     /// The node's own entries; where the DACL is protected (control bit PD), nothing is inherited.
-    List { protected: bool, entries: Entries },
+    List {
+        protected: bool,
+        entries: Entries,
+    },
+    /// The node's own entries, and those that it had inherited elsewhere, where its parent offered this. They stand
+    /// while the parent offers the same, in whatever order of denies and allows: what it hands on to a child of the
+    /// kind whose owner is CREATOR OWNER and whose group is CREATOR GROUP. Else the node inherits as every other.
+    Stored {
+        entries: Entries,
+        inherited: AceList,
+        offer: AceList,
+    },
 }
 
 impl NodeDacl {
@@ -46,7 +57,26 @@ impl NodeDacl {
                 protected: *protected,
                 entries: entries.copy(alloc)?,
             }),
+            NodeDacl::Stored {
+                entries,
+                inherited,
+                offer,
+            } => Ok(NodeDacl::Stored {
+                entries: entries.copy(alloc)?,
+                inherited: copy_of(alloc, inherited)?,
+                offer: copy_of(alloc, offer)?,
+            }),
         }
+    }
+}
+
+/// An equal list.
+fn copy_of(alloc: Global, list: &AceList) -> Result<AceList, AllocError>
+    ensures { IfOk result (λ copy. copy ≡ list.now) }
+{
+    match AceList::new(Vec::from_slice(alloc, list.entries())?) {
+        Ok(copy) => Ok(copy),
+        Err(_) => unreachable!(),
     }
 }
 

@@ -1,6 +1,6 @@
 -- What a sibling has is what a node beside it would have.
 use Rattle.sd_tree.proofs.Cited.{Ace, AreMadeFor, AreStanding, InheritOne, IsSibling, List, MappingValue, Names, Node, NodeDacl, NodeRow, Null, Option, Some, ap, behind_own, dacl_at, dacl_at_up, dacl_here, dacl_of_row, dacl_with, false≢true, get_or, handed_on, inherits, length, own_entries, path_of_node, refl, same_behind, subst, sym, tree_of, true, up, whole_with, ℕ, ◌++◌, ◌-◌, ◌<◌, ◌∙◌, ◌≡◌}
-use Rattle.sd_edit.specs.declared.node.NodeDacl.TheVariants.{List as Entries}
+use Rattle.sd_edit.specs.declared.node.NodeDacl.TheVariants.{List as Entries, Stored}
 use Rattle.sd_tree.proofs.Kept.{row_here}
 use Rattle.sd_tree.proofs.OneDacl.{inheriting_dacl}
 
@@ -29,6 +29,7 @@ with_own row inherited h = parts row.dacl inherited h
     parts : (d : NodeDacl) (inherited : List Ace) → inherits d ≡ true → dacl_with d inherited ≡ Some (own_entries d ++ inherited)
     parts Null inherited h = absurd (false≢true h)
     parts (Entries is-protected own) inherited h = refl
+    parts (Stored own kept offer) inherited h = refl
 
 -- a row below the same parent has its own entries before what its sibling inherits
 pub row_beside : (g : MappingValue) (beside row : NodeRow) (above : Option (List Ace)) → InheritOne beside row above → (inherited : List Ace)
@@ -49,6 +50,7 @@ from_sibling g beside row above h n inherited kept is =
     only_behind : (d : NodeDacl) (xs ys : List Ace) → dacl_with d xs ≡ Some (own_entries d ++ ys) → xs ≡ ys
     only_behind Null xs ys e = absurd cc
     only_behind (Entries is-protected own) xs ys e = same_behind own xs ys (same_Some _ _ e)
+    only_behind (Stored own kept offer) xs ys e = same_behind own xs ys (same_Some _ _ e)
 
 pub dacl_beside : (g : MappingValue) (bs : List Node) → AreStanding g bs → (path : Names) (row : NodeRow) (above : Option (List Ace)) (k : ℕ)
     → above ≡ dacl_at g (tree_of bs) (up path) → IsSibling bs path row above k → (n : Node) → n ≡ get_or bs k n

@@ -1,6 +1,6 @@
 -- Nodes that inherit do so alike below one parent, where nothing tells them apart.
 use Rattle.sd_tree.proofs.Cited.{Ace, AreAlike, Bool, Container, InheritOne, List, MappingValue, NodeDacl, NodeKind, NodeRow, None, Null, Object, Option, SidValue, Some, [], ap, ap₂, behind_own, cond, container_inherit, created_by, creator_group, creator_owner, dacl_of_row, dacl_under, dacl_with, effective_copy, false, false≢true, flat_map, flat_map-append, handed_on, inherits, is_split, list_any, names_creator, no_propagate, object_inherit, own_entries, pass_on, refl, same_sid, sym, true, trustees_matter, waiting_copy, whole_copy, whole_with, ◌++◌, ◌||◌, ◌∙◌, ◌∷◌, ◌≡◌}
-use Rattle.sd_edit.specs.declared.node.NodeDacl.TheVariants.{List as Entries}
+use Rattle.sd_edit.specs.declared.node.NodeDacl.TheVariants.{List as Entries, Stored}
 
 -- a node that inherits has its own entries, and behind them what is handed on to it
 pub inheriting_dacl : (g : MappingValue) (row : NodeRow) (above : Option (List Ace)) → inherits row.dacl ≡ true
@@ -12,29 +12,7 @@ inheriting_dacl g row above h = parts g row row.dacl above h
     parts g row Null above h = absurd (false≢true h)
     parts g row (Entries true own) above h = absurd (false≢true h)
     parts g row (Entries false own) above h = refl
-
--- what is handed on of two lists, one behind the other, is handed on of the DACL that has both
-pub handed_in_parts : (g : MappingValue) (kind : NodeKind) (owner group : SidValue) (dacl : NodeDacl) (row : NodeRow)
-    → record { kind = kind; owner = owner; group = group; dacl = dacl } ≡ row
-    → (own inherited start first both : List Ace) (whole : Option (List Ace)) → start ≡ []
-    → first ≡ start ++ flat_map (pass_on g kind owner group) own
-    → both ≡ first ++ flat_map (pass_on g kind owner group) inherited
-    → whole ≡ Some (own ++ inherited) → both ≡ handed_on g row whole
-handed_in_parts g kind owner group dacl row is own inherited start first both whole empty one two parts =
-    let h : Ace → List Ace = pass_on g kind owner group in
-    two ∙ ap (λ xs. xs ++ flat_map h inherited) (one ∙ ap (λ xs. xs ++ flat_map h own) empty)
-    ∙ sym (flat_map-append h own inherited)
-    ∙ ap (λ (r : NodeRow). handed_on g r (Some (own ++ inherited))) is
-    ∙ sym (ap (handed_on g row) parts)
-
--- what inherits nothing has its own entries alone, as at the root
-pub own_alone : (g : MappingValue) (row : NodeRow) → whole_with row [] ≡ dacl_of_row g row None
-own_alone g row = parts g row row.dacl
-  where
-    parts : (g : MappingValue) (row : NodeRow) (d : NodeDacl) → dacl_with d [] ≡ dacl_under g row d None
-    parts g row Null = refl
-    parts g row (Entries true own) = refl
-    parts g row (Entries false own) = refl
+    parts g row (Stored own kept offer) above h = absurd (false≢true h)
 
 -- ---- of one kind, owner and group
 one_by_trustees : (one other : NodeRow) (above : Option (List Ace))

@@ -1,10 +1,11 @@
 -- A node's whole DACL, which is kept in two parts. No public contract says so.
 use Rattle.std.specs.Prelude.{Bool, false, not, List, ◌++◌, Option, Some, None}
+use Rattle.std.specs.Borrow.{Bor}
 use Rattle.sd_acl.specs.declared.ace.Ace.{Ace}
 use Rattle.sd_path.specs.Names.{Names}
 use Rattle.sd_edit.specs.Refusals.{own_entries}
 use Rattle.sd_edit.specs.declared.node.NodeDacl.{NodeDacl}
-use Rattle.sd_edit.specs.declared.node.NodeDacl.TheVariants.{Null, List as Entries}
+use Rattle.sd_edit.specs.declared.node.NodeDacl.TheVariants.{Null, List as Entries, Stored}
 use Rattle.sd_edit.specs.declared.node.NodeRow.{NodeRow}
 
 -- a row's own entries, and these behind them
@@ -15,6 +16,7 @@ behind_own row inherited = own_entries row.dacl ++ inherited
 abbrev pub dacl_with : NodeDacl → List Ace → Option (List Ace)
 dacl_with Null inherited = None
 dacl_with (Entries protected own) inherited = Some (own ++ inherited)
+dacl_with (Stored own kept offer) inherited = Some (own ++ inherited)
 
 abbrev pub whole_with : NodeRow → List Ace → Option (List Ace)
 whole_with row inherited = dacl_with row.dacl inherited
@@ -25,7 +27,13 @@ pub record NodeValue : Type 0 where
   pub row : NodeRow
   pub whole : Option (List Ace)
 
--- whether a node with this DACL inherits: it is neither null nor protected
+-- a DACL in two parts; a null one has none
+abbrev pub joined : Option (Bor (List Ace) × Bor (List Ace)) → Option (List Ace)
+joined None = None
+joined (Some parts) = Some (parts.0.now ++ parts.1.now)
+
+-- whether a node with this DACL inherits what is handed on to it: it is neither null nor protected nor was it stored
 abbrev pub inherits : NodeDacl → Bool
 inherits Null = false
 inherits (Entries protected own) = not protected
+inherits (Stored own kept offer) = false

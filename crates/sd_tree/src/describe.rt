@@ -65,7 +65,7 @@ fn own_list(alloc: Global, dacl: &NodeDacl) -> Result<Dacl, AllocError>
 {
     match dacl {
         NodeDacl::Null => Ok(Dacl::Null),
-        NodeDacl::List { entries, .. } => {
+        NodeDacl::List { entries, .. } | NodeDacl::Stored { entries, .. } => {
             let entries = Vec::from_slice(alloc, entries.as_slice())?;
             Ok(Dacl::List(list_of(entries)))
         }

@@ -33,6 +33,7 @@ mod subtree;
 mod tree;
 mod tree_view;
 
+pub use inherit::inherited_entries;
 pub use journal::Journal;
 pub use listing::NodeRef;
 pub use sd_edit::{

@@ -14,7 +14,7 @@ use sd_edit::{EditRefusal, NodeDacl};
 pub(crate) fn list_refusal(dacl: &NodeDacl) -> Option<EditRefusal>
     ensures { result ≡ first_fit (list_tests dacl.now) }
 {
-    let NodeDacl::List { entries, .. } = dacl else {
+    let (NodeDacl::List { entries, .. } | NodeDacl::Stored { entries, .. }) = dacl else {
         return None;
     };
     let entries = entries.as_slice();

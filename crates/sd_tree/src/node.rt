@@ -4,7 +4,7 @@ ghost use Rattle.std.specs.Prelude.{◌≡◌, ◌++◌, ◌≤◌, None, Some, 
 ghost use Rattle.sd_tree.specs.Plans.{changed_row, is_of_trustee};
 ghost use Rattle.sd_edit.specs.Refusals.{dacl_size};
 ghost use Rattle.sd_tree.specs.Sizes.{IsSizeError};
-ghost use Rattle.sd_tree.specs.Node.{whole_with};
+ghost use Rattle.sd_tree.specs.Node.{joined, whole_with};
 
 use crate::addition::Addition;
 use crate::shared::Shared;
@@ -123,7 +123,10 @@ impl Node {
         ensures fits { IfOk result (λ node. dacl_size node.whole ≤ 65535) }
         ensures refused { IfErr result (λ e. IsSizeError e (whole_with addition.row inherited)) }
     {
-        if let NodeDacl::List { entries, .. } = addition.row().dacl {
+        if let NodeDacl::List { entries, .. } | NodeDacl::Stored { entries, .. } = addition
+            .row()
+            .dacl
+        {
             // Both sizes count a header.
             let size = entries.size().saturating_add(inherited.get().size());
             if size > MAX_ACL_BYTES + ACL_HEADER_BYTES {
@@ -188,13 +191,12 @@ impl Node {
 
     /// Its own entries, and those that it inherits; `None` where its DACL is a null one.
     pub(crate) fn parts(&self) -> Option<(&[Ace], &[Ace])>
-        ensures parts { MatchOption result (self.now.whole ≡ None)
-            (λ parts. self.now.whole ≡ Some (parts.0.now ++ parts.1.now)) }
+        ensures parts { self.now.whole ≡ joined result }
         ensures fits { dacl_size self.now.whole ≤ 65535 }
     {
         match self.row().dacl {
             NodeDacl::Null => None,
-            NodeDacl::List { entries, .. } => {
+            NodeDacl::List { entries, .. } | NodeDacl::Stored { entries, .. } => {
                 Some((entries.as_slice(), self.inherited.get().as_slice()))
             }
         }

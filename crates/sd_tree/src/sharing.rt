@@ -10,12 +10,12 @@ use sd_acl::Ace;
 use sd_edit::{NodeDacl, same_entries};
 use sd_inheritance::{is_creator_group, is_creator_owner};
 
-/// Whether a node with this DACL inherits: it is neither null nor protected.
+/// Whether a node with this DACL inherits what is handed on to it: it is neither null nor protected, nor was it stored.
 pub(crate) fn inherits(dacl: &NodeDacl) -> bool
     ensures { result ≡ inherits dacl.now }
 {
     match dacl {
-        NodeDacl::Null => false,
+        NodeDacl::Null | NodeDacl::Stored { .. } => false,
         NodeDacl::List { protected, .. } => !*protected,
     }
 }

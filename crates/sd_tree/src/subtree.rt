@@ -103,6 +103,7 @@ impl TreeView<'_> {
                 return node.inheriting(made[beside.0 - at].inherited().share()?);
             }
         }
+        let above = above.parts();
         node.inheriting(inherited_below(self.alloc, self.mapping, &node.row(), above)?)
     }
 

@@ -14,7 +14,7 @@ ghost use Rattle.sd_tree.specs.View.{IsView, tree_in};
 
 use crate::addition::Addition;
 use crate::describe::descriptor_of_node;
-use crate::inherit::nothing;
+use crate::inherit::inherited_below;
 use crate::journal::{Edits, Journal};
 use crate::list_refusal::list_refusal;
 use crate::node::Node;
@@ -263,6 +263,6 @@ fn root_node(alloc: Global, mapping: &GenericMapping, root: &RootSpec) -> Result
         dacl: root.dacl.copy(alloc)?,
     };
     let addition = Addition::new(alloc, Path::root(alloc), row)?;
-    let inherited = nothing(alloc)?;
+    let inherited = inherited_below(alloc, mapping, &addition.row(), None)?;
     Node::new(addition, inherited)
 }

@@ -10,7 +10,7 @@ ghost use Rattle.sd_tree.specs.View.{IsView, tree_in};
 ghost use Rattle.sd_tree.specs.Node.{whole_with};
 ghost use Rattle.sd_tree.specs.declared.node.Node.{Node};
 
-use crate::inherit::{inherited_below, nothing};
+use crate::inherit::inherited_below;
 use crate::node::{Node, RowRef};
 use crate::nodes::{locate, node_in};
 use crate::shared::Shared;
@@ -112,12 +112,12 @@ impl<'a> TreeView<'a> {
             (insert (tree_in self.now) path.now row.now) path.now) }
     {
         if path.is_root() {
-            return nothing(self.alloc);
+            return inherited_below(self.alloc, self.mapping, row, None);
         }
         let above = self.node(self.place_of(&path.parent()));
         if let Some(beside) = self.sibling_around(path, row, above, at) {
             return beside.1.inherited().share();
         }
-        inherited_below(self.alloc, self.mapping, row, above)
+        inherited_below(self.alloc, self.mapping, row, above.parts())
     }
 }

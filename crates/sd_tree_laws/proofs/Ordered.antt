@@ -54,7 +54,7 @@ canonical_parts own inherited explicit ordered behind =
 
 -- ---- the canonical order
 
-no_deny : (es : List Ace) → list_any denies (filter allows es) ≡ false
+pub no_deny : (es : List Ace) → list_any denies (filter allows es) ≡ false
 no_deny [] = refl
 no_deny (e ∷ es) =
     elim (cases_Bool (allows e)) [

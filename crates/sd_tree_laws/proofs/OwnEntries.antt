@@ -1,9 +1,13 @@
 -- The entries that a node has of its own, in the tree of a lawful journal: explicit, and in order.
-use Rattle.sd_tree_laws.proofs.Cited.{Ace, AclTooLarge, AddContainer, AddObject, Bool, Edit, EveryListIsCanonical, IsLawful, List, MappingValue, Move, Names, NodeDacl, NodeRow, None, Null, Opening, Option, OwnHasNoId, PlainTree, ProtectKeeping, Remove, SetDacl, SetGroup, SetOwner, Some, WithoutIdIsOwn, [], ap, arith, changed, cond, dacl_at, dacl_at_here, dacl_here, dacl_over, dacl_under, deny_behind_allow, early_refusal, early_tests, edited, entry_there, eq_by_cmp, explicit_entries, false, filter, find, get_or, handed_on, has_large_dacl, holds_of_lawful, inl, inr, is_canonical, is_explicit, is_inherited, keeping, length, length-map, list_any, list_tests, moved, moved_entry, names_cmp, none_fits, not_refused, opened, option_map, own_entries, refl, replay, root_refusal, root_row, row_at, row_at-changed_other, row_at-changed_same, row_at-empty, row_at-insert_other, row_at-insert_same, row_at-moved, row_at-remove_other, row_at-remove_same, same_or_other, subst, suc, sym, true, zero, ℕ, ◌++◌, ◌<◌, ◌∙◌, ◌∷◌, ◌≡◌}
-use Rattle.std.proofs.Common.{map as each}
+use Rattle.sd_tree_laws.proofs.Cited.{Ace, AclTooLarge, AddContainer, AddObject, Bool, Edit, EveryListIsCanonical, IsLawful, List, MappingValue, Move, Names, NodeDacl, NodeRow, None, Null, Opening, Option, OwnHasNoId, PlainTree, ProtectKeeping, Remove, SetDacl, SetGroup, SetOwner, Some, WithoutIdIsOwn, [], ap, arith, changed, cond, dacl_at, dacl_at_here, dacl_here, dacl_over, dacl_under, deny_behind_allow, early_refusal, early_tests, edited, entry_there, eq_by_cmp, explicit_entries, false, filter, find, get_or, handed_on, has_large_dacl, holds_of_lawful, inl, inr, is_canonical, is_explicit, is_inherited, keeping, length, length-map, list_any, list_tests, moved, moved_entry, names_cmp, none_fits, not, not_refused, opened, option_map, own_entries, refl, replay, root_refusal, root_row, row_at, row_at-changed_other, row_at-changed_same, row_at-empty, row_at-insert_other, row_at-insert_same, row_at-moved, row_at-remove_other, row_at-remove_same, same_or_other, subst, suc, sym, true, zero, ℕ, ◌++◌, ◌<◌, ◌∙◌, ◌∷◌, ◌≡◌}
+use Rattle.std.proofs.Common.{bit_or, map as each}
+use Rattle.std.proofs.lemmas.Bool.{or_from, or_right}
+use Rattle.sd_sid.proofs.Masks.{holds-or}
+use Rattle.sd_sid.specs.Mask.{holds}
 use Rattle.std.specs.FinMap as map
 use Rattle.std.proofs.Math.ListN.{get_or-map as get_or-mapped}
-use Rattle.sd_edit.specs.declared.node.NodeDacl.TheVariants.{List as Entries}
+use Rattle.sd_edit.specs.declared.node.NodeDacl.TheVariants.{List as Entries, Stored}
+use Rattle.sd_edit.specs.Inheritance.{inherited_entry, kept_or_handed, still_offers}
 use Rattle.sd_tree_laws.proofs.Ordered.{canonical_parts, explicit_front, ordered_canonical, kept_explicit}
 use Rattle.sd_tree_laws.proofs.Copies.{inherited_has_id}
 
@@ -104,6 +108,18 @@ sound_replay o journal fits =
 pub own_has_no_id : OwnHasNoId
 own_has_no_id o journal path row fits lawful there = (sound_replay o journal fits lawful path row there).explicit
 
+-- what a stored node keeps, or else what is handed on to it, has the flag ID
+flag_set : (f : ℕ) → holds (bit_or f 0x10) 4 ≡ true
+flag_set f = holds-or f 0x10 4 ∙ or_right (holds f 4) (holds 0x10 4) refl
+
+kept_has_id : (inherited : List Ace) → list_any is_explicit (each inherited_entry inherited) ≡ false
+kept_has_id [] = refl
+kept_has_id (e ∷ es) = or_from (is_explicit (inherited_entry e)) (list_any is_explicit (each inherited_entry es)) (ap not (flag_set e.flags.0)) (kept_has_id es)
+
+behind_has_id : (keeps : Bool) (inherited handed : List Ace) → list_any is_explicit handed ≡ false → list_any is_explicit (kept_or_handed keeps inherited handed) ≡ false
+behind_has_id true inherited handed h = kept_has_id inherited
+behind_has_id false inherited handed h = h
+
 canonical_under : (g : MappingValue) (row : NodeRow) (dacl : NodeDacl) (above : Option (List Ace)) (entries : List Ace) → IsSound dacl
     → dacl_under g row dacl above ≡ Some entries → is_canonical entries ≡ true
 canonical_under g row Null above entries sound e = absurd cc
@@ -111,6 +127,9 @@ canonical_under g row (Entries true own) above entries sound e =
     ap is_canonical (sym (inside _ _ e)) ∙ canonical_parts own [] sound.explicit sound.ordered refl
 canonical_under g row (Entries false own) above entries sound e =
     ap is_canonical (sym (inside _ _ e)) ∙ canonical_parts own (handed_on g row above) sound.explicit sound.ordered (inherited_has_id g row above)
+canonical_under g row (Stored own inherited offer) above entries sound e =
+    ap is_canonical (sym (inside _ _ e))
+    ∙ canonical_parts own _ sound.explicit sound.ordered (behind_has_id (still_offers g row.kind above offer) inherited (handed_on g row above) (inherited_has_id g row above))
 
 canonical_here : (g : MappingValue) (o : Option NodeRow) (above : Option (List Ace)) (entries : List Ace) → ((row : NodeRow) → o ≡ Some row → IsSound row.dacl)
     → dacl_here g o above ≡ Some entries → is_canonical entries ≡ true
@@ -124,6 +143,9 @@ explicit_under g row (Entries true own) above entries sound e =
     ap (filter is_explicit) (sym (inside _ _ e)) ∙ explicit_front own [] sound.explicit refl
 explicit_under g row (Entries false own) above entries sound e =
     ap (filter is_explicit) (sym (inside _ _ e)) ∙ explicit_front own (handed_on g row above) sound.explicit (inherited_has_id g row above)
+explicit_under g row (Stored own inherited offer) above entries sound e =
+    ap (filter is_explicit) (sym (inside _ _ e))
+    ∙ explicit_front own _ sound.explicit (behind_has_id (still_offers g row.kind above offer) inherited (handed_on g row above) (inherited_has_id g row above))
 
 pub without_id_is_own : WithoutIdIsOwn
 without_id_is_own o journal path row entries fits lawful there e =

@@ -1,6 +1,6 @@
 -- That a move after ProtectKeeping of its source changes no DACL, so that the two edits together let nobody in.
 use Rattle.sd_tree_laws.proofs.Cited.{Ace, Edit, IsClosed, IsLawful, IsMovable, IsSome, List, MappingValue, Move, Names, NodeDacl, NodeRow, None, Null, Opening, Option, PlainTree, ProtectKeeping, ProtectingFirstGrantsNoNewRequest, ProtectingFirstKeepsLists, ProtectingFirstLetsNobodyIn, Some, TokenValue, [], ap, append_assoc, ap₂, cases_Bool, changed, closed_replay, dacl_at, dacl_at-moved_other, dacl_at_here, dacl_here, dacl_over, dacl_under, false, granted_by_row, inl, inr, is_granted_at, is_within, keeping, lawful_before, lawful_last, moved, moved_path, moved_path-append, moved_path-outside, nothing_below, option_map, protected_then_moved, refl, replay, replay-push, reply_for, reply_in, row_at, row_at-changed_other, row_at-changed_same, row_at-moved_other, row_at-moved_there, some_row, subst, sym, true, within_itself, within_rest, ℕ, ◌++◌, ◌∙◌, ◌∷◌, ◌≡◌}
-use Rattle.sd_edit.specs.declared.node.NodeDacl.TheVariants.{List as Entries}
+use Rattle.sd_edit.specs.declared.node.NodeDacl.TheVariants.{List as Entries, Stored}
 use Rattle.sd_tree_laws.proofs.Keeping.{keeping_lets_nobody_in}
 use Rattle.sd_tree_laws.proofs.KeptGrants.{keeping_grants_no_new_request}
 use Rattle.sd_tree_laws.proofs.MovedLists.{StandsAlone, moves_unchanged}
@@ -13,6 +13,7 @@ null_alone : (g : MappingValue) (row : NodeRow) (dacl : NodeDacl) (above : Optio
     → dacl_under g row dacl above ≡ None → StandsAlone dacl
 null_alone g row Null above e = λ h r one other. refl
 null_alone g row (Entries protected entries) above e = absurd cc
+null_alone g row (Stored entries inherited offer) above e = absurd cc
 
 kept_alone : (g : MappingValue) (o : Option NodeRow) (whole above : Option (List Ace)) (row : NodeRow)
     → dacl_here g o above ≡ whole → option_map (keeping whole) o ≡ Some row → StandsAlone row.dacl

@@ -1,6 +1,6 @@
 -- How far an edit reaches, and that nothing comes to a protected node from above.
 use Rattle.sd_tree_laws.proofs.Cited.{Ace, AddContainer, AddObject, Edit, EditStaysBelow, List, MappingValue, Move, Names, NodeDacl, NodeRow, Null, Option, PlainTree, ProtectKeeping, ProtectedStandsAlone, Remove, SetDacl, SetGroup, SetOwner, ap, ap₂, below_alike, dacl_at, dacl_at-append, dacl_at_alike, dacl_at_here, dacl_below, dacl_here, dacl_over, dacl_under, descriptor_of_row, edited, false, false≢true, is_protected, is_within, option_map, or_parts, refl, row_at, row_at-changed_other, row_at-insert_other, row_at-moved_other, row_at-remove_other, sym, touches, true, way_outside, within-append, within_itself, within_rest, ◌++◌, ◌||◌, ◌∙◌, ◌∷◌, ◌≡◌, ◌≢◌}
-use Rattle.sd_edit.specs.declared.node.NodeDacl.TheVariants.{List as Entries}
+use Rattle.sd_edit.specs.declared.node.NodeDacl.TheVariants.{List as Entries, Stored}
 
 pub outside_is_other : (at path : Names) → is_within at path ≡ false → path ≢ at
 outside_is_other at path outside same = false≢true (sym outside ∙ ap (is_within at) same ∙ within_itself at)
@@ -42,6 +42,7 @@ pub nothing_from_above : (g : MappingValue) (row : NodeRow) (dacl : NodeDacl) (a
 nothing_from_above g row Null above other h = refl
 nothing_from_above g row (Entries true entries) above other h = refl
 nothing_from_above g row (Entries false entries) above other h = absurd (false≢true h)
+nothing_from_above g row (Stored entries inherited offer) above other h = absurd (false≢true h)
 
 pub protected_stands_alone : ProtectedStandsAlone
 protected_stands_alone g t u top path row there protected same below =

@@ -1,8 +1,10 @@
 -- DACLs that are one but for the order of some last entries: what they hand on, and what they grant.
-use Rattle.sd_tree_laws.proofs.Cited.{Ace, AceKind, Bool, List, MappingValue, Names, NodeDacl, NodeKind, NodeRow, None, Null, Option, PlainTree, SidValue, Some, TokenValue, [], acl_grants, allows, and_from, and_parts, ap, append-nil, append_assoc, applies, applies_again, ap₂, canonical_order, cases_Bool, dacl_below, dacl_here, dacl_under, decides, denies, explicit_entries, false, filter, filter-append, first, flat_map, flat_map-append, handed_on, inl, inr, is_allowed_by, is_given, is_granted, is_implied, is_inherit_only, is_listed, is_owner, is_restricted, limits_owner, list_any, list_any-append, nat_lt, not, not-false, or_left, or_right, owner_rights, pass_on, refl, row_at, same_sid, sym, true, ℕ, ◌&&◌, ◌++◌, ◌||◌, ◌∙◌, ◌∷◌, ◌≡◌}
-use Rattle.sd_edit.specs.declared.node.NodeDacl.TheVariants.{List as Entries}
+use Rattle.sd_tree_laws.proofs.Cited.{Ace, AceKind, Bool, List, MappingValue, Names, NodeDacl, NodeKind, NodeRow, None, Null, Option, PlainTree, SidValue, Some, TokenValue, [], acl_grants, allows, and_from, and_parts, ap, append-nil, append_assoc, applies, applies_again, ap₂, canonical_order, cases_Bool, dacl_below, dacl_here, dacl_under, decides, denies, explicit_entries, false, filter, filter-append, first, flat_map, flat_map-append, handed_on, inl, inr, is_allowed_by, is_given, is_granted, is_implied, is_inherit_only, is_listed, is_owner, is_restricted, limits_owner, list_any, list_any-append, nat_lt, not, not-false, or_left, or_right, owner_rights, pass_on, refl, row_at, same_sid, subst, sym, true, ℕ, ◌&&◌, ◌++◌, ◌||◌, ◌∙◌, ◌∷◌, ◌≡◌}
+use Rattle.sd_edit.specs.declared.node.NodeDacl.TheVariants.{List as Entries, Stored}
+use Rattle.sd_edit.specs.Inheritance.{kept_or_handed, offered, same_list, still_offers}
+use Rattle.sd_inheritance.specs.Inheritance.{creator_group, creator_owner}
 use Rattle.sd_tree_laws.proofs.Copies.{no_copy_passes}
-use Rattle.sd_tree_laws.proofs.Ordered.{filter_whole, filter_none}
+use Rattle.sd_tree_laws.proofs.Ordered.{filter_none, filter_whole, no_allow, no_deny}
 use Rattle.sd_tree_laws.proofs.OrderGrants.{allowed_before, allowed_behind, any_canonical}
 use Rattle.sd_tree_laws.proofs.ExplicitForm.{explicit_allowed, explicit_limits, explicit_handed_alike}
 
@@ -97,12 +99,47 @@ node_hands_on es g row = record {
   is_before = refl;
 }
 
+-- what a node keeps that was stored it keeps where the same is offered in another order
+denies_again : (es : List Ace) → filter denies (canonical_order es) ≡ filter denies es
+denies_again es =
+    filter-append denies (filter denies es) (filter allows es)
+    ∙ ap₂ (λ xs ys. xs ++ ys) (filter_whole denies allows (λ x no. ap not no) (filter denies es) (no_allow es)) (filter_none denies (filter allows es) (no_deny es))
+    ∙ append-nil (filter denies es)
+
+allows_again : (es : List Ace) → filter allows (canonical_order es) ≡ filter allows es
+allows_again es =
+    filter-append allows (filter denies es) (filter allows es)
+    ∙ ap₂ (λ xs ys. xs ++ ys) (filter_none allows (filter denies es) (no_allow es)) (filter_whole allows denies (λ x no. not-false (allows x) no) (filter allows es) (no_deny es))
+
+order_behind : (front back : List Ace) → canonical_order (front ++ canonical_order back) ≡ canonical_order (front ++ back)
+order_behind front back =
+    ap₂ (λ xs ys. xs ++ ys)
+    (filter-append denies front (canonical_order back) ∙ ap (λ xs. filter denies front ++ xs) (denies_again back) ∙ sym (filter-append denies front back))
+    (filter-append allows front (canonical_order back) ∙ ap (λ xs. filter allows front ++ xs) (allows_again back) ∙ sym (filter-append allows front back))
+
+still_reordered : (g : MappingValue) (kind : NodeKind) (after before : Option (List Ace)) (offer : List Ace)
+    → IsReordered (offered g kind after) (offered g kind before) → still_offers g kind after offer ≡ still_offers g kind before offer
+unfolding still_offers
+still_reordered g kind after before offer r =
+    ap (λ es. same_list es (canonical_order offer)) (ap canonical_order r.is_after ∙ order_behind r.front r.back ∙ sym (ap canonical_order r.is_before))
+
+kept_either : (own inherited after before : List Ace) → IsReordered after before → (keeps : Bool)
+    → IsReordered (own ++ kept_or_handed keeps inherited after) (own ++ kept_or_handed keeps inherited before)
+kept_either own inherited after before r true = unchanged _
+kept_either own inherited after before r false = behind own after before r
+
 under : (g : MappingValue) (row : NodeRow) (dacl : NodeDacl) (after before : Option (List Ace)) → HandOnReordered after before
     → AreReordered (dacl_under g row dacl after) (dacl_under g row dacl before)
 unfolding HandOnReordered
 under g row Null after before r = tt
 under g row (Entries true own) after before r = unchanged (own ++ [])
 under g row (Entries false own) after before r = behind own (handed_on g row after) (handed_on g row before) (r g row)
+under g row (Stored own inherited offer) after before r =
+    let child : NodeRow = record { kind = row.kind; owner = creator_owner; group = creator_group; dacl = Null } in
+    let still = still_offers g row.kind before offer in
+    let P : Bool → Type 0 = λ keeps. IsReordered (own ++ kept_or_handed keeps inherited (handed_on g row after)) (own ++ kept_or_handed still inherited (handed_on g row before)) in
+    subst P (sym (still_reordered g row.kind after before offer (r g child)))
+    (kept_either own inherited (handed_on g row after) (handed_on g row before) (r g row) still)
 
 pub here : (g : MappingValue) (o : Option NodeRow) (after before : Option (List Ace)) → HandOnReordered after before
     → AreReordered (dacl_here g o after) (dacl_here g o before)

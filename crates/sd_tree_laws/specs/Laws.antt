@@ -1,5 +1,5 @@
 -- What follows from the rules of the tree, as laws over all trees, edits, tokens and requests.
-use Rattle.std.specs.Prelude.{◌≡◌, ◌≢◌, ℕ, Bool, true, false, ◌||◌, List, [], ◌∷◌, ◌++◌, filter}
+use Rattle.std.specs.Prelude.{◌≡◌, ◌≢◌, ℕ, Bool, true, false, ◌||◌, List, [], ◌∷◌, ◌++◌, filter, map}
 use Rattle.std.specs.Prelude.{Option, Some, None, IsSome}
 use Rattle.std.specs.List.{list_any, flat_map}
 use Rattle.sd_sid.specs.Mask.{holds}
@@ -14,7 +14,7 @@ use Rattle.sd_check.specs.declared.verdict.Verdict.TheVariants.{Granted}
 use Rattle.sd_check.specs.Token.{TokenValue}
 use Rattle.sd_path.specs.Names.{Names, up, is_root, is_within, moved_path}
 use Rattle.sd_inheritance.specs.Inheritance.{object_inherit, container_inherit, no_propagate, pass_on}
-use Rattle.sd_edit.specs.Inheritance.{handed_on, dacl_of_row}
+use Rattle.sd_edit.specs.Inheritance.{dacl_of_row, dacl_under, handed_on, inherited_entry, still_offers}
 use Rattle.sd_edit.specs.Descriptors.{is_protected}
 use Rattle.sd_edit.specs.Closed.{IsClosed}
 use Rattle.sd_edit.specs.Plain.{PlainTree, row_at, dacl_at}
@@ -24,7 +24,7 @@ use Rattle.sd_edit.specs.Journal.{replay, refusal, root_refusal, IsLawful}
 use Rattle.sd_edit.specs.Refusals.{own_entries}
 use Rattle.sd_edit.specs.declared.node.NodeRow.{NodeRow}
 use Rattle.sd_edit.specs.declared.node.NodeDacl.{NodeDacl}
-use Rattle.sd_edit.specs.declared.node.NodeDacl.TheVariants.{Null}
+use Rattle.sd_edit.specs.declared.node.NodeDacl.TheVariants.{Null, List as Entries, Stored}
 use Rattle.sd_inheritance.specs.declared.kind.NodeKind.{NodeKind}
 use Rattle.sd_inheritance.specs.declared.kind.NodeKind.TheVariants.{Object}
 use Rattle.sd_edit.specs.declared.opening.Opening.{Opening}
@@ -199,6 +199,22 @@ WithoutIdIsOwn =
     → row_at (replay opening journal) path ≡ Some row
     → dacl_at opening.mapping (replay opening journal) path ≡ Some entries
     → filter is_explicit entries ≡ own_entries row.dacl
+
+-- ---- a node that was stored with what it had inherited elsewhere
+
+-- while its parent offers what was offered there, it has these entries, each with ID
+abbrev pub StoredKeeps : Type 0
+StoredKeeps =
+    (g : MappingValue) (row : NodeRow) (own inherited offer : List Ace) (above : Option (List Ace))
+    → still_offers g row.kind above offer ≡ true
+    → dacl_under g row (Stored own inherited offer) above ≡ Some (own ++ map inherited_entry inherited)
+
+-- otherwise it has what it would have if it hadn't been stored
+abbrev pub StoredInherits : Type 0
+StoredInherits =
+    (g : MappingValue) (row : NodeRow) (own inherited offer : List Ace) (above : Option (List Ace))
+    → still_offers g row.kind above offer ≡ false
+    → dacl_under g row (Stored own inherited offer) above ≡ dacl_under g row (Entries false own) above
 
 -- ---- the order of entries
 

@@ -7,6 +7,7 @@ ghost use Rattle.sd_tree_laws.specs.Laws.{MoveCarriesTheSubtree, MoveBackUndoesI
 ghost use Rattle.sd_tree_laws.specs.Laws.{ProtectedKeepLists, NullKeepLists, RenamedKeepLists, ProtectedStandsAlone};
 ghost use Rattle.sd_tree_laws.specs.Laws.{UnmarkedEntryStays, NoPropagateGoesOneLevel, NothingWaitsInAnObject};
 ghost use Rattle.sd_tree_laws.specs.Laws.{InheritedHasId, OwnHasNoId, WithoutIdIsOwn, EveryListIsCanonical};
+ghost use Rattle.sd_tree_laws.specs.Laws.{StoredInherits, StoredKeeps};
 ghost use Rattle.sd_tree_laws.specs.Laws.{OrderGrantsNothing, OrderKeepsOwnersLimit, KeepingLetsNobodyIn};
 ghost use Rattle.sd_tree_laws.specs.Laws.{KeepingGrantsNoNewRequest, ProtectingFirstKeepsLists};
 ghost use Rattle.sd_tree_laws.specs.Laws.{ProtectingFirstLetsNobodyIn, ProtectingFirstGrantsNoNewRequest};
@@ -92,6 +93,13 @@ pub fn inherited_has_id()
     ensures inherited { InheritedHasId }
     ensures own { OwnHasNoId }
     ensures explicit { WithoutIdIsOwn }
+{}
+
+/// A node that was stored keeps what it had inherited elsewhere while its parent offers what was offered there, and
+/// otherwise has what it would have if it hadn't been stored ([MS-DTYP] 2.5.3.4).
+pub fn stored_keeps_or_inherits()
+    ensures keeps { StoredKeeps }
+    ensures inherits { StoredInherits }
 {}
 
 /// After a valid journal each node's DACL is in canonical order: the explicit entries precede the inherited ones, and

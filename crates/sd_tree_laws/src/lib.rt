@@ -11,5 +11,6 @@ pub use laws::{
     keeping_lets_nobody_in, lawful_trees_are_closed, move_back_undoes_it, move_carries_the_subtree,
     move_keeps_lists, no_propagate_goes_one_level, nothing_waits_in_an_object,
     order_grants_nothing, protected_stands_alone, protecting_first_lets_nobody_in,
-    same_tree_answers_alike, trustee_stays_in_the_node, unmarked_entry_stays,
+    same_tree_answers_alike, stored_keeps_or_inherits, trustee_stays_in_the_node,
+    unmarked_entry_stays,
 };

@@ -1,14 +1,13 @@
-use Rattle.sd_tree.proofs.Cited.{HoldsAt, IfOk-weaker, ap, path_of_node, sym, tree_of, up, whole_at_root, whole_with, ◌∙◌, ◌≡◌}
+use Rattle.sd_tree.proofs.Cited.{HoldsAt, IfOk-weaker, ap, dacl_of_row, path_of_node, sym, tree_of, up, whole_at_root, whole_with, ◌∙◌, ◌≡◌}
 use Rattle.sd_tree.proofs.Beside.{dacl_beside}
-use Rattle.sd_tree.proofs.OneDacl.{own_alone}
 use Rattle.sd_tree.proofs.NewNode.{stored_whole, below_stored}
 use Rattle.sd_tree.proofs.tree_view.TreeView.inherited_at.Goals as goal
 
 pub returns-then-is_root : goal.returns-then-is_root
 returns-then-is_root c =
     let g = c.args.self.now.mapping.now in
-    let same = own_alone g c.args.row.now ∙ whole_at_root g (tree_of c.args.self.now.nodes.now) c.args.path.now c.args.row.now (sym c.if-is_root.ensures) in
-    IfOk-weaker c.nothing.result _ _ (λ inherited none. ap (whole_with c.args.row.now) none ∙ same) c.nothing.ensures
+    let same = whole_at_root g (tree_of c.args.self.now.nodes.now) c.args.path.now c.args.row.now (sym c.if-is_root.ensures) in
+    IfOk-weaker c.inherited_below.result _ _ (λ inherited is. is ∙ same) c.inherited_below.ensures
 
 pub returns-in-Some : goal.returns-in-Some
 returns-in-Some c =
@@ -28,4 +27,4 @@ returns c =
     let above = c.node-above.result.now in
     let whole = below_stored c.args.self.now.mapping.now c.args.self.now.nodes.now c.requires.standing.kept c.args.path.now c.args.row.now (sym c.if-is_root.ensures)
     c.place_of.result above c.place_of.ensures.within (λ d. c.place_of.ensures.stands d ∙ c.parent.ensures) (c.node-above.ensures above) in
-    IfOk-weaker c.inherited_below.result _ _ (λ inherited is. is ∙ whole) c.inherited_below.ensures
+    IfOk-weaker c.inherited_below-2.result _ _ (λ inherited is. is ∙ ap (dacl_of_row c.args.self.now.mapping.now c.args.row.now) (sym c.parts.ensures.parts) ∙ whole) c.inherited_below-2.ensures
