@@ -61,7 +61,7 @@ pub use Rattle.sd_review.specs.declared.compared.Compared.{Compared}
 pub use Rattle.sd_review.specs.declared.review.Former.{Former}
 pub use Rattle.sd_review.specs.declared.review.Former.TheVariants.{Moved, New, Same}
 pub use Rattle.sd_script.specs.Argument.{IsNumber, dacl_of, descriptor, descriptor_in, import_of, node_of, path}
-pub use Rattle.sd_script.specs.Command.{Argument, Arguments, Asks, Dacl, Groups, Imported, Mask, Node, Number, Parses, Path, Sid, Token, Value, asks, asks_where, command_named, command_of, is_empty, is_untimely, line_asks, names, reading, reads, reads_where, value_named, ◌▸◌}
+pub use Rattle.sd_script.specs.Command.{Argument, Arguments, Asks, Dacl, Groups, Imported, Listed, Mask, Node, Number, Parses, Path, Sid, Token, Value, asks, asks_where, command_named, command_of, is_empty, is_untimely, line_asks, names, reading, reads, reads_where, value_named, ◌▸◌}
 pub use Rattle.sd_script.specs.Deletion.{delete_right, deletion_line, granted_by, parent_grants}
 pub use Rattle.sd_script.specs.Dump.{AreAskedBy, IsAskedBy, IsReadBack, making, makings, wanted}
 pub use Rattle.sd_script.specs.Expect.{expect_line, expects, is_met, last_after, spelled_byte}

@@ -11,7 +11,12 @@ use Rattle.sd_line.specs.Line.{form, is_of, line_of}
 use Rattle.sd_answer.specs.declared.forms.TheConstants.{OPEN}
 use Rattle.sd_line.specs.declared.line.Value.{Value}
 use Rattle.sd_script.specs.Answer.{made_lines}
-use Rattle.sd_script.specs.Dump.{adding_form, making_line}
+use Rattle.sd_edit.specs.declared.node.NodeDacl.{NodeDacl}
+use Rattle.sd_edit.specs.declared.node.NodeDacl.TheVariants.{Null, List as Entries, Stored}
+use Rattle.sd_edit.specs.Descriptors.{own_descriptor_of_row}
+use Rattle.sd_line.specs.declared.line.Value.TheVariants.{Descriptor, Text}
+use Rattle.sd_script.specs.Dump.{adding_form, adding_line, descriptor_of_list, making_line, storing_form}
+use Rattle.sd_script.specs.Paths.{path_word}
 use Rattle.sd_script.specs.Listing.{grants, lines_at, lines_below, node_lines}
 use Rattle.sd_script.specs.declared.answer.Made.{Made}
 use Rattle.sd_script.specs.declared.answer.Made.TheVariants as made
@@ -58,16 +63,30 @@ pieces_quiet : {A : Type 0} (f : A → List LineOf) → ((e : A) → All Quiet (
 pieces_quiet f each [] = All-nil Quiet
 pieces_quiet f each (e ∷ es) = All-append Quiet (f e) (flat_map f es) (each e) (pieces_quiet f each es)
 
-making_quiet : (paths : PathSpelling) (readers : ℕ) (root : Bool) (kind : NodeKind) (opens adds : List Value)
-    → Quiet (if root then line_of (form OPEN) opens else line_of (adding_form kind) adds)
-making_quiet paths readers true kind opens adds = (refl, refl, refl, refl)
-making_quiet paths readers false Container opens adds = (refl, refl, refl, refl)
-making_quiet paths readers false Object opens adds = (refl, refl, refl, refl)
+adding_form_quiet : (kind : NodeKind) (adds : List Value) → Quiet (line_of (adding_form kind) adds)
+adding_form_quiet Container adds = (refl, refl, refl, refl)
+adding_form_quiet Object adds = (refl, refl, refl, refl)
+
+storing_form_quiet : (kind : NodeKind) (adds : List Value) → Quiet (line_of (storing_form kind) adds)
+storing_form_quiet Container adds = (refl, refl, refl, refl)
+storing_form_quiet Object adds = (refl, refl, refl, refl)
+
+adding_quiet : (paths : PathSpelling) (node : Names × NodeRow) (dacl : NodeDacl) → Quiet (adding_line paths node dacl)
+adding_quiet paths node Null = adding_form_quiet node.1.kind (Text (path_word paths node.0) ∷ Descriptor (own_descriptor_of_row node.1) ∷ [])
+adding_quiet paths node (Entries protected own) = adding_form_quiet node.1.kind (Text (path_word paths node.0) ∷ Descriptor (own_descriptor_of_row node.1) ∷ [])
+adding_quiet paths node (Stored own inherited offer) =
+    storing_form_quiet node.1.kind
+    (Text (path_word paths node.0) ∷ Descriptor (own_descriptor_of_row node.1) ∷ Descriptor (descriptor_of_list inherited) ∷ Descriptor (descriptor_of_list offer) ∷ [])
+
+making_quiet : (paths : PathSpelling) (root : Bool) (node : Names × NodeRow) (opens : List Value)
+    → Quiet (if root then line_of (form OPEN) opens else adding_line paths node node.1.dacl)
+making_quiet paths true node opens = (refl, refl, refl, refl)
+making_quiet paths false node opens = adding_quiet paths node node.1.dacl
 
 each_quiet : (paths : PathSpelling) (readers : ℕ) (es : List (Names × NodeRow)) → All Quiet (map (making_line paths readers) es)
 each_quiet paths readers [] = All-nil Quiet
 each_quiet paths readers (e ∷ es) =
-    All-cons Quiet (making_line paths readers e) (map (making_line paths readers) es) (making_quiet paths readers (is_root e.0) e.1.kind _ _) (each_quiet paths readers es)
+    All-cons Quiet (making_line paths readers e) (map (making_line paths readers) es) (making_quiet paths (is_root e.0) e _) (each_quiet paths readers es)
 
 made_quiet : (m : Made) → All Quiet (made_lines m)
 made_quiet made.Nothing = All-nil Quiet

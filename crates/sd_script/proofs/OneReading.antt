@@ -1,5 +1,6 @@
 -- A line is read as one thing, or has one fault.
-use Rattle.sd_script.proofs.Cited.{Aliases, AreGroups, Argument, Arguments, Asks, Bool, Dacl, DescriptorValue, Err, Groups, Imported, IsMaskIn, IsNumber, IsPath, IsToken, LineFault, List, Mask, Names, Node, None, Notation, Number, Ok, Option, Path, PathSpelling, Percent, Plain, Reading, Result, ScriptCommand, Sid, Some, SomeOr, Spelling, Spells, Then, Token, [], ap, asks, asks_where, between_pluses, cases_Bool, command_of, dacl_of, descriptor, descriptor_in, false, groups_one, import_of, inl, inr, is_untimely, line_asks, mask_text, no_fault, node_of, one_fault, one_joined, one_value, reading, reads, reads_where, sddl_in, sid_text_in, sym, token_one, true, words_of, ℕ, ◌∙◌, ◌∷◌, ◌≡◌, ◌▸◌}
+use Rattle.sd_script.proofs.Cited.{Aliases, AreGroups, Argument, Arguments, Asks, Bool, Dacl, DescriptorValue, Err, Groups, Imported, Listed, IsMaskIn, IsNumber, IsPath, IsToken, LineFault, List, Mask, Names, Node, None, Notation, Number, Ok, Option, Path, PathSpelling, Percent, Plain, Reading, Result, ScriptCommand, Sid, Some, SomeOr, Spelling, Spells, Then, Token, [], ap, asks, asks_where, between_pluses, cases_Bool, command_of, dacl_of, descriptor, descriptor_in, false, groups_one, import_of, inl, inr, is_untimely, line_asks, mask_text, no_fault, node_of, one_fault, one_joined, one_value, reading, reads, reads_where, sddl_in, sid_text_in, sym, token_one, true, words_of, ℕ, ◌∙◌, ◌∷◌, ◌≡◌, ◌▸◌}
+use Rattle.sd_script.specs.Argument.{list_of}
 use Rattle.sd_line.specs.declared.spelling.Spelling.TheVariants as spellings
 use Rattle.sd_script.specs.declared.fault.LineFault.TheVariants as faults
 use Rattle.sd_text.proofs.Parts.{found_is, stopped_is}
@@ -111,6 +112,7 @@ argument-one notation (Mask word) = SomeOr-one (IsMaskIn notation.spelling word)
 argument-one notation (Node word) = described-one notation word node_of
 argument-one notation (Dacl word) = described-one notation word dacl_of
 argument-one notation (Imported word) = described-one notation word import_of
+argument-one notation (Listed word) = described-one notation word list_of
 argument-one notation (Token user words) =
     SomeOr-one (IsToken notation.aliases user words) faults.Token (token_one notation.aliases user words)
 argument-one notation (Groups words) = SomeOr-one (AreGroups notation.aliases words) faults.Token (groups_one notation.aliases words)

@@ -1,5 +1,6 @@
 -- The arguments of a line, each parsed.
-use Rattle.std.specs.Prelude.{◌≡◌, ◌⊎◌, ℕ, ◌<◌, ◌^◌, Bool, List, [], filter, Option, Some, None, Result, Ok, Err}
+use Rattle.std.specs.Prelude.{◌≡◌, ◌⊎◌, ℕ, ◌<◌, ◌^◌, Bool, true, false, List, [], ◌++◌, filter, map, Option, Some}
+use Rattle.std.specs.Prelude.{None, Result, Ok, Err}
 use Rattle.std.specs.Str.Parse.{IsNumeral, digits_value}
 use Rattle.sd_sid.specs.Sid.{SidValue}
 use Rattle.sd_acl.specs.Canonical.{canonical_order, is_explicit}
@@ -13,9 +14,10 @@ use Rattle.sd_text.specs.declared.alias.Aliases.{Aliases}
 use Rattle.sd_text.specs.declared.fault.TextFault.{TextFault}
 use Rattle.sd_check.specs.Token.{TokenValue}
 use Rattle.sd_edit.specs.Descriptors.{own_dacl}
+use Rattle.sd_edit.specs.Inheritance.{inherited_entry}
 use Rattle.sd_path.specs.Names.{Names}
 use Rattle.sd_edit.specs.declared.node.NodeDacl.{NodeDacl}
-use Rattle.sd_edit.specs.declared.node.NodeDacl.TheVariants.{List as Entries}
+use Rattle.sd_edit.specs.declared.node.NodeDacl.TheVariants.{List as Entries, Stored}
 use Rattle.sd_edit.specs.declared.opening.RootSpec.{RootSpec}
 use Rattle.sd_script.specs.Fault.{Reading, SomeOr, Then}
 use Rattle.sd_script.specs.Paths.{IsPath}
@@ -71,10 +73,10 @@ abbrev pub with_parts : Option SidValue → Option SidValue → NodeDacl → Res
 with_parts (Some owner) (Some group) dacl = Ok (record { owner = owner; group = group; dacl = dacl })
 with_parts owner group dacl = Err Parts
 
--- a DACL, where neither is
-abbrev pub without_parts : Option SidValue → Option SidValue → NodeDacl → Result NodeDacl LineFault
-without_parts None None dacl = Ok dacl
-without_parts owner group dacl = Err Parts
+-- a value, where neither is
+abbrev pub without_parts : {A : Type 0} → Option SidValue → Option SidValue → A → Result A LineFault
+without_parts None None a = Ok a
+without_parts owner group a = Err Parts
 
 -- a value with another, if there is one
 abbrev pub beside : {A B : Type 0} → B → Result A LineFault → Result (A × B) LineFault
@@ -112,6 +114,22 @@ entries_in dacl = []
 abbrev pub given_in : Dacl → Option (List Ace)
 given_in dacls.Absent = None
 given_in dacl = Some (entries_in dacl)
+
+-- the text of a descriptor with neither owner nor group: its entries, and whether they are all that it says
+abbrev pub list_of : DescriptorValue × LeftOut → Result (List Ace × Bool) LineFault
+list_of d = beside (is_nothing d.1) (without_parts d.0.owner d.0.group (entries_in d.0.dacl))
+
+abbrev pub list : Notation → List ℕ → Reading (List Ace × Bool)
+list notation word = Then (descriptor notation word) (λ d read. read ≡ list_of d)
+
+-- a list that isn't protected, with what was inherited and what was offered where it was stored
+abbrev pub stored_dacl : NodeDacl → List Ace → List Ace → NodeDacl
+stored_dacl (Entries false own) inherited offer = Stored own inherited offer
+stored_dacl dacl inherited offer = dacl
+
+-- what such a node had: its own entries, and those that it had inherited
+abbrev pub given_with : List Ace → List Ace → Bool → Given
+given_with own inherited is_all = record { entries = Some (own ++ map inherited_entry inherited); is_all = is_all }
 
 -- what its text gives to compare the node with
 abbrev pub given_of : DescriptorValue × LeftOut → Given

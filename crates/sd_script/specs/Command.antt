@@ -1,12 +1,14 @@
 -- What a line asks for: the table of commands.
-use Rattle.std.specs.Prelude.{◌≡◌, ℕ, Bool, true, false, not, ◌==◌, MatchBool, if◌then◌else◌, ◌⊎◌, List, [], ◌∷◌}
-use Rattle.std.specs.Prelude.{length, Option, Some, None, Result, Ok, Err, option_map, codes, bytes_eq}
-use Rattle.std.specs.List.{list_any}
+use Rattle.std.specs.Prelude.{◌≡◌, ℕ, Bool, true, false, not, ◌==◌, ◌&&◌, MatchBool, if◌then◌else◌, ◌⊎◌, List, [], ◌∷◌}
+use Rattle.std.specs.Prelude.{length, nat_eq, Option, Some, None, Result, Ok, Err, option_map, codes, bytes_eq}
+use Rattle.std.specs.List.{list_any, starts_with}
 use Rattle.std.specs.Str.{IsUtf8}
 use Rattle.sd_sid.specs.Sid.{SidValue}
 use Rattle.sd_check.specs.Token.{TokenValue}
 use Rattle.sd_check.specs.declared.token.GroupState.{GroupState}
 use Rattle.sd_edit.specs.Additions.{addition_of, row_of}
+use Rattle.sd_edit.specs.Refusals.{own_entries}
+use Rattle.sd_acl.specs.declared.ace.Ace.{Ace}
 use Rattle.sd_path.specs.Names.{Names}
 use Rattle.sd_edit.specs.declared.edit.Edit.{Edit}
 use Rattle.sd_edit.specs.declared.edit.Edit.TheVariants as edits
@@ -17,6 +19,7 @@ use Rattle.sd_edit.specs.declared.opening.RootSpec.{RootSpec}
 use Rattle.sd_edit.specs.declared.request.Request.{Request}
 use Rattle.sd_edit.specs.declared.request.Request.TheVariants as requests
 use Rattle.sd_script.specs.Argument.{number, path, sid, mask, token, base, node, dacl, imported}
+use Rattle.sd_script.specs.Argument.{given_with, list, stored_dacl}
 use Rattle.sd_script.specs.Fault.{Reading, Just, Then, UnlessMemory}
 use Rattle.sd_script.specs.Lines.{words_of}
 use Rattle.sd_answer.specs.Word.{texts}
@@ -47,7 +50,7 @@ use Rattle.sd_script.specs.declared.view.ViewRequest.TheVariants as views
 
 -- an argument, by its kind
 pub data Argument : Type 0 where
-  Number Path Sid Mask Node Dacl Imported : List ℕ → Argument
+  Number Path Sid Mask Node Dacl Imported Listed : List ℕ → Argument
   Token : SidValue → List (List ℕ) → Argument
   Groups : List (List ℕ) → Argument
 
@@ -60,6 +63,7 @@ Value (Mask word) = ℕ
 Value (Node word) = RootSpec × Bool
 Value (Dacl word) = NodeDacl × Bool
 Value (Imported word) = RootSpec × Given
+Value (Listed word) = List Ace × Bool
 Value (Token user words) = TokenValue
 Value (Groups words) = List (SidValue × GroupState)
 
@@ -71,6 +75,7 @@ reading notation (Mask word) = mask notation word
 reading notation (Node word) = node notation word
 reading notation (Dacl word) = dacl notation word
 reading notation (Imported word) = imported notation word
+reading notation (Listed word) = list notation word
 reading notation (Token user words) = token notation user words
 reading notation (Groups words) = base notation words
 
@@ -136,6 +141,24 @@ opens_with readers sddl = Number readers ▸ λ n. Node sddl ▸ λ root. Asks (
 abbrev pub adds : NodeKind → List ℕ → List ℕ → Arguments
 adds kind at sddl = Path at ▸ λ p. Node sddl ▸ λ n. Asks (stored n.1 (addition_of kind p (row_of kind n.0)))
 
+-- a node of this kind with the descriptor of a text, and with what it had inherited and been offered elsewhere
+abbrev pub keeping : NodeKind → Names → RootSpec × Bool → List Ace × Bool → List Ace × Bool → LineRequest
+keeping kind p n i o =
+    Importing (addition_of kind p (row_of kind (record n.0 { dacl = stored_dacl n.0.dacl i.0 o.0 }))) p
+    (given_with (own_entries n.0.dacl) i.0 (n.1 && i.1 && o.1))
+
+abbrev pub keeps : NodeKind → List ℕ → List ℕ → List ℕ → List ℕ → Arguments
+keeps kind at sddl inherited offer =
+    Path at ▸ λ p. Node sddl ▸ λ n. Listed inherited ▸ λ i. Listed offer ▸ λ o. Asks (keeping kind p n i o)
+
+-- where both of the last two texts begin as lists do; else blanks in a text made them, and they are too many
+abbrev pub begins_list : List ℕ → Bool
+begins_list word = starts_with nat_eq word (codes "D:")
+
+abbrev pub keeps_lists : NodeKind → List ℕ → List ℕ → List ℕ → List ℕ → Option Arguments
+keeps_lists kind at sddl inherited offer =
+    if begins_list inherited && begins_list offer then Some (keeps kind at sddl inherited offer) else None
+
 -- the DACL of a text
 abbrev pub sets_dacl : List ℕ → List ℕ → Arguments
 sets_dacl at sddl = Path at ▸ λ p. Dacl sddl ▸ λ d. Asks (stored d.1 (edits.SetDacl p d.0))
@@ -169,6 +192,8 @@ abbrev pub asks_taking : ScriptCommand → List (List ℕ) → Option Arguments
 asks_taking Open (readers ∷ sddl ∷ []) = Some (opens_with readers sddl)
 asks_taking AddContainer (at ∷ sddl ∷ []) = Some (adds Container at sddl)
 asks_taking AddObject (at ∷ sddl ∷ []) = Some (adds Object at sddl)
+asks_taking AddContainer (at ∷ sddl ∷ inherited ∷ offer ∷ []) = keeps_lists Container at sddl inherited offer
+asks_taking AddObject (at ∷ sddl ∷ inherited ∷ offer ∷ []) = keeps_lists Object at sddl inherited offer
 asks_taking SetOwner (at ∷ owner ∷ []) = Some (Path at ▸ λ p. Sid owner ▸ λ s. edit (edits.SetOwner p s))
 asks_taking SetGroup (at ∷ group ∷ []) = Some (Path at ▸ λ p. Sid group ▸ λ s. edit (edits.SetGroup p s))
 asks_taking SetDacl (at ∷ sddl ∷ []) = Some (sets_dacl at sddl)

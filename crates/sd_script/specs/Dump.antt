@@ -12,7 +12,14 @@ use Rattle.sd_edit.specs.Journal.{replay}
 use Rattle.sd_inheritance.specs.declared.kind.NodeKind.{NodeKind}
 use Rattle.sd_inheritance.specs.declared.kind.NodeKind.TheVariants.{Container, Object}
 use Rattle.sd_edit.specs.declared.node.NodeRow.{NodeRow}
+use Rattle.sd_acl.specs.Descriptor.{DescriptorValue}
+use Rattle.sd_acl.specs.declared.ace.Ace.{Ace}
+use Rattle.sd_acl.specs.declared.descriptor.DaclOf.TheVariants.{List as Entries}
+use Rattle.sd_edit.specs.declared.node.NodeDacl.{NodeDacl}
+use Rattle.sd_edit.specs.declared.node.NodeDacl.TheVariants.{Stored}
 use Rattle.sd_edit.specs.Machine.{Machine}
+use Rattle.sd_script.specs.Argument.{given_with}
+use Rattle.sd_script.specs.declared.forms.TheConstants.{ADD_STORED_CONTAINER, ADD_STORED_OBJECT}
 use Rattle.sd_edit.specs.declared.request.Request.TheVariants as requests
 use Rattle.sd_answer.specs.VerdictLines.{fault_line}
 use Rattle.sd_answer.specs.declared.forms.TheConstants.{ADD_CONTAINER, ADD_OBJECT, OPEN, PUBLISH}
@@ -24,26 +31,53 @@ use Rattle.sd_script.specs.Lines.{is_silent}
 use Rattle.sd_script.specs.Paths.{path_word}
 use Rattle.sd_script.specs.Reply.{plain_line}
 use Rattle.sd_script.specs.declared.line_request.LineRequest.{LineRequest}
-use Rattle.sd_script.specs.declared.line_request.LineRequest.TheVariants.{Opening, Asking}
+use Rattle.sd_script.specs.declared.line_request.LineRequest.TheVariants.{Opening, Asking, Importing}
 use Rattle.sd_script.specs.declared.paths.PathSpelling.{PathSpelling}
 use Rattle.sd_script.specs.declared.script_options.Notation.{Notation}
 
 -- ---- what makes a node, and the line that asks for it
 
+-- each other node than the root is added; of one that was stored the answer says whether it keeps what it had inherited
+abbrev pub adding : Names → NodeRow → NodeDacl → LineRequest
+adding path row (Stored own inherited offer) =
+    Importing (addition_of row.kind path row) path (given_with own inherited true)
+adding path row dacl = Asking (requests.Edit (addition_of row.kind path row))
+
 -- the root is made by an opening, for so many readers
 abbrev pub making : ℕ → Names → NodeRow → LineRequest
 making readers [] row = Opening readers (root_of row) true
-making readers (name ∷ names) row = Asking (requests.Edit (addition_of row.kind (name ∷ names) row))
+making readers (name ∷ names) row = adding (name ∷ names) row row.dacl
 
 abbrev pub adding_form : NodeKind → Form
 adding_form Container = form ADD_CONTAINER
 adding_form Object = form ADD_OBJECT
 
+abbrev pub storing_form : NodeKind → Form
+storing_form Container = form ADD_STORED_CONTAINER
+storing_form Object = form ADD_STORED_OBJECT
+
+-- a list, as a descriptor
+abbrev pub descriptor_of_list : List Ace → DescriptorValue
+descriptor_of_list entries = record {
+  owner = None;
+  group = None;
+  dacl = Entries entries;
+  protected = false;
+  auto_req = false;
+  auto_inherited = false;
+}
+
+abbrev pub adding_line : PathSpelling → Names × NodeRow → NodeDacl → LineOf
+adding_line paths node (Stored own inherited offer) = line_of (storing_form node.1.kind)
+    (Text (path_word paths node.0) ∷ Descriptor (own_descriptor_of_row node.1)
+    ∷ Descriptor (descriptor_of_list inherited) ∷ Descriptor (descriptor_of_list offer) ∷ [])
+adding_line paths node dacl = line_of (adding_form node.1.kind)
+    (Text (path_word paths node.0) ∷ Descriptor (own_descriptor_of_row node.1) ∷ [])
+
 abbrev pub making_line : PathSpelling → ℕ → Names × NodeRow → LineOf
 making_line paths readers node =
     if is_root node.0 then line_of (form OPEN) (Number readers ∷ Descriptor (own_descriptor_of_row node.1) ∷ [])
-    else line_of (adding_form node.1.kind)
-    (Text (path_word paths node.0) ∷ Descriptor (own_descriptor_of_row node.1) ∷ [])
+    else adding_line paths node node.1.dacl
 
 -- ---- the whole tree
 

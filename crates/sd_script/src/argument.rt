@@ -1,7 +1,7 @@
 //! The arguments of a line, each parsed.
-ghost use Rattle.std.specs.Prelude.{◌≡◌, Err, IfErr, IfOk, Ok};
+ghost use Rattle.std.specs.Prelude.{◌≡◌, [], Err, IfErr, IfOk, Ok};
 ghost use Rattle.sd_acl.specs.Descriptor.{descriptor_of};
-ghost use Rattle.sd_script.specs.Argument.{base, dacl, descriptor, mask, node, number, path};
+ghost use Rattle.sd_script.specs.Argument.{base, dacl, descriptor, list, mask, node, number, path};
 ghost use Rattle.sd_script.specs.Argument.{sid, token};
 ghost use Rattle.sd_script.specs.Fault.{UnlessMemory};
 ghost use Rattle.sd_answer.specs.Word.{texts};
@@ -10,6 +10,7 @@ use crate::fault::{LineFault, LineStop};
 use crate::paths::path_in;
 use crate::script_options::Notation;
 use crate::view::Groups;
+use sd_acl::{AceList, Dacl, Descriptor};
 use sd_answer::{TokenError, read_base, read_token};
 use sd_check::Token;
 use sd_line::read_mask_in;
@@ -127,5 +128,39 @@ impl Parser {
         };
         let dacl = NodeDacl::of_descriptor(self.alloc, &descriptor)?;
         Ok((dacl, left_out.is_nothing()))
+    }
+
+    /// The text of a descriptor with neither: its entries, and whether they are all that the text says.
+    pub(crate) fn list(self, word: &str) -> Result<(AceList, bool), LineStop>
+        ensures { UnlessMemory (list self.notation word.now) result }
+    {
+        let TextPart {
+            descriptor,
+            left_out,
+        } = self.descriptor(word)?;
+        let Descriptor {
+            owner,
+            group,
+            dacl,
+            ..
+        } = descriptor;
+        let (None, None) = (owner, group) else {
+            return Err(LineStop::Fault(LineFault::Parts));
+        };
+        let is_all = left_out.is_nothing();
+        match dacl {
+            Dacl::List(list) => Ok((list, is_all)),
+            _ => Ok((no_entries(self.alloc), is_all)),
+        }
+    }
+}
+
+/// The list without entries.
+fn no_entries(alloc: Global) -> AceList
+    ensures { result ≡ [] }
+{
+    match AceList::new(Vec::new(alloc)) {
+        Ok(list) => list,
+        Err(_) => unreachable!(),
     }
 }

@@ -7,20 +7,25 @@ ghost use Rattle.sd_edit.specs.Plain.{row_at};
 ghost use Rattle.sd_line.specs.Line.{form_of};
 ghost use Rattle.sd_line.specs.Printed.{printed, tag_of};
 ghost use Rattle.sd_script.specs.Dump.{IsAskedBy, IsDumpOf, IsReadBack, adding_form, dump_lines, dump_text};
-ghost use Rattle.sd_script.specs.Dump.{making_line, wanted};
+ghost use Rattle.sd_script.specs.Dump.{adding_line, descriptor_of_list, making_line, storing_form, wanted};
+ghost use Rattle.sd_script.specs.Paths.{path_word};
+ghost use Rattle.sd_edit.specs.Descriptors.{own_descriptor_of_row};
+ghost use Rattle.sd_line.specs.declared.line.Value.TheVariants.{Descriptor, Text};
 
 use crate::answer::{Answer, Made};
 use crate::fault::LineStop;
+use crate::forms::{ADD_STORED_CONTAINER, ADD_STORED_OBJECT};
 use crate::line::read_line;
 use crate::lines::is_silent;
 use crate::paths::path_value;
 use crate::reply::plain_line;
 use crate::same::is_wanted;
 use crate::script_options::{Notation, text_style};
+use sd_acl::{AceList, Dacl};
 use sd_answer::{ADD_CONTAINER, ADD_OBJECT, OPEN, PUBLISH, fault_line};
 use sd_line::{Line, LineForm, Style, Tag, Value, push_printed_line};
 use sd_lines::{Ending, first_line};
-use sd_tree::{NodeKind, NodeRef, Shared, Tree};
+use sd_tree::{NodeDacl, NodeKind, NodeRef, Shared, Tree};
 use std::alloc::{AllocError, Global};
 
 /// The lines that make a tree, with their text, which was read back.
@@ -134,11 +139,30 @@ impl Dumper<'_> {
             return Line::new(self.alloc, OPEN, vec![in self.alloc; readers, given]?);
         }
         let path = path_value(self.alloc, self.notation.paths, node.path)?;
-        Line::new(
-            self.alloc,
-            adding_form(node.kind),
-            vec![in self.alloc; path, given]?,
-        )
+        self.adding_line(node, path, given)
+    }
+
+    /// The line that adds a node with this path and this descriptor.
+    fn adding_line(&self, node: &NodeRef<'_>, path: Value, given: Value) -> Result<Line, AllocError>
+        requires path { path ≡ Text (path_word self.now.notation.paths (listed node.now).0) }
+        requires given { given ≡ Descriptor (own_descriptor_of_row (listed node.now).1) }
+        ensures { IfOk result
+            (λ line. line ≡ adding_line self.now.notation.paths (listed node.now) node.now.dacl.now) }
+    {
+        let alloc = self.alloc;
+        match node.dacl {
+            NodeDacl::Stored {
+                inherited,
+                offer,
+                ..
+            } => {
+                let inherited = list_value(alloc, inherited)?;
+                let offer = list_value(alloc, offer)?;
+                let values = vec![in alloc; path, given, inherited, offer]?;
+                Line::new(alloc, storing_form(node.kind), values)
+            }
+            _ => Line::new(alloc, adding_form(node.kind), vec![in alloc; path, given]?),
+        }
     }
 
     /// Whether the text is parsed to what makes the tree, line by line, and a publish. Only for the first line no store
@@ -176,7 +200,7 @@ impl Dumper<'_> {
             return Ok(false);
         }
         match read_line(self.alloc, self.notation, is_open, line) {
-            Ok(asked) => Ok(is_wanted(&asked, self.readers, node)),
+            Ok(asked) => is_wanted(self.alloc, &asked, self.readers, node),
             Err(LineStop::Fault(_)) => Ok(false),
             Err(LineStop::Memory) => Err(AllocError),
         }
@@ -190,4 +214,31 @@ fn adding_form(kind: NodeKind) -> LineForm
         NodeKind::Container => ADD_CONTAINER,
         NodeKind::Object => ADD_OBJECT,
     }
+}
+
+fn storing_form(kind: NodeKind) -> LineForm
+    ensures { form_of result ≡ storing_form kind }
+{
+    match kind {
+        NodeKind::Container => ADD_STORED_CONTAINER,
+        NodeKind::Object => ADD_STORED_OBJECT,
+    }
+}
+
+/// A list, as a descriptor.
+fn list_value(alloc: Global, list: &AceList) -> Result<Value, AllocError>
+    ensures { IfOk result (λ value. value ≡ Descriptor (descriptor_of_list list.now)) }
+{
+    let dacl = match AceList::new(Vec::from_slice(alloc, list.entries())?) {
+        Ok(copy) => Dacl::List(copy),
+        Err(_) => unreachable!(),
+    };
+    Ok(Value::descriptor(sd_acl::Descriptor {
+        owner: None,
+        group: None,
+        dacl,
+        protected: false,
+        auto_req: false,
+        auto_inherited: false,
+    }))
 }

@@ -152,8 +152,8 @@ impl Parser {
             [path] => self.on_one(name, path),
             [first, second] => self.on_two(name, first, second),
             [kind, path, sddl] => self.on_three(name, kind, path, sddl),
-            [reader, path, user, mask, words @ ..] => {
-                self.on_question(name, reader, path, user, mask, words)
+            [first, second, third, fourth, words @ ..] => {
+                self.on_question(name, first, second, third, fourth, words)
             }
         }
     }
@@ -236,26 +236,39 @@ impl Parser {
         }
     }
 
-    /// What a command with a reader, a path, a user, a mask and the words of a token asks for.
+    /// What a command with four arguments and words asks for: a question with a reader, a path, a user, a mask and the
+    /// words of a token, or without words a node with what it had inherited elsewhere.
     fn on_question(
         self,
         name: ScriptCommand,
-        reader: &str,
-        path: &str,
-        user: &str,
-        mask: &str,
+        first: &str,
+        second: &str,
+        third: &str,
+        fourth: &str,
         words: &[&str],
     ) -> Parsed
         ensures { Parses self.notation
-            (asks_taking name (reader.now ∷ path.now ∷ user.now ∷ mask.now ∷ texts words.now)) result }
+            (asks_taking name (first.now ∷ second.now ∷ third.now ∷ fourth.now ∷ texts words.now)) result }
     {
         let question = match name {
             ScriptCommand::Check => TokenQuestion::Check,
             ScriptCommand::Why => TokenQuestion::Why,
             ScriptCommand::Find => TokenQuestion::Find,
+            ScriptCommand::AddContainer => {
+                return match words {
+                    [] => self.keeping_lists(NodeKind::Container, first, second, third, fourth),
+                    _ => Ok(None),
+                };
+            }
+            ScriptCommand::AddObject => {
+                return match words {
+                    [] => self.keeping_lists(NodeKind::Object, first, second, third, fourth),
+                    _ => Ok(None),
+                };
+            }
             _ => return Ok(None),
         };
-        self.posed(question, reader, path, user, mask, words)
+        self.posed(question, first, second, third, fourth, words)
     }
 
     #[tactic(auto, unfolding(crate::specs::Command::posed))]

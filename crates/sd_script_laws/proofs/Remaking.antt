@@ -1,5 +1,5 @@
 -- The lines of a dump, answered one after the other: an opening, one addition for each other node, and a publish.
-use Rattle.std.proofs.Common.{◌≡◌, ℕ, Bool, true, false, List, [], ◌∷◌, ◌++◌, length, map, take, Some, None, inl, inr, refl, sym, ◌∙◌, ap, subst, replicate, slice_get, append_assoc, append-nil}
+use Rattle.std.proofs.Common.{◌≡◌, ◌&&◌, filter, ℕ, Bool, true, false, List, [], ◌∷◌, ◌++◌, length, map, take, Some, None, inl, inr, refl, sym, ◌∙◌, ap, subst, replicate, slice_get, append_assoc, append-nil}
 use Rattle.std.specs.Prelude.{MatchBool}
 use Rattle.std.specs.Str.Lines.{lines}
 use Rattle.std.proofs.lemmas.List.{length-replicate}
@@ -19,11 +19,19 @@ use Rattle.sd_edit.specs.declared.request.Reply.TheVariants as replies
 use Rattle.sd_answer.specs.declared.forms.TheConstants.{OPENED, PUBLISHED}
 use Rattle.sd_line.specs.Line.{LineOf, form}
 use Rattle.sd_line.specs.Printed.{lines_text}
-use Rattle.sd_script.specs.Dump.{makings, dump_text, IsAskedBy, AreAskedBy, IsReadBack}
+use Rattle.sd_acl.specs.Canonical.{is_explicit, is_inherited}
+use Rattle.sd_acl.specs.declared.ace.Ace.{Ace}
+use Rattle.sd_edit.proofs.SameLists.{same_decides}
+use Rattle.sd_edit.specs.Inheritance.{inherited_entry, same_list}
+use Rattle.sd_edit.specs.declared.node.NodeDacl.{NodeDacl}
+use Rattle.sd_edit.specs.declared.node.NodeDacl.TheVariants.{Null, List as Entries, Stored}
+use Rattle.sd_script.specs.Argument.{given_with}
+use Rattle.sd_script.specs.Importing.{entries_at, imported_words}
+use Rattle.sd_script.specs.Dump.{adding, makings, dump_text, IsAskedBy, AreAskedBy, IsReadBack}
 use Rattle.sd_script.specs.Output.{is_open, script_options_of, opening_in, IsAnswered, IsDone, IsTold, closing_of}
 use Rattle.sd_script.specs.Reply.{counted_line, ok_line}
 use Rattle.sd_script.specs.declared.line_request.LineRequest.{LineRequest}
-use Rattle.sd_script.specs.declared.line_request.LineRequest.TheVariants.{Opening as Opens, Asking}
+use Rattle.sd_script.specs.declared.line_request.LineRequest.TheVariants.{Opening as Opens, Asking, Importing}
 use Rattle.sd_script.specs.declared.script_options.ScriptOptions.{ScriptOptions}
 use Rattle.sd_script.specs.declared.script_options.Notation.{Notation}
 use Rattle.sd_script.specs.declared.session.Session.{Session}
@@ -82,6 +90,25 @@ module _ (notation : Notation) (o : Opening) (n : ℕ) where
   adds : (front : List Edit) (e : Edit) → refusal o front e ≡ None → IsDone (Opened notation (waiting o n front)) (Asking (requests.Edit e)) (ok_line [] ∷ []) (Opened notation (waiting o n (front ++ e ∷ [])))
   adds front e fits = (replies.Edited, waiting o n (front ++ e ∷ []), (fits, refl), refl, refl)
 
+  -- so does that of a node that was stored, and the answer compares its entries
+  imports : (front : List Edit) (e : Edit) (path : Names) (own inherited : List Ace) → refusal o front e ≡ None
+      → (told : List LineOf) × IsDone (Opened notation (waiting o n front)) (Importing e path (given_with own inherited true)) told (Opened notation (waiting o n (front ++ e ∷ [])))
+  imports front e path own inherited fits =
+      let machine = waiting o n (front ++ e ∷ []) in
+      let given = given_with own inherited true in
+      let had = own ++ map inherited_entry inherited in
+      let behind = same_list (filter is_inherited (entries_at machine path)) (filter is_inherited had) in
+      let front_too = same_list (filter is_explicit (entries_at machine path)) (filter is_explicit had) in (
+        ok_line (imported_words (true && behind) front_too) ∷ [],
+        (replies.Edited, machine, (fits, refl), (behind, front_too, same_decides _ _, same_decides _ _, refl), refl),
+      )
+
+  adds_node : (front : List Edit) (path : Names) (row : NodeRow) (dacl : NodeDacl) → refusal o front (addition_of row.kind path row) ≡ None
+      → (told : List LineOf) × IsDone (Opened notation (waiting o n front)) (adding path row dacl) told (Opened notation (waiting o n (front ++ addition_of row.kind path row ∷ [])))
+  adds_node front path row (Stored own inherited offer) fits = imports front (addition_of row.kind path row) path own inherited fits
+  adds_node front path row Null fits = (_, adds front (addition_of row.kind path row) fits)
+  adds_node front path row (Entries protected own) fits = (_, adds front (addition_of row.kind path row) fits)
+
   publishes : (front : List Edit) → IsDone (Opened notation (waiting o n front)) (Asking requests.Publish) (counted_line (form PUBLISHED) (length front) ∷ []) (Opened notation (shown o n front))
   publishes front = (replies.Published (length front), shown o n front, (refl, refl), refl, refl)
 
@@ -100,8 +127,9 @@ module _ (notation : Notation) (o : Opening) (n : ℕ) where
       let rest = nodes_reach (front ++ e ∷ []) nodes texts more are.1 in
       let whole : (front ++ e ∷ []) ++ map added nodes ≡ front ++ map added ((name ∷ names, row) ∷ nodes) =
       append_assoc front (e ∷ []) (map added nodes) in
-      goes_on (Opened notation (waiting o n front)) (Opened notation (waiting o n (front ++ e ∷ []))) (Opened notation (shown o n (front ++ map added ((name ∷ names, row) ∷ nodes)))) text _ texts
-      (Asking (requests.Edit e)) are.0 (adds front e (next_fits o front e (map added nodes) lawful))
+      let done = adds_node front (name ∷ names) row row.dacl (next_fits o front e (map added nodes) lawful) in
+      goes_on (Opened notation (waiting o n front)) (Opened notation (waiting o n (front ++ e ∷ []))) (Opened notation (shown o n (front ++ map added ((name ∷ names, row) ∷ nodes)))) text done.0 texts
+      (adding (name ∷ names) row row.dacl) are.0 done.1
       (subst (λ edits. Reaches (Opened notation (waiting o n (front ++ e ∷ []))) texts (Opened notation (shown o n edits))) whole rest)
 
 -- ---- the whole tree

@@ -1,3 +1,4 @@
+use Rattle.std.proofs.lemmas.Result.{IfOk-weaker}
 use Rattle.sd_script.proofs.Cited.{LineFault, LineRequest, Notation, Ok, Result, false≢true, line_asks, subst, sym, ◌∙◌, ◌≡◌}
 use Rattle.sd_script.proofs.OneReading.{line-one}
 use Rattle.sd_script.proofs.dump.Dumper.is_read_as.Goals as goal
@@ -7,13 +8,14 @@ read asked = Ok asked
 
 pub returns-in-Ok : goal.returns-in-Ok
 returns-in-Ok c =
-    let notation : Notation = c.args.self.now.notation in (
+    let notation : Notation = c.args.self.now.notation in
+    IfOk-weaker c.is_wanted.result _ _ (λ is decides. (
       λ yes. (
         sym c.is_silent.ensures ∙ c.if-is_silent.false,
-        subst (λ (asked : LineRequest). line_asks notation c.args.is_open c.args.line.now (Ok asked)) (c.is_wanted.ensures.0 yes) c.in-Ok.ensures,
+        subst (λ (asked : LineRequest). line_asks notation c.args.is_open c.args.line.now (Ok asked)) (decides.0 yes) c.in-Ok.ensures,
       ),
-      λ is. let same : read c.in-Ok.asked ≡ read _ = line-one notation c.args.is_open c.args.line.now _ _ c.in-Ok.ensures is.1 in c.is_wanted.ensures.1 (cc (same)),
-    )
+      λ asks. let same : read c.in-Ok.asked ≡ read _ = line-one notation c.args.is_open c.args.line.now _ _ c.in-Ok.ensures asks.1 in decides.1 (cc (same)),
+    )) c.is_wanted.ensures
 
 pub returns-in-Err-Fault : goal.returns-in-Err-Fault
 returns-in-Err-Fault c =
