@@ -42,7 +42,8 @@ class Node:
     is_container: bool
     owner: tuple
     group: tuple
-    # None is a null DACL; else whether it is protected, and its own entries
+    # None is a null DACL; else whether it is protected, and its own entries; and behind them, if it was stored with
+    # these, what it had inherited and what it was offered
     dacl: tuple
 
 
@@ -83,6 +84,16 @@ def handed_on(e, child, generic=GENERIC):
     return [waiting] if objects and not stops else []
 
 
+def offered(above, child):
+    """What a parent hands on, before the child's owner and group take the creators' places."""
+    anybody = replace(child, owner=CREATOR_OWNER, group=CREATOR_GROUP)
+    return [copy for e in above for copy in handed_on(e, anybody)]
+
+
+def denies_first(entries):
+    return [e for e in entries if e.kind == "D"] + [e for e in entries if e.kind == "A"]
+
+
 def list_refusal(dacl):
     if dacl is None:
         return None
@@ -94,8 +105,7 @@ def list_refusal(dacl):
 
 def own_entries(entries):
     """Those that weren't inherited, the denies first."""
-    own = [e for e in entries if not e.flags & ID]
-    return [e for e in own if e.kind == "D"] + [e for e in own if e.kind == "A"]
+    return denies_first([e for e in entries if not e.flags & ID])
 
 
 def path_word(path, percent, at_will=lambda: False):
@@ -118,10 +128,13 @@ class Tree:
         node = self.nodes[path]
         if node.dacl is None:
             return None
-        protected, own = node.dacl
-        if protected or not path:
+        protected, own, *stored = node.dacl
+        if protected:
             return list(own)
-        return list(own) + [copy for e in self.dacl(path[:-1]) or [] for copy in handed_on(e, node)]
+        above = (self.dacl(path[:-1]) if path else None) or []
+        if stored and denies_first(offered(above, node)) == denies_first(stored[1]):
+            return list(own) + [replace(e, flags=e.flags | ID) for e in stored[0]]
+        return list(own) + [copy for e in above for copy in handed_on(e, node)]
 
     def has_large_dacl(self):
         lists = [self.dacl(path) or [] for path in self.nodes]
@@ -167,8 +180,7 @@ class Tree:
         if whole is None:
             return self.nodes
         explicit = [replace(e, flags=e.flags & ~ID) for e in whole]
-        ordered = [e for e in explicit if e.kind == "D"] + [e for e in explicit if e.kind == "A"]
-        return self.nodes | {path: replace(self.nodes[path], dacl=(True, ordered))}
+        return self.nodes | {path: replace(self.nodes[path], dacl=(True, denies_first(explicit)))}
 
     def apply(self, edit, path, given):
         """Makes the edit, and answers None, or the name of its refusal. Of a move the target is given."""
@@ -197,11 +209,12 @@ class Tree:
         return "O:%sG:%sD:%s%s" % (sid_text(node.owner), sid_text(node.group), words, "".join(map(entry_text, whole or [])))
 
     def given(self, path):
-        """The descriptor that was given to the node, without what it inherits."""
+        """The descriptor that was given to the node, without what it inherits, and what it was stored with."""
         node = self.nodes[path]
-        protected, own = node.dacl or (False, [])
+        protected, own, *stored = node.dacl or (False, [])
         words = "NO_ACCESS_CONTROL" if node.dacl is None else "P" if protected else ""
-        return "O:%sG:%sD:%s%s" % (sid_text(node.owner), sid_text(node.group), words, "".join(map(entry_text, own)))
+        lists = ["D:%s%s" % (words, "".join(map(entry_text, own)))] + ["D:" + "".join(map(entry_text, each)) for each in stored]
+        return "O:%sG:%s%s" % (sid_text(node.owner), sid_text(node.group), " ".join(lists))
 
     def listed(self, top, percent):
         """The lines of `list`, of the nodes at and below the path."""
