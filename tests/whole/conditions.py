@@ -10,6 +10,8 @@ EXISTS = {0x87: "Exists", 0x8D: "Not_Exists"}
 MEMBERS = {0x89: "Member_of", 0x8A: "Device_Member_of", 0x8B: "Member_of_Any", 0x8C: "Device_Member_of_Any",
            0x90: "Not_Member_of", 0x91: "Not_Device_Member_of", 0x92: "Not_Member_of_Any",
            0x93: "Not_Device_Member_of_Any"}
+#: As they are printed: Samba, and so the program, prints one of them in another case.
+PRINTED_MEMBERS = {**MEMBERS, 0x8B: "Member_of_any"}
 JOINING, NOT = {0xA0: "&&", 0xA1: "||"}, 0xA2
 SCOPES = {0xF8: "", 0xF9: "@USER.", 0xFA: "@RESOURCE.", 0xFB: "@DEVICE."}
 WORDS = {word.lower() for word in (*EXISTS.values(), *MEMBERS.values())}
@@ -147,7 +149,7 @@ def operate(stack: List[Part], operator: int) -> None:
     elif operator in EXISTS:
         text = f"{EXISTS[operator]} {taken(stack, names)[0].text}"
     elif operator in MEMBERS:
-        text = f"{MEMBERS[operator]} {taken(stack, ('sids',))[0].text}"
+        text = f"{PRINTED_MEMBERS[operator]} {taken(stack, ('sids',))[0].text}"
     elif operator in JOINING:
         left, right = taken(stack, truths, truths)
         text = f"({left.text}) {JOINING[operator]} ({right.text})"
