@@ -1,0 +1,9 @@
+pub mod Sids
+pub mod Indexed
+pub mod Direct
+pub mod Walked
+pub mod Lines
+pub mod Faults
+pub mod Rows
+pub mod Found
+pub mod LawsHold

@@ -1,0 +1,11 @@
+pub mod Row
+pub mod Fault
+pub mod Groups
+pub mod Names
+pub mod Kept
+pub mod Accounts
+pub mod Index
+pub mod Walk
+pub mod Lines
+pub mod Found
+pub mod Laws

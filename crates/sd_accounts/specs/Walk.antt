@@ -1,0 +1,34 @@
+-- The walk over the groups: what is found so far.
+use Rattle.std.specs.Prelude.{◌≡◌, ◌<◌, ◌≤◌, ◌⊎◌, ◌++◌, ℕ, List, [], Contains, length, slice_index_or}
+use Rattle.sd_sid.specs.Sid.{SidValue}
+use Rattle.sd_accounts.specs.Groups.{Belongs, IsIn}
+use Rattle.sd_accounts.specs.Row.{AccountRow}
+
+-- the SIDs that were found, and after them further ones: each was found before or passes the test, and each that passes
+-- is among them
+pub record Extends (Passes : SidValue → Type 0) (old new : List SidValue) : Type 0 where
+  pub further : List SidValue
+  pub front : new ≡ old ++ further
+  pub sound : (sid : SidValue) → Contains new sid → Contains old sid ⊎ Passes sid
+  pub all : (sid : SidValue) → Passes sid → Contains new sid
+
+-- the groups in which the member directly is are added
+abbrev pub Adds : List AccountRow → SidValue → List SidValue → List SidValue → Type 0
+Adds rows member = Extends (IsIn rows member)
+
+-- one of the starts is directly in the group
+abbrev pub IsStart : List AccountRow → List SidValue → SidValue → Type 0
+IsStart rows starts group = (start : SidValue) × Contains starts start × IsIn rows start group
+
+-- the groups in which one of the starts directly is
+abbrev pub HasStarts : List AccountRow → List SidValue → List SidValue → Type 0
+HasStarts rows starts = Extends (IsStart rows starts) []
+
+-- the walk has visited the first so many SIDs of those that it has found: one belongs to each of these, and the groups
+-- in which a start or a visited SID directly is are among them
+pub record IsWalked (rows : List AccountRow) (starts found : List SidValue) (visited : ℕ) : Type 0 where
+  pub within : visited ≤ length found
+  pub sound : (sid : SidValue) → Contains found sid → Belongs rows starts sid
+  pub begun : (sid : SidValue) → IsStart rows starts sid → Contains found sid
+  pub closed : (k : ℕ) (d : SidValue) → k < visited → (group : SidValue) → IsIn rows (slice_index_or found k d) group
+      → Contains found group

@@ -1,0 +1,31 @@
+//! Accounts: the names of SIDs, and the groups that a user really has.
+//!
+//! An accounts file has a row a line. Its rows give users and groups names, say who is a member of which group, which
+//! group is a user's primary group, and which account is disabled. It is parsed once; the questions are then answered
+//! from memory, the groups of a user by a walk over an index of the direct memberships.
+//!
+//! ```text
+//! let accounts = Accounts::read(alloc, text)?;
+//! let user = accounts.sid_named("anna")?;
+//! let groups = accounts.groups_of(alloc, &[user])?; // those of its groups too
+//! ```
+#![tactic(auto)]
+
+mod accounts;
+mod facts;
+mod fault;
+mod groups;
+mod index;
+mod laws;
+mod names;
+mod naming;
+mod read;
+mod row;
+#[cfg(test)]
+mod tests;
+mod words;
+
+pub use accounts::Accounts;
+pub use fault::{AccountsError, AccountsFault};
+pub use laws::{order_of_rows_does_not_matter, rows_have_no_fault};
+pub use names::NameError;

@@ -1,0 +1,70 @@
+//! Accounts of small files.
+
+use super::*;
+use sd_sid::Sid;
+use sd_text::read_sid_text;
+use std::alloc::Global;
+use std::process::Abort;
+use std::test::Fail;
+
+/// Anna is in the staff, by that in the house, and her primary group is the domain's users. Two are called lab.
+const FILE: &str = "# a school
+user S-1-5-21-1-2-3-1001 SCHOOL\\anna
+user S-1-5-21-1-2-3-1002 SCHOOL\\lab\r
+group S-1-5-21-1-2-3-513 Domain Users
+group S-1-5-21-1-2-3-2001 lab
+
+primary S-1-5-21-1-2-3-1001 S-1-5-21-1-2-3-513
+member S-1-5-21-1-2-3-2001 S-1-5-21-1-2-3-1001
+member BU S-1-5-21-1-2-3-2001
+member S-1-5-21-1-2-3-2001 BU
+disabled S-1-5-21-1-2-3-1002
+";
+
+fn sid(rt: &impl Abort, text: &str) -> Sid {
+    read_sid_text(text).ok().expect(rt, "a SID")
+}
+
+fn accounts(rt: &impl Abort, alloc: Global, text: &str) -> Accounts {
+    Accounts::read(alloc, text).ok().expect(rt, "accounts")
+}
+
+#[test]
+fn groups_are_followed_through_a_cycle(rt: HostRuntime) -> Result<(), Fail> {
+    let accounts = accounts(&rt, rt.alloc(), FILE);
+    let anna = accounts.sid_named("ANNA").ok().expect(&rt, "anna");
+    let groups = accounts.groups_of(rt.alloc(), &[anna])?;
+    assert_eq!(rt; groups.len(), 3);
+    assert_eq!(rt; groups[0], sid(&rt, "S-1-5-21-1-2-3-513"));
+    assert_eq!(rt; groups[1], sid(&rt, "S-1-5-21-1-2-3-2001"));
+    assert_eq!(rt; groups[2], sid(&rt, "BU"));
+    let builtin = accounts.groups_of(rt.alloc(), &[sid(&rt, "BU")])?;
+    assert_eq!(rt; builtin.len(), 2);
+    Ok(())
+}
+
+#[test]
+fn a_bare_name_of_two_is_ambiguous(rt: HostRuntime) {
+    let accounts = accounts(&rt, rt.alloc(), FILE);
+    assert_eq!(rt; accounts.sid_named("lab"), Err(NameError::Ambiguous));
+    assert_eq!(rt; accounts.sid_named("nobody"), Err(NameError::Unknown));
+    let user = sid(&rt, "S-1-5-21-1-2-3-1002");
+    assert_eq!(rt; accounts.sid_named("school\\LAB"), Ok(user));
+    assert_eq!(rt; accounts.name_of(&user), Some("SCHOOL\\lab"));
+    assert!(rt; accounts.is_user(&user) && accounts.is_disabled(&user));
+}
+
+#[test]
+fn the_first_fault_is_reported(rt: HostRuntime) {
+    for (text, line, kind) in [
+        ("usr S-1-1-0 a", 1, AccountsFault::Keyword),
+        ("\n#\nuser S-1-1 a", 3, AccountsFault::Sid),
+        ("user S-1-1-0 ", 1, AccountsFault::Name),
+        ("member BU BA\nmember BU BA BG", 2, AccountsFault::Surplus),
+    ] {
+        let error = Accounts::read(rt.alloc(), text)
+            .err()
+            .expect(&rt, "a fault");
+        assert_eq!(rt; error, AccountsError::Fault { line, kind });
+    }
+}
