@@ -1,0 +1,3 @@
+pub mod Trustee
+pub mod Word
+pub mod Arguments
