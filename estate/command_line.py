@@ -13,8 +13,9 @@ from table import Table, say
 _DESCRIPTION = "Reads the descriptors of file systems into scripts for sdstore, and writes changes back."
 _END = """\
 statuses: 0 done, and an answer leaves nothing out; 1 a node is skipped by read, has a finding, gains or loses rights,
-denies them, or forbids the write; 2 invalid arguments or input; 3 a read or write failed; 4 the answer, or the write,
-leaves nodes out, which rows name. The table is on standard output, messages are on standard error."""
+denies them, or forbids the write, or an account may be missing; 2 invalid arguments or input; 3 a read or write failed;
+4 the answer, or the write, leaves nodes out, which rows name. The table is on standard output, messages are on standard
+error."""
 
 
 def main(words: Sequence[str] | None = None) -> int:
@@ -71,6 +72,7 @@ def _parser() -> argparse.ArgumentParser:
     report.add_argument("script", metavar="SCRIPT")
     report.add_argument("file", metavar="FILE", help="the HTML file to write")
     report.add_argument("--title", metavar="TEXT", help="SCRIPT unless given")
+    _add_accounts(command("accounts", commands.accounts, "write which groups users are in, for sdstore --accounts"))
     return parser
 
 
@@ -177,3 +179,11 @@ def _add_journal(parser: argparse.ArgumentParser) -> None:
         "target", metavar="TARGET", nargs="?", help="where the volume is mounted, if elsewhere than before"
     )
     parser.add_argument("--leave-changed", action="store_true", help="leave nodes that somebody changed since")
+
+
+def _add_accounts(accounts: argparse.ArgumentParser) -> None:
+    accounts.add_argument(
+        "sources", metavar="SOURCE", nargs="+", help="LDIF, a CSV of PowerShell, or what getent or wbinfo prints"
+    )
+    accounts.add_argument("file", metavar="FILE", help="the file to write")
+    accounts.add_argument("--domain", metavar="NAME", help="the domain's NetBIOS name: that of the LDIF unless given")

@@ -7,6 +7,7 @@ from collections.abc import Callable, Iterable
 
 from hudarin import Descriptor, Refused, Sid
 
+import accounts as accounts_file
 import icacls as icacls_file
 import questions
 from errors import Invalid, Stopped
@@ -228,3 +229,10 @@ def report(arguments: argparse.Namespace, table: Table) -> int:
         count = Report(script, read_names(arguments.names)).write(arguments.file, arguments.title or arguments.script)
         gaps = script.gaps_below(())
     return _answered(table, "written", f"{plural(count, 'node')} in {arguments.file}", {"nodes": count}, gaps)
+
+
+def accounts(arguments: argparse.Namespace, table: Table) -> int:
+    """Users, groups and memberships of directories and Unix systems as a file."""
+    joined = accounts_file.write_accounts(arguments.sources, arguments.file, arguments.domain, table)
+    table.end("written", accounts_file.summed_up(joined), joined.counts())
+    return 1 if joined.skipped or joined.unknown else 0

@@ -1,6 +1,8 @@
 """Lines of text files of Windows, in UTF-8 or UTF-16."""
 
 import io
+import os
+import stat
 from collections.abc import Iterator
 from dataclasses import dataclass
 
@@ -31,8 +33,10 @@ def encoding_of(start: bytes) -> Encoding:
 
 
 def encoding_in(name: str) -> Encoding:
-    """The encoding of the file of this name, or Failed."""
+    """The encoding of the file of this name, or Failed: also of a pipe, whose start can't be read twice."""
     try:
+        if not stat.S_ISREG(os.stat(name).st_mode):
+            raise Failed(f"{name}: it is no regular file")
         with open(name, "rb") as file:
             return encoding_of(file.read(4))
     except OSError as error:

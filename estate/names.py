@@ -6,13 +6,11 @@ from collections.abc import Callable
 from hudarin import Refused, Sid
 
 from errors import Failed
+from unix_lines import getent_line, named_sid
 
 _SID = re.compile(r"S-1(?:-\d+)+")
 #: An alias where SDDL has a SID.
 _ALIAS = re.compile(r"(?<=;;;)[A-Z]{2}(?=\))|(?<=\bO:)[A-Z]{2}(?=G:)|(?<=G:)[A-Z]{2}(?=D:|$)")
-_LINE = re.compile(r"(S-1(?:-\d+)+)\s+(?:->\s+)?(.*\S)")
-#: What `wbinfo --lookup-sids` writes after a name: the kind of the account.
-_KIND = re.compile(r"\s+\d+$")
 
 
 def read_names(file_names: list[str]) -> dict[str, str]:
@@ -32,13 +30,8 @@ def read_names(file_names: list[str]) -> dict[str, str]:
 
 
 def _named(line: str) -> tuple[str, str] | None:
-    found = _LINE.fullmatch(line)
-    if found:
-        return found[1], _KIND.sub("", found[2]) if "->" in line else found[2]
-    cells = line.split(":")
-    if len(cells) in (4, 7) and cells[0] and cells[2].isascii() and cells[2].isdecimal():
-        return f"S-1-22-{1 if len(cells) == 7 else 2}-{int(cells[2])}", cells[0]
-    return None
+    found = named_sid(line) or getent_line(line)
+    return None if found is None else (found.sid, found.name)
 
 
 def shown_by(names: dict[str, str]) -> Callable[[str], str]:
