@@ -139,6 +139,7 @@ class Texts(Case):
         self.refuses(csv_of(a, ("C:\\s\\b", FILE), ("c:\\S\\B", FILE)), "of line 3 again")
         self.refuses(HEADER + '"C:\\s","D:\r\n', "line")
         self.refuses(HEADER + '"C:\\s"\r\n', "line 2: it has 1 cells, and the header 2")
+        self.refuses('"Path"\r,"Sddl"\n', "line 1: a header with the columns Path and Sddl is required")
         self.refuses('"Path","Path","Sddl"\r\n', "line 1: a header with the columns Path and Sddl is required")
         self.refuses(HEADER, "it has no line with a descriptor")
         self.refuses(b"", "it has no line with a descriptor")
