@@ -115,9 +115,14 @@ abbrev pub given_in : Dacl → Option (List Ace)
 given_in dacls.Absent = None
 given_in dacl = Some (entries_in dacl)
 
--- the text of a descriptor with neither owner nor group: its entries, and whether they are all that it says
+-- the entries of a list that isn't protected, where that and nothing else is there
+abbrev pub only_list : Option SidValue → Option SidValue → Bool → Dacl → Result (List Ace) LineFault
+only_list None None false (dacls.List entries) = Ok entries
+only_list owner group protected dacl = Err Parts
+
+-- the text of such a list: its entries, and whether they are all that it says
 abbrev pub list_of : DescriptorValue × LeftOut → Result (List Ace × Bool) LineFault
-list_of d = beside (is_nothing d.1) (without_parts d.0.owner d.0.group (entries_in d.0.dacl))
+list_of d = beside (is_nothing d.1) (only_list d.0.owner d.0.group d.0.protected d.0.dacl)
 
 abbrev pub list : Notation → List ℕ → Reading (List Ace × Bool)
 list notation word = Then (descriptor notation word) (λ d read. read ≡ list_of d)

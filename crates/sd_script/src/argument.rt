@@ -130,7 +130,7 @@ impl Parser {
         Ok((dacl, left_out.is_nothing()))
     }
 
-    /// The text of a descriptor with neither: its entries, and whether they are all that the text says.
+    /// The text of a list that isn't protected, with neither: its entries, and whether they are all that the text says.
     pub(crate) fn list(self, word: &str) -> Result<(AceList, bool), LineStop>
         ensures { UnlessMemory (list self.notation word.now) result }
     {
@@ -142,25 +142,12 @@ impl Parser {
             owner,
             group,
             dacl,
+            protected,
             ..
         } = descriptor;
-        let (None, None) = (owner, group) else {
-            return Err(LineStop::Fault(LineFault::Parts));
-        };
-        let is_all = left_out.is_nothing();
-        match dacl {
-            Dacl::List(list) => Ok((list, is_all)),
-            _ => Ok((no_entries(self.alloc), is_all)),
+        match (owner, group, protected, dacl) {
+            (None, None, false, Dacl::List(list)) => Ok((list, left_out.is_nothing())),
+            _ => Err(LineStop::Fault(LineFault::Parts)),
         }
-    }
-}
-
-/// The list without entries.
-fn no_entries(alloc: Global) -> AceList
-    ensures { result ≡ [] }
-{
-    match AceList::new(Vec::new(alloc)) {
-        Ok(list) => list,
-        Err(_) => unreachable!(),
     }
 }
