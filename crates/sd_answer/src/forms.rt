@@ -70,6 +70,11 @@ pub const WHOLE_ALONE: LineForm = (
     "of the whole object alone: object types are left out",
 );
 
+pub const LABEL_ALONE: LineForm = (
+    "DACL and label alone",
+    "of the DACL and the label alone: the rest of the SACL is left out",
+);
+
 // What is doubtful.
 pub const NO_DACL: LineForm = ("no DACL", "no DACL grants everything");
 

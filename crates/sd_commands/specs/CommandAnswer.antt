@@ -1,6 +1,7 @@
 -- What a command about a descriptor answers, and whether it did what was asked for. The arguments are read from left to
 -- right, and the answer is the fault of the first that is invalid.
-use Rattle.std.specs.Prelude.{◌≡◌, ◌⊎◌, ℕ, Bool, ◌&&◌, ◌||◌, MatchBool, List, [], ◌∷◌, ◌++◌, codes, Some, None, drop}
+use Rattle.std.specs.Prelude.{◌≡◌, ◌⊎◌, ℕ, Bool, false, not, ◌&&◌, ◌||◌, MatchBool, List, [], ◌∷◌, ◌++◌, codes}
+use Rattle.std.specs.Prelude.{Some, None, drop}
 use Rattle.std.specs.Prelude.{slice_get}
 use Rattle.std.specs.Option.{option_map_or}
 use Rattle.std.specs.Borrow.{Bor}
@@ -17,7 +18,7 @@ use Rattle.sd_check.specs.Check.{verdict, dacl_entries}
 use Rattle.sd_check.specs.Token.{TokenValue}
 use Rattle.sd_line.specs.Line.{LineOf, form, line_of, text_line}
 use Rattle.sd_line.specs.declared.line.Value.TheVariants as values
-use Rattle.sd_answer.specs.VerdictLines.{verdict_line, entry_fault_line, fault_line, sddl_fault_line}
+use Rattle.sd_answer.specs.VerdictLines.{verdict_line, fault_line, sddl_fault_line}
 use Rattle.sd_answer.specs.declared.forms.TheConstants.{CLEAN, SAME}
 use Rattle.sd_client.specs.Client.{ClientValue}
 use Rattle.sd_client.specs.Word.{IsClient, IsFirstNoClientWord}
@@ -38,6 +39,7 @@ use Rattle.sd_commands.specs.Analysis.{AreWhoLines}
 use Rattle.sd_commands.specs.Logon.{fits_logon, words_for}
 use Rattle.sd_commands.specs.Object.{leaves_out, looked_at}
 use Rattle.sd_commands.specs.Labels.{label_changes}
+use Rattle.sd_commands.specs.Limits.{ChangeHasLimits, sacl_left_out}
 use Rattle.sd_commands.specs.ObjectTypes.{ChangeHasTypes, NotingTypes, has_types, is_of_whole}
 use Rattle.sd_commands.specs.Required.{missing_dacl}
 use Rattle.sd_usage.specs.declared.row.TextCommand.{TextCommand}
@@ -61,10 +63,9 @@ use Rattle.sd_commands.specs.Answer.{AnswersFit, IsFaultOf, IsFound, Noting, Tel
 use Rattle.sd_commands.specs.Chain.{types_of}
 use Rattle.sd_commands.specs.ForEveryone.{AnswersOfEveryone}
 use Rattle.sd_commands.specs.FromBinary.{AnswersFromBinary}
-use Rattle.sd_commands.specs.Whole.{takes_whole, told_odd}
+use Rattle.sd_commands.specs.Whole.{IsEntryFault, is_compare, takes_whole}
 use Rattle.sd_commands.specs.WholeText.{AnswersOfWhole, AnswersWholeText}
 use Rattle.sd_commands.specs.WholeVerdict.{IsWholeVerdict, verdict_outcome}
-use Rattle.sd_whole.specs.Plain.{odd_name}
 use Rattle.sd_whole.specs.declared.descriptor.WholeDescriptor.{WholeDescriptor}
 use Rattle.sd_whole.specs.declared.plain.OddEntry.{OddEntry}
 use Rattle.sd_show.specs.Diff.{changes}
@@ -96,11 +97,6 @@ abbrev pub argument : List (Bor (List ℕ)) → ℕ → List ℕ
 argument arguments place = option_map_or (λ text. text.now) (slice_get arguments place) []
 
 -- ---- a descriptor's text
-
--- the argument of this name has an entry that no question takes
-abbrev pub IsEntryFault : List ℕ → OddEntry → AnswerValue → Type 0
-IsEntryFault argument odd =
-    IsFault (entry_fault_line odd.entry (odd_name odd.kind)) (told_line argument (told_odd odd))
 
 -- the argument of this name isn't taken: the answer is the first fault of its text, an entry that no question takes, or
 -- that its descriptor lacks a list
@@ -343,27 +339,29 @@ AnswersPlainly settings question text arguments =
 
 -- what `who` answers: of the whole object alone types are left out
 abbrev pub AnswersWhoOfWhole : Settings → List ℕ → List (Bor (List ℕ)) → AnswerValue → Type 0
-AnswersWhoOfWhole settings text arguments = AnswersOfEveryone (codes "SDDL") all_left_out settings text
+AnswersWhoOfWhole settings text arguments = AnswersOfEveryone (codes "SDDL") all_left_out false settings text
     (λ whole d. NotingTypes settings (has_types whole.dacl && is_of_whole (types_of settings.chain))
     (λ left_out. AnswersWho settings left_out arguments d))
 
--- what `compare` answers of two: also whether the label is another, and the types that are left out
+-- what `compare` answers of two: also whether the label is another, and what of the SACLs and which types are left out
 abbrev pub AnswersCompareOfBoth : Settings → (old : WholeDescriptor) → DescriptorValue → (new : WholeDescriptor)
     → DescriptorValue → List (Bor (List ℕ)) → AnswerValue → Type 0
 AnswersCompareOfBoth settings old plain_old new plain_new words answer =
-    (depends : Bool) × ChangeHasTypes depends old new × NotingTypes settings depends
-    (λ left_out. AnswersOfBase settings words
-    (AnswersComparison settings (label_changes old new ++ left_out) plain_old plain_new)) answer
+    (limited : Bool) × ChangeHasLimits limited (not settings.object) old new
+    × (depends : Bool) × ChangeHasTypes depends old new × NotingTypes settings depends
+    (λ left_out. AnswersOfBase settings words (AnswersComparison settings
+    ((label_changes old new ++ sacl_left_out limited) ++ left_out) plain_old plain_new)) answer
 
 -- what it answers of OLD
 abbrev pub AnswersCompareTo : Settings → WholeDescriptor → DescriptorValue → List (Bor (List ℕ)) → AnswerValue → Type 0
 AnswersCompareTo settings old plain_old arguments =
-    AnswersOfEveryone (codes "NEW") all_but_label settings (argument arguments 0)
+    AnswersOfEveryone (codes "NEW") all_but_label (not settings.object) settings (argument arguments 0)
     (λ new plain_new. AnswersCompareOfBoth settings old plain_old new plain_new (drop 1 arguments))
 
 -- what it answers
 abbrev pub AnswersCompareOfWhole : Settings → List ℕ → List (Bor (List ℕ)) → AnswerValue → Type 0
-AnswersCompareOfWhole settings text arguments = AnswersOfEveryone (codes "OLD") all_but_label settings text
+AnswersCompareOfWhole settings text arguments =
+    AnswersOfEveryone (codes "OLD") all_but_label (not settings.object) settings text
     (λ old plain_old. AnswersCompareTo settings old plain_old arguments)
 
 -- what a command answers of all that the text is: a verdict, whom rights are granted to, who gains and loses some, or
@@ -379,7 +377,7 @@ AnswersWholly settings question text arguments = AnswersWholeText settings quest
 -- the descriptor, and others at its plain part
 abbrev pub AnswersDescriptor : Settings → DescriptorCommand → List ℕ → List (Bor (List ℕ)) → AnswerValue → Type 0
 AnswersDescriptor settings question text arguments answer =
-    MatchBool (settings.whole && takes_whole settings.below settings.object question)
+    MatchBool (settings.whole && (takes_whole settings.below settings.object question || is_compare question))
     (AnswersWholly settings question text arguments answer) (AnswersPlainly settings question text arguments answer)
 
 -- what a command answers to a text and the arguments after it

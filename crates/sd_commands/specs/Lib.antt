@@ -10,6 +10,7 @@ pub mod ForEveryone
 pub mod FromBinary
 pub mod Kinds
 pub mod Labels
+pub mod Limits
 pub mod Logon
 pub mod Mapping
 pub mod Object

@@ -3,12 +3,12 @@
 use Rattle.std.specs.Prelude.{◌≡◌, ℕ, Bool, ◌&&◌, ◌||◌, bit_and, if◌then◌else◌, List, [], map, Option, Some}
 use Rattle.std.specs.List.{list_any}
 use Rattle.sd_sid.specs.Mapping.{MappingValue}
+use Rattle.sd_sid.specs.Mask.{holds}
 use Rattle.sd_sid.specs.Sid.{SidValue}
 use Rattle.sd_acl.specs.Dacl.{Dacl}
 use Rattle.sd_acl.specs.Descriptor.{DescriptorValue}
 use Rattle.sd_acl.specs.declared.ace.Ace.{Ace}
 use Rattle.sd_acl.specs.declared.descriptor.DaclOf.TheVariants.{Absent, Null, List as Entries}
-use Rattle.sd_inheritance.specs.Inheritance.{container_inherit, object_inherit}
 use Rattle.sd_answer.specs.Parts.{entries_in}
 use Rattle.sd_check.specs.Check.{verdict}
 use Rattle.sd_check.specs.Token.{TokenValue}
@@ -27,9 +27,12 @@ object_dacl (Entries es) = Entries (map object_entry es)
 abbrev pub looked_at : Bool → DescriptorValue → DescriptorValue
 looked_at is_object d = if is_object then record d { dacl = object_dacl d.dacl } else d
 
--- an entry has OI or CI, so that something is left out
+-- what has OI or CI is passed on, so that something is left out
+abbrev pub passes_on : ℕ → Bool
+passes_on flags = holds flags 0 || holds flags 1
+
 abbrev pub is_passed_on : Ace → Bool
-is_passed_on e = object_inherit e || container_inherit e
+is_passed_on e = passes_on e.flags.0
 
 abbrev pub leaves_out : Bool → DescriptorValue → Bool
 leaves_out is_object d = is_object && list_any is_passed_on (entries_in d.dacl)

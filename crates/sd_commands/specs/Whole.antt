@@ -7,6 +7,7 @@ use Rattle.sd_text.specs.Canon.{where_set}
 use Rattle.sd_line.specs.Line.{LineOf, form, line_of, text_line}
 use Rattle.sd_line.specs.declared.line.Value.TheVariants as values
 use Rattle.sd_line.specs.Spelling.{right_names_of}
+use Rattle.sd_answer.specs.VerdictLines.{entry_fault_line}
 use Rattle.sd_answer.specs.declared.forms.TheConstants.{FAULT_NAMED}
 use Rattle.sd_wire.specs.Reading.{is_set}
 use Rattle.sd_whole.specs.Plain.{odd_name, odd_number}
@@ -106,8 +107,18 @@ takes_whole below object about.Print = true
 takes_whole below object about.Sort = true
 takes_whole below object about.ToBinary = true
 
+-- `compare` looks at a container's label, too
+abbrev pub is_compare : DescriptorCommand → Bool
+is_compare about.Compare = true
+is_compare question = false
+
 -- ---- an entry that no question takes
 
 -- what it is, by number and name, and which one
 abbrev pub told_odd : OddEntry → List ℕ
 told_odd odd = decimal (odd_number odd.kind) ++ codes " " ++ odd_name odd.kind ++ entry_place Dacl odd.entry
+
+-- the argument of this name has an entry that no question takes
+abbrev pub IsEntryFault : List ℕ → OddEntry → AnswerValue → Type 0
+IsEntryFault argument odd =
+    IsFault (entry_fault_line odd.entry (odd_name odd.kind)) (told_line argument (told_odd odd))

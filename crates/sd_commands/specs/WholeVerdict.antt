@@ -1,6 +1,7 @@
 -- What is answered under `--whole` of a verdict: that on a whole descriptor for who asks ([MS-DTYP] 2.5.3.2, 2.5.3.3),
 -- or which of its entries can't be decided.
-use Rattle.std.specs.Prelude.{ℕ, false, List, [], ◌∷◌, ◌++◌, Option, Result, Ok, Err, codes}
+use Rattle.std.specs.Prelude.{ℕ, Bool, true, false, List, [], ◌∷◌, ◌++◌, Option, Result, Ok, Err, codes}
+use Rattle.std.specs.Prelude.{if◌then◌else◌}
 use Rattle.std.specs.Fmt.{decimal}
 use Rattle.sd_check.specs.declared.verdict.Verdict.{Verdict}
 use Rattle.sd_check.specs.declared.verdict.Verdict.TheVariants.{Granted}
@@ -12,6 +13,7 @@ use Rattle.sd_line.specs.declared.line.Value.TheVariants as values
 use Rattle.sd_answer.specs.VerdictLines.{entry_fault_line, verdict_line}
 use Rattle.sd_answer.specs.Why.{explanation_lines}
 use Rattle.sd_answer.specs.declared.forms.TheConstants.{FAULT_NAMED}
+use Rattle.sd_show.specs.declared.forms.TheConstants.{SACL_LEFT_OUT}
 use Rattle.sd_whole.specs.declared.descriptor.WholeDescriptor.{WholeDescriptor}
 use Rattle.sd_whole_text.specs.declared.no_text.AclKind.TheVariants.{Dacl}
 use Rattle.sd_evaluation.specs.declared.truth.Truth.TheVariants.{Unknown}
@@ -24,6 +26,7 @@ use Rattle.sd_access.specs.Access.{whole_reasons, whole_verdict}
 use Rattle.sd_access.specs.Question.{QuestionValue}
 use Rattle.sd_commands.specs.Answer.{AnswerValue, IsAnswer, IsFault}
 use Rattle.sd_commands.specs.Chain.{types_of}
+use Rattle.sd_commands.specs.Limits.{may_be_denied, sacl_left_out}
 use Rattle.sd_commands.specs.Diagnostic.{told_line}
 use Rattle.sd_commands.specs.Whole.{entry_place}
 use Rattle.sd_commands.specs.declared.command_answer.Outcome.{Outcome}
@@ -77,18 +80,30 @@ IsUndecided argument fault = IsFault (specialize_fault_line fault) (told_line ar
 
 -- ---- the answer
 
--- the verdict's line
-abbrev pub AnswersShortly : Result Verdict SpecializeFault → AnswerValue → Type 0
-AnswersShortly (Ok verdict) = IsAnswer (verdict_line verdict ∷ []) [] (verdict_outcome verdict)
-AnswersShortly (Err fault) = IsUndecided (codes "SDDL") fault
+-- where it grants what the rest of the SACL may deny, a verdict isn't what was asked for
+abbrev pub judged_outcome : WholeDescriptor → Verdict → Outcome
+judged_outcome d verdict = if may_be_denied verdict d then outcomes.Refused else verdict_outcome verdict
 
--- with it the reasons, by the entries of the plain descriptor that the whole one is for the question
-abbrev pub AnswersWhy : Result (DescriptorValue × List (Option Reason)) SpecializeFault → AnswerValue → Type 0
-AnswersWhy (Ok explained) =
-    IsAnswer (explanation_lines explained.0 explained.1) [] (verdict_outcome (told_verdict (reason_in explained.1)))
-AnswersWhy (Err fault) = IsUndecided (codes "SDDL") fault
+-- the verdict's line, which says then that this is left out
+abbrev pub short_line : Bool → Verdict → LineOf
+short_line true (Granted mask) = line_of (form SACL_LEFT_OUT) (values.Mask mask ∷ [])
+short_line may_be_denied verdict = verdict_line verdict
+
+abbrev pub AnswersShortly : WholeDescriptor → Result Verdict SpecializeFault → AnswerValue → Type 0
+AnswersShortly d (Ok verdict) =
+    IsAnswer (short_line (may_be_denied verdict d) verdict ∷ []) [] (judged_outcome d verdict)
+AnswersShortly d (Err fault) = IsUndecided (codes "SDDL") fault
+
+-- the verdict and the reasons, by the entries of the plain descriptor that the whole one is for the question; then a
+-- last line says what is left out
+abbrev pub AnswersWhy : WholeDescriptor → Result (DescriptorValue × List (Option Reason)) SpecializeFault → AnswerValue
+    → Type 0
+AnswersWhy d (Ok explained) = let verdict = told_verdict (reason_in explained.1) in
+    IsAnswer (explanation_lines explained.0 explained.1 ++ sacl_left_out (may_be_denied verdict d)) []
+    (judged_outcome d verdict)
+AnswersWhy d (Err fault) = IsUndecided (codes "SDDL") fault
 
 -- the answer is the verdict on the descriptor, in this form, or which entry can't be decided
 abbrev pub IsWholeVerdict : Settings → Form → WholeDescriptor → ClientValue → ℕ → AnswerValue → Type 0
-IsWholeVerdict settings Short d client asked = AnswersShortly (whole_verdict (question_of settings client asked) d)
-IsWholeVerdict settings Explained d client asked = AnswersWhy (whole_reasons (question_of settings client asked) d)
+IsWholeVerdict settings Short d client asked = AnswersShortly d (whole_verdict (question_of settings client asked) d)
+IsWholeVerdict settings Explained d client asked = AnswersWhy d (whole_reasons (question_of settings client asked) d)

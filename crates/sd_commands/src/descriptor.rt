@@ -2,9 +2,9 @@
 ghost use Rattle.std.specs.Prelude.{◌≡◌, IfOk, option_map, string_bytes};
 ghost use Rattle.sd_commands.specs.Required.{missing_dacl};
 ghost use Rattle.sd_commands.specs.Answer.{IsTold, answer_of};
-ghost use Rattle.sd_commands.specs.CommandAnswer.{IsEntryFault, IsGiven};
+ghost use Rattle.sd_commands.specs.CommandAnswer.{IsGiven};
 ghost use Rattle.sd_commands.specs.Diagnostic.{all_left_out, object_note, sacl_note, told_line};
-ghost use Rattle.sd_commands.specs.Whole.{told_odd};
+ghost use Rattle.sd_commands.specs.Whole.{IsEntryFault, told_odd};
 
 use crate::command_answer::{Answer, Answered, fault_told};
 use crate::diagnostic::told_line;
@@ -50,7 +50,7 @@ impl CommandContext<'_> {
     }
 
     /// The answer to a descriptor, the argument of this name, with an entry that no question takes.
-    fn entry_fault(&self, name: &str, odd: OddEntry) -> Answered
+    pub(crate) fn entry_fault(&self, name: &str, odd: OddEntry) -> Answered
         ensures { IfOk result (λ answer. IsEntryFault name.now odd (answer_of answer)) }
     {
         let what = odd_reason(self.alloc, odd)?;

@@ -1,7 +1,7 @@
 //! The plain descriptor that an argument's text is whoever asks, under `--whole`.
-ghost use Rattle.std.specs.Prelude.{◌≡◌, IfOk};
+ghost use Rattle.std.specs.Prelude.{◌≡◌, IfErr, IfOk, Ok};
 ghost use Rattle.sd_acl.specs.Descriptor.{descriptor_of};
-ghost use Rattle.sd_commands.specs.ForEveryone.{IsForEveryone, IsOfEveryone, IsSpecialized};
+ghost use Rattle.sd_commands.specs.ForEveryone.{IsForEveryone, IsOfEveryone, IsPlainFor, IsSeen, seen_as};
 ghost use Rattle.sd_commands.specs.WholeVerdict.{everyone_context};
 ghost use Rattle.sd_specialize.specs.Everyone.{unconditional};
 ghost use Rattle.sd_specialize.specs.Specialize.{Gives};
@@ -11,13 +11,13 @@ use crate::command_answer::Answer;
 use crate::descriptor::{missing_dacl, note_sacl};
 use crate::settings::CommandContext;
 use sd_acl::Descriptor;
-use sd_specialize::{SpecializeError, specialized_for_everyone};
+use sd_specialize::{SpecializeError, SpecializeFault, specialized_for_everyone};
 use sd_text::TextError;
-use sd_whole::{WholeAcl, WholeDescriptor};
+use sd_whole::{OddEntry, PlainError, WholeAcl, WholeDescriptor};
 use sd_whole_parse::read_whole_sddl;
 use std::alloc::AllocError;
 
-/// A whole descriptor, and the plain one that it is for the object types asked about.
+/// A whole descriptor, and the plain one that it is.
 #[derive(Drop)]
 pub(crate) struct PlainForEveryone {
     pub(crate) descriptor: Descriptor,
@@ -32,19 +32,29 @@ pub(crate) enum ForEveryone {
     Refused(Answer),
 }
 
+/// Why a whole descriptor is no plain one.
+pub(crate) enum Unplain {
+    /// An entry depends on who asks, or the list gets too large.
+    Undecided(SpecializeFault),
+    /// An entry of a container is no allow and no deny of a plain list.
+    Odd(OddEntry),
+    Memory,
+}
+
 impl CommandContext<'_> {
-    /// What the argument of this name is whoever asks ([MS-DTYP] 2.5.1.1, 2.5.3.2), of whose SACL this is left out. The
-    /// only error is out of memory.
+    /// What the argument of this name is whoever asks ([MS-DTYP] 2.5.1.1, 2.5.3.2), also below it if it is a container,
+    /// and of whose SACL this is left out. The only error is out of memory.
     pub(crate) fn of_everyone(
         &self,
         name: &str,
         what: &str,
+        below: bool,
         sddl: &str,
     ) -> Result<ForEveryone, AllocError>
-        ensures { IfOk result (IsOfEveryone name.now what.now self.now.settings.now sddl.now) }
+        ensures { IfOk result (IsOfEveryone name.now what.now below self.now.settings.now sddl.now) }
     {
         match read_whole_sddl(self.alloc, self.settings.aliases, sddl) {
-            Ok(descriptor) => self.for_everyone(name, what, descriptor),
+            Ok(descriptor) => self.for_everyone(name, what, below, descriptor),
             Err(TextError::Fault { fault, place }) => {
                 let answer = self.sddl_fault(name, sddl, fault, place)?;
                 Ok(ForEveryone::Refused(answer))
@@ -58,12 +68,13 @@ impl CommandContext<'_> {
         &self,
         name: &str,
         what: &str,
+        below: bool,
         descriptor: WholeDescriptor,
     ) -> Result<ForEveryone, AllocError>
-        ensures { IfOk result (IsForEveryone name.now what.now self.now.settings.now descriptor) }
+        ensures { IfOk result (IsForEveryone name.now what.now below self.now.settings.now descriptor) }
     {
         let is_there = has_sacl(&descriptor);
-        match self.specialized(name, descriptor)? {
+        match self.plain_for(name, below, descriptor)? {
             ForEveryone::Plain(plain) => Ok(ForEveryone::Plain(plain)),
             ForEveryone::Refused(answer) => {
                 let answer = note_sacl(self.alloc, name, what, is_there, answer)?;
@@ -73,18 +84,45 @@ impl CommandContext<'_> {
     }
 
     /// What the descriptor is, before it is noted that a SACL is left out.
-    fn specialized(&self, name: &str, whole: WholeDescriptor) -> Result<ForEveryone, AllocError>
-        ensures { IfOk result (IsSpecialized name.now self.now.settings.now whole) }
+    fn plain_for(
+        &self,
+        name: &str,
+        below: bool,
+        whole: WholeDescriptor,
+    ) -> Result<ForEveryone, AllocError>
+        ensures { IfOk result (IsPlainFor name.now below self.now.settings.now whole) }
     {
         if let Some(missing) = missing_dacl(self.settings, &whole.dacl) {
             return Ok(ForEveryone::Refused(self.fault("nodacl", name, missing)?));
         }
-        match self.unconditional(&whole) {
+        match self.seen_as(below, &whole) {
             Ok(descriptor) => { Ok(ForEveryone::Plain(PlainForEveryone { descriptor, whole })) }
-            Err(SpecializeError::Fault(fault)) => {
+            Err(Unplain::Undecided(fault)) => {
                 Ok(ForEveryone::Refused(self.undecided(name, fault)?))
             }
-            Err(SpecializeError::Memory) => Err(AllocError),
+            Err(Unplain::Odd(odd)) => Ok(ForEveryone::Refused(self.entry_fault(name, odd)?)),
+            Err(Unplain::Memory) => Err(AllocError),
+        }
+    }
+
+    /// The plain descriptor that the whole one is: of a container its plain part, which what is made in it inherits
+    /// ([MS-DTYP] 2.5.3.4).
+    fn seen_as(&self, below: bool, descriptor: &WholeDescriptor) -> Result<Descriptor, Unplain>
+        ensures plain { IfOk result
+            (λ plain. seen_as below self.now.settings.now descriptor.now ≡ Ok (descriptor_of plain)) }
+        ensures none { IfErr result (IsSeen (seen_as below self.now.settings.now descriptor.now)) }
+    {
+        if below {
+            return match descriptor.plain_part(self.alloc) {
+                Ok(part) => Ok(part.descriptor),
+                Err(PlainError::Odd(odd)) => Err(Unplain::Odd(odd)),
+                Err(PlainError::Memory) => Err(Unplain::Memory),
+            };
+        }
+        match self.unconditional(descriptor) {
+            Ok(plain) => Ok(plain),
+            Err(SpecializeError::Fault(fault)) => Err(Unplain::Undecided(fault)),
+            Err(SpecializeError::Memory) => Err(Unplain::Memory),
         }
     }
 

@@ -25,6 +25,7 @@ mod for_everyone;
 mod kinds;
 mod labels;
 mod laws;
+mod limits;
 mod lint;
 mod logon;
 mod loose;

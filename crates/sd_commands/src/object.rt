@@ -4,6 +4,7 @@ ghost use Rattle.std.specs.List.{list_any};
 ghost use Rattle.sd_acl.specs.Ace.{acl_size_of};
 ghost use Rattle.sd_acl.specs.Descriptor.{descriptor_of};
 ghost use Rattle.sd_commands.specs.Object.{is_passed_on, leaves_out, looked_at, object_dacl, object_entry};
+ghost use Rattle.sd_commands.specs.Object.{passes_on};
 
 use bitflags::Flags;
 use sd_acl::{Ace, AceFlags, AceList, Dacl, Descriptor};
@@ -56,8 +57,15 @@ fn are_passed_on(entries: &[Ace]) -> bool
 fn is_passed_on(entry: &Ace) -> bool
     ensures { result ≡ is_passed_on entry.now }
 {
-    let to_objects = entry.flags.contains(AceFlags::OI);
-    let to_containers = entry.flags.contains(AceFlags::CI);
+    passes_on(entry.flags)
+}
+
+/// Whether OI or CI is among the flags ([MS-DTYP] 2.4.4.1).
+pub(crate) fn passes_on(flags: AceFlags) -> bool
+    ensures { result ≡ passes_on flags.0 }
+{
+    let to_objects = flags.contains(AceFlags::OI);
+    let to_containers = flags.contains(AceFlags::CI);
     to_objects || to_containers
 }
 

@@ -6,8 +6,8 @@ ghost use Rattle.sd_commands.specs.Answer.{IsTold, answer_of};
 ghost use Rattle.sd_commands.specs.FromBinary.{AnswersWhole};
 ghost use Rattle.sd_commands.specs.Whole.{AnswersHeader, left_out_names, left_out_note};
 ghost use Rattle.sd_commands.specs.Whole.{AnswersText, PrintsWhole, WritesWhole};
-ghost use Rattle.sd_commands.specs.Whole.{acl_name, entry_place, no_text_line, no_text_place, takes_whole};
-ghost use Rattle.sd_commands.specs.Whole.{told_no_text};
+ghost use Rattle.sd_commands.specs.Whole.{acl_name, entry_place, is_compare, no_text_line, no_text_place};
+ghost use Rattle.sd_commands.specs.Whole.{takes_whole, told_no_text};
 ghost use Rattle.sd_commands.specs.WholeText.{AnswersWholeOn, AnswersWholeText};
 
 use crate::command_answer::{Answer, Answered, fault_told};
@@ -168,6 +168,13 @@ pub fn takes_whole(below: bool, object: bool, question: DescriptorCommand) -> bo
         DescriptorCommand::Lint => false,
         _ => true,
     }
+}
+
+/// Whether it is `compare`, which looks at a container's label, too.
+pub(crate) fn is_compare(question: DescriptorCommand) -> bool
+    ensures { result ≡ is_compare question }
+{
+    matches!(question, DescriptorCommand::Compare)
 }
 
 fn no_text_line(alloc: Global, why: NoText) -> Result<Line, AllocError>

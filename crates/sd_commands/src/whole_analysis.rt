@@ -10,6 +10,7 @@ use crate::command_answer::Answered;
 use crate::descriptor::{ALL_BUT_LABEL, ALL_LEFT_OUT, note_left_out_sacl, note_sacl};
 use crate::for_everyone::{ForEveryone, PlainForEveryone, has_sacl};
 use crate::labels::label_changes;
+use crate::limits::{change_has_limits, sacl_left_out};
 use crate::object_types::{change_has_types, note_types, types_left_out, who_has_types};
 use crate::settings::CommandContext;
 use crate::words::{argument, items_from};
@@ -20,7 +21,7 @@ impl CommandContext<'_> {
         ensures { IfOk result (λ answer. AnswersWhoOfWhole self.now.settings.now sddl.now arguments.now
             (answer_of answer)) }
     {
-        let plain = match self.of_everyone("SDDL", ALL_LEFT_OUT, sddl)? {
+        let plain = match self.of_everyone("SDDL", ALL_LEFT_OUT, false, sddl)? {
             ForEveryone::Plain(plain) => plain,
             ForEveryone::Refused(answer) => return Ok(answer),
         };
@@ -32,13 +33,14 @@ impl CommandContext<'_> {
     }
 
     /// What tokens gain and lose where all that the first of the arguments is ([MS-DTYP] 2.5.1.1), but for its SACL,
-    /// takes the place of all that the text is, and whether the label is another; or the fault of the first from the
-    /// left that is invalid.
+    /// takes the place of all that the text is, and whether the label is another and more of the SACL may deny; or the
+    /// fault of the first from the left that is invalid.
     pub(crate) fn whole_compare(&self, sddl: &str, arguments: &[&str]) -> Answered
         ensures { IfOk result (λ answer. AnswersCompareOfWhole self.now.settings.now sddl.now arguments.now
             (answer_of answer)) }
     {
-        let old = match self.of_everyone("OLD", ALL_BUT_LABEL, sddl)? {
+        let below = !self.settings.object;
+        let old = match self.of_everyone("OLD", ALL_BUT_LABEL, below, sddl)? {
             ForEveryone::Plain(plain) => plain,
             ForEveryone::Refused(answer) => return Ok(answer),
         };
@@ -51,7 +53,8 @@ impl CommandContext<'_> {
         ensures { IfOk result (λ answer. AnswersCompareTo self.now.settings.now old.whole (descriptor_of old.descriptor)
             arguments.now (answer_of answer)) }
     {
-        let new = match self.of_everyone("NEW", ALL_BUT_LABEL, argument(arguments, 0))? {
+        let below = !self.settings.object;
+        let new = match self.of_everyone("NEW", ALL_BUT_LABEL, below, argument(arguments, 0))? {
             ForEveryone::Plain(plain) => plain,
             ForEveryone::Refused(answer) => return Ok(answer),
         };
@@ -66,9 +69,12 @@ impl CommandContext<'_> {
             words.now (answer_of answer)) }
     {
         let depends = change_has_types(&old.whole, &new.whole);
+        let limited = change_has_limits(!self.settings.object, &old.whole, &new.whole);
         let mut last = label_changes(self.alloc, &old.whole, &new.whole)?;
-        let mut left_out = types_left_out(self.alloc, self.settings, depends)?;
-        last.append(&mut left_out)?;
+        let mut limits = sacl_left_out(self.alloc, limited)?;
+        let mut types = types_left_out(self.alloc, self.settings, depends)?;
+        last.append(&mut limits)?;
+        last.append(&mut types)?;
         let answer = self.compare_with_base(old.descriptor, new.descriptor, last, words)?;
         note_types(self.alloc, self.settings, depends, answer)
     }

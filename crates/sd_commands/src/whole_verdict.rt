@@ -6,20 +6,24 @@ ghost use Rattle.sd_commands.specs.Answer.{AnswersFit, answer_of};
 ghost use Rattle.sd_commands.specs.CommandAnswer.{AnswersUser, AnswersWholeUser, AnswersWords, IsClientFault, Whole};
 ghost use Rattle.sd_commands.specs.Required.{missing_dacl};
 ghost use Rattle.sd_commands.specs.WholeVerdict.{AnswersShortly, AnswersWhy, IsUndecided, IsWholeVerdict, fault_place};
-ghost use Rattle.sd_commands.specs.WholeVerdict.{question_of, specialize_fault_line, told_fault};
+ghost use Rattle.sd_commands.specs.WholeVerdict.{judged_outcome, question_of, short_line, specialize_fault_line};
+ghost use Rattle.sd_commands.specs.WholeVerdict.{told_fault};
 ghost use Rattle.sd_access.specs.Access.{whole_reasons, whole_verdict};
 
-use crate::command_answer::{Answer, Answered, fault_told};
+use crate::command_answer::{Answer, Answered, Outcome, fault_told};
 use crate::descriptor::missing_dacl;
 use crate::diagnostic::told_line;
+use crate::limits::{may_be_denied, sacl_left_out};
 use crate::settings::CommandContext;
 use crate::verdict::{Form, Subject, outcome_of};
 use crate::whole::entry_place;
 use crate::words::argument;
 use sd_access::{Question, check_whole, explain_whole};
 use sd_answer::{FAULT_NAMED, TokenError, entry_fault_line, explanation_lines, verdict_line};
+use sd_check::Verdict;
 use sd_client::{Client, read_client};
 use sd_line::{Line, Value};
+use sd_show::SACL_LEFT_OUT;
 use sd_sid::{Mask, Sid};
 use sd_specialize::{SpecializeError, SpecializeFault};
 use sd_text::TextError;
@@ -113,12 +117,14 @@ impl CommandContext<'_> {
 
     fn short_answer(&self, question: &Question<'_>, descriptor: &WholeDescriptor) -> Answered
         ensures { IfOk result (λ answer.
-            AnswersShortly (whole_verdict question.now descriptor.now) (answer_of answer)) }
+            AnswersShortly descriptor.now (whole_verdict question.now descriptor.now) (answer_of answer)) }
     {
         match check_whole(self.alloc, question, descriptor) {
             Ok(verdict) => {
-                let lines = vec![in self.alloc; verdict_line(self.alloc, verdict)?]?;
-                Ok(Answer::of(self.alloc, lines, outcome_of(&verdict)))
+                let may_be_denied = may_be_denied(&verdict, descriptor);
+                let line = short_line(self.alloc, may_be_denied, verdict)?;
+                let lines = vec![in self.alloc; line]?;
+                Ok(Answer::of(self.alloc, lines, judged_outcome(descriptor, &verdict)))
             }
             Err(SpecializeError::Fault(fault)) => self.undecided("SDDL", fault),
             Err(SpecializeError::Memory) => Err(AllocError),
@@ -126,14 +132,17 @@ impl CommandContext<'_> {
     }
 
     fn explained_answer(&self, question: &Question<'_>, descriptor: &WholeDescriptor) -> Answered
-        ensures { IfOk result (λ answer. AnswersWhy (whole_reasons question.now descriptor.now) (answer_of answer)) }
+        ensures { IfOk result (λ answer.
+            AnswersWhy descriptor.now (whole_reasons question.now descriptor.now) (answer_of answer)) }
     {
         match explain_whole(self.alloc, question, descriptor) {
             Ok(explained) => {
                 let (plain, explanation) = (&explained.descriptor, &explained.explanation);
-                let lines = explanation_lines(self.alloc, plain, explanation)?;
-                let outcome = outcome_of(&explanation.verdict());
-                Ok(Answer::of(self.alloc, lines, outcome))
+                let verdict = explanation.verdict();
+                let may_be_denied = may_be_denied(&verdict, descriptor);
+                let mut lines = explanation_lines(self.alloc, plain, explanation)?;
+                lines.append(&mut sacl_left_out(self.alloc, may_be_denied)?)?;
+                Ok(Answer::of(self.alloc, lines, judged_outcome(descriptor, &verdict)))
             }
             Err(SpecializeError::Fault(fault)) => self.undecided("SDDL", fault),
             Err(SpecializeError::Memory) => Err(AllocError),
@@ -147,6 +156,29 @@ impl CommandContext<'_> {
         let reason = fault_reason(self.alloc, fault)?;
         let told = told_line(self.alloc, name, reason.as_str())?;
         fault_told(self.alloc, specialize_fault_line(self.alloc, fault)?, told)
+    }
+}
+
+/// The outcome of a verdict on the descriptor: it isn't what was asked for where the rest of the SACL may deny.
+fn judged_outcome(descriptor: &WholeDescriptor, verdict: &Verdict) -> Outcome
+    ensures { result ≡ judged_outcome descriptor.now verdict.now }
+{
+    if may_be_denied(verdict, descriptor) {
+        Outcome::Refused
+    } else {
+        outcome_of(verdict)
+    }
+}
+
+/// The verdict's line, which says that the rest of the SACL is left out where that may deny.
+fn short_line(alloc: Global, may_be_denied: bool, verdict: Verdict) -> Result<Line, AllocError>
+    ensures { IfOk result (λ line. line ≡ short_line may_be_denied verdict) }
+{
+    match verdict {
+        Verdict::Granted(mask) if may_be_denied => {
+            Line::new(alloc, SACL_LEFT_OUT, vec![in alloc; Value::Mask(mask)]?)
+        }
+        _ => verdict_line(alloc, verdict),
     }
 }
 

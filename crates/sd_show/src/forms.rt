@@ -3,6 +3,12 @@
 
 use sd_line::LineForm;
 
+// A verdict on a whole descriptor of which more than the label may deny.
+pub const SACL_LEFT_OUT: LineForm = (
+    "SACL left out",
+    "granted {mask}, the rest of the SACL left out",
+);
+
 // Owner, group, and the byte of a resource manager.
 pub const OWNER: LineForm = ("owner", "owner {sid}{control}");
 

@@ -22,6 +22,7 @@ mod same;
 mod show;
 
 pub use diff::diff_lines;
+pub use forms::SACL_LEFT_OUT;
 pub use laws::{alike_has_no_line, no_line_means_alike};
 pub use same::same_acl;
 pub use show::show_lines;

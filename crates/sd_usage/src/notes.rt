@@ -88,6 +88,10 @@ Generic rights are mapped by '--mapping KIND', and without it as those of a file
   R,W,X,A  these four masks, each written as MASK and within 0x1fffff
 MAXIMUM_ALLOWED, 0x02000000, requests all rights that are granted. It has no name in SDDL.
 
+With '--whole', where a central policy, a trust label or an access filter of the SACL may deny what
+is granted, the verdict is, with status 1:
+  granted 0x1, the rest of the SACL left out
+
 Statuses:
   0  granted
   1  another verdict, or an invalid argument
@@ -103,11 +107,12 @@ bits that have it:
   granted 0x120089 by entry 2 (A;;FR;;;BU) as S-1-5-32-545
   denied 0x10000 by no entry
 MAXIMUM_ALLOWED, 0x02000000, requests all rights that are granted. With it the lines also cover all
-rights below 0x200000, granted or denied.
+rights below 0x200000, granted or denied. With '--whole' the last line may be, with status 1:
+  of the DACL and the label alone: the rest of the SACL is left out
 
 Statuses:
   0  granted
-  1  another verdict, or an invalid argument
+  1  another verdict, that last line, or an invalid argument
   2  the arguments aren't a valid command line
   3  out of memory, or an output error";
 
@@ -146,8 +151,9 @@ user, as arguments of 'sdstore verdict' after the descriptor and the mask:
 The last is about what is made in it, if it is a container, and left out with '--object'.
 'everyone' is any user that neither descriptor names.
 With '--whole' and '--object' the lines are about the object types of '--type', or without one about
-the whole object, as in Active Directory. The last lines may be:
+the whole object, as in Active Directory. With '--whole' the last lines may be:
   label: was high no-write-up, is medium no-write-up
+  of the DACL and the label alone: the rest of the SACL is left out
   of the whole object alone: object types are left out
 
 Statuses:

@@ -9,8 +9,11 @@ returns c =
     let old = descriptor_of c.args.old.descriptor in
     let new = descriptor_of c.args.new.descriptor in
     let inner = answer_of c.in_ok-answer.answer in
-    let last = c.in_ok-append.ensures.items ∙ ap₂ (λ own more. own ++ more) c.in_ok-last.ensures c.in_ok-left_out.ensures in
+    let first = c.in_ok-append.ensures.items ∙ ap₂ (λ own more. own ++ more) c.in_ok-last.ensures c.in_ok-limits.ensures in
+    let last = c.in_ok-append-2.ensures.items ∙ ap₂ (λ own more. own ++ more) first c.in_ok-types.ensures in
     IfOk-weaker c.note_types.result _ _ (λ answer told. (
+      c.change_has_limits-limited.result,
+      c.change_has_limits-limited.ensures,
       c.change_has_types-depends.result,
       c.change_has_types-depends.ensures,
       (

@@ -1,4 +1,4 @@
-use Rattle.std.specs.Prelude.{codes}
+use Rattle.std.specs.Prelude.{codes, false}
 use Rattle.sd_acl.specs.Descriptor.{descriptor_of}
 use Rattle.sd_commands.proofs.Cited.{IfOk-weaker, answer_of, ap, subst, ◌&&◌, ◌∙◌}
 use Rattle.sd_commands.proofs.Everyone.{taken}
@@ -19,10 +19,10 @@ returns c =
     let inner = answer_of c.in_ok-answer-2.answer in
     let left_out = c.in_ok-left_out.ensures ∙ ap (types_left_out settings) c.who_has_types-depends.ensures in
     IfOk-weaker c.note_left_out_sacl.result _ _
-    (λ noted told. taken (codes "SDDL") all_left_out settings c.args.sddl.now
+    (λ noted told. taken (codes "SDDL") all_left_out false settings c.args.sddl.now
     (λ whole d. NotingTypes settings (has_types whole.dacl && is_of_whole (types_of settings.chain)) (λ lines. AnswersWho settings lines arguments d))
     (answer_of noted) plain inner
-    (subst (IsOfEveryone (codes "SDDL") all_left_out settings c.args.sddl.now) c.in-Plain.is c.in_ok-plain.ensures) (
+    (subst (IsOfEveryone (codes "SDDL") all_left_out false settings c.args.sddl.now) c.in-Plain.is c.in_ok-plain.ensures) (
       first,
       subst (λ depends. IsTold (types_note settings depends) first inner) c.who_has_types-depends.ensures c.in_ok-answer-2.ensures,
       subst (λ lines. AnswersWho settings lines arguments (descriptor_of plain.descriptor) first) left_out c.in_ok-answer.ensures,
