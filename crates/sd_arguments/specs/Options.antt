@@ -26,10 +26,10 @@ use Rattle.sd_answer.specs.Word.{AreEach, texts}
 use Rattle.sd_usage.specs.declared.row.Beside.{Beside}
 use Rattle.sd_usage.specs.declared.row.Beside.TheVariants.{Any, With, Without}
 use Rattle.sd_usage.specs.declared.row.OptionName.{OptionName}
-use Rattle.sd_usage.specs.declared.row.OptionName.TheVariants.{Aliases, Base64, Below, Caret, Color, Concern, Domain}
-use Rattle.sd_usage.specs.declared.row.OptionName.TheVariants.{Edits, Json, Logon, Loose, Mapping, Names, Nodes, Object}
-use Rattle.sd_usage.specs.declared.row.OptionName.TheVariants.{Percent, PrincipalSelf, RequireDacl, Risks, «Type»}
-use Rattle.sd_usage.specs.declared.row.OptionName.TheVariants.{Whole, WithoutBits}
+use Rattle.sd_usage.specs.declared.row.OptionName.TheVariants.{Accounts, Aliases, Base64, Below, Caret, Color, Concern}
+use Rattle.sd_usage.specs.declared.row.OptionName.TheVariants.{Domain, Edits, Json, Logon, Loose, Mapping, Names}
+use Rattle.sd_usage.specs.declared.row.OptionName.TheVariants.{Nodes, Object, Percent, PrincipalSelf}
+use Rattle.sd_usage.specs.declared.row.OptionName.TheVariants.{RequireDacl, Risks, «Type», Whole, WithoutBits}
 use Rattle.sd_usage.specs.declared.row.ProgramOption.{ProgramOption}
 use Rattle.sd_usage.specs.declared.row.TheConstants.{OPTION_COUNT}
 use Rattle.sd_commands.specs.Chain.{IsFirstUnfit, IsType, types_of}
@@ -41,8 +41,8 @@ use Rattle.sd_commands.specs.declared.logon.Logon.{Logon as LogonValue}
 use Rattle.sd_commands.specs.declared.settings.ByteForm.{ByteForm}
 use Rattle.sd_commands.specs.declared.settings.ByteForm.TheVariants as forms
 use Rattle.sd_arguments.specs.declared.options.BadValue.{BadValue}
-use Rattle.sd_arguments.specs.declared.options.BadValue.TheVariants.{NoConcern, NoDomain, NoEdits, NoLogon, NoMapping}
-use Rattle.sd_arguments.specs.declared.options.BadValue.TheVariants.{NoNodes, NoSelf, NoType}
+use Rattle.sd_arguments.specs.declared.options.BadValue.TheVariants.{NoAccounts, NoConcern, NoDomain, NoEdits, NoLogon}
+use Rattle.sd_arguments.specs.declared.options.BadValue.TheVariants.{NoMapping, NoNodes, NoSelf, NoType}
 use Rattle.sd_arguments.specs.declared.options.Options.{Options}
 use Rattle.sd_commands.specs.declared.settings.Settings.{Settings}
 use Rattle.sd_whole.specs.declared.types.Guid.{Guid}
@@ -182,6 +182,7 @@ IsBadSelf options known bad = ⊥
 
 -- what the options say of a descriptor
 pub record AreSettings (options : OptionsValue) (settings : Settings) : Type 0 where
+  pub accounts : has options Accounts ≡ false
   pub spelling : settings.spelling ≡ spelling_of options
   pub domain : GivesDomain (given options Domain) settings.aliases.domain
   pub later : settings.aliases.later ≡ has options Aliases
@@ -213,11 +214,12 @@ HasGoodLogon options = ((mapping : MappingValue) × GivesMapping (given options 
 abbrev pub HasGoodTypes : OptionsValue → Type 0
 HasGoodTypes options = (types : List Guid) × AreEach IsType options.types types
 
--- the value of an option isn't read: the domain's, or else the mapping's, or else that of the logon, or else an object
--- type, or else the SID of PRINCIPAL SELF, or else a part of that of SIDs of concern
+-- the value of an option isn't read: that of accounts; or else the domain's, or else the mapping's, or else that of the
+-- logon, or else an object type, or else the SID of PRINCIPAL SELF, or else a part of that of SIDs of concern
 abbrev pub HasBadValue : OptionsValue → BadValue → Type 0
 HasBadValue options (NoDomain text points) =
     (given options Domain ≡ Some text.now) × IsNoDomain text.now × (points ≡ has options Caret)
+HasBadValue options NoAccounts = has options Accounts ≡ true
 HasBadValue options NoMapping = ((domain : Option DomainValue) × GivesDomain (given options Domain) domain)
     × GivesNoMapping (given options Mapping)
 HasBadValue options NoLogon = ((domain : Option DomainValue) × GivesDomain (given options Domain) domain)

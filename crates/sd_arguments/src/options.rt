@@ -31,6 +31,8 @@ pub enum BadValue<'a> {
         text: &'a str,
         points: bool,
     },
+    /// `--accounts` is given, whose file is read before.
+    NoAccounts,
     /// The value of `--mapping` is no mapping.
     NoMapping,
     /// The value of `--logon` is no kind of logon.
@@ -93,6 +95,13 @@ impl<'a> Options<'a> {
         self.given(option).is_some()
     }
 
+    /// The name of the accounts file, if one is given.
+    pub fn accounts(self) -> Option<&'a str>
+        ensures { option_map (λ text. text.now) result ≡ given (options_of self.entry) OptionName.Accounts }
+    {
+        self.given(OptionName::Accounts)
+    }
+
     /// The values of `--type`, in order.
     fn types(&self) -> &[&'a str]
         ensures { texts result.now ≡ (options_of self.now).types }
@@ -148,11 +157,14 @@ impl<'a> Options<'a> {
         })
     }
 
-    /// What they say of a descriptor, or whose value isn't read: first `--domain`'s, which is a domain's SID ([MS-DTYP]
-    /// 2.4.2.4).
+    /// What they say of a descriptor, or whose value isn't read: first `--accounts`'s, then `--domain`'s, which is a
+    /// domain's SID ([MS-DTYP] 2.4.2.4).
     pub fn settings(self) -> Result<Settings, BadValue<'a>>
         ensures { GivesSettings (options_of self.entry) result }
     {
+        if self.has(OptionName::Accounts) {
+            return Err(BadValue::NoAccounts);
+        }
         let domain = self.domain_given()?;
         let given = self.given(OptionName::Mapping);
         let Some(mapping) = mapping_given(given) else {

@@ -1,3 +1,4 @@
 pub mod Answer
 pub mod Output
+pub mod Names
 pub mod Scripts

@@ -11,10 +11,14 @@
 //! ```
 #![tactic(auto)]
 
+mod driven_by_names;
+mod names;
 mod perform;
 mod program;
 mod scripts;
 
+pub use driven_by_names::drive_named;
+pub use names::accounts_file;
 pub use program::drive;
 pub use sd_arguments::{asks_help, is_command_line, reads_input};
 pub use sd_lines::{RunError, Watched};

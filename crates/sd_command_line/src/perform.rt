@@ -111,7 +111,7 @@ fn perform_script<T: Threads + Wait + Sync, R: Read, W: Write>(
 }
 
 /// Prints an answer, or an object for each of its lines. It is the whole answer to each line that it answers so.
-fn print<W: Write>(
+pub(crate) fn print<W: Write>(
     alloc: Global,
     style: Style,
     answer: Answer,

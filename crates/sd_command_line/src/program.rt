@@ -106,13 +106,13 @@ fn status_of(line: CommandLine<'_>, outcome: Outcome) -> u8
 }
 
 /// Tells standard error. What stands, stands also where the errors can't be written.
-fn tell<E: Write>(errors: &mut Watched<E>, text: &str)
+pub(crate) fn tell<E: Write>(errors: &mut Watched<E>, text: &str)
     ensures { AppendsBeginning (E.contents (inner_of errors.old)) (E.contents (inner_of errors.new)) text.now }
 {
     let _ = write_whole(errors, text.as_bytes());
 }
 
-fn error_line(error: RunError) -> &'static str
+pub(crate) fn error_line(error: RunError) -> &'static str
     ensures { result.now ≡ error_line error }
 {
     match error {

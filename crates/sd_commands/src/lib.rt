@@ -55,7 +55,7 @@ pub use laws::{
     no_line_takes_alike, object_decides_alike, object_hands_nothing_on, one_list_for_all_types,
     sorted_is_canonical, types_change_nothing,
 };
-pub use logon::{Logon, fits_logon, logon_given};
+pub use logon::{Logon, fits_logon, logon_given, words_for};
 pub use mapping::{kind_given, mapping_given};
 pub use object_types::types_text;
 pub use settings::{ByteForm, Settings};

@@ -59,7 +59,7 @@ pub fn fits_logon(logon: Option<Logon>, user: &Sid) -> bool
 }
 
 /// The words, and then the groups that the token has by the logon, if one is given ([MS-DTYP] 2.4.2.4).
-pub(crate) fn words_for<'a>(
+pub fn words_for<'a>(
     alloc: Global,
     logon: Option<Logon>,
     words: &[&'a str],

@@ -27,8 +27,8 @@ use Rattle.sd_arguments.specs.CommandLine.{RequestValue}
 use Rattle.sd_arguments.specs.Options.{OptionsValue, GivesSettings, style_of}
 use Rattle.sd_arguments.specs.declared.flags.GivenFlags.{GivenFlags}
 use Rattle.sd_arguments.specs.declared.options.BadValue.{BadValue}
-use Rattle.sd_arguments.specs.declared.options.BadValue.TheVariants.{NoConcern, NoDomain, NoEdits, NoLogon, NoMapping}
-use Rattle.sd_arguments.specs.declared.options.BadValue.TheVariants.{NoNodes, NoSelf, NoType}
+use Rattle.sd_arguments.specs.declared.options.BadValue.TheVariants.{NoAccounts, NoConcern, NoDomain, NoEdits, NoLogon}
+use Rattle.sd_arguments.specs.declared.options.BadValue.TheVariants.{NoMapping, NoNodes, NoSelf, NoType}
 use Rattle.sd_questions.specs.Each.{after_key, has_key, key_of, outcome_of_lines, told_of_lines, with_line}
 use Rattle.sd_questions.specs.Input.{is_blank, is_utf16, without_end}
 
@@ -43,6 +43,7 @@ IsBadValue (NoDomain text points) answer =
     (reason : List ℕ) × IsSidReason points (in_domain None)
     (codes "no domain: S-1-5-21 and three numbers, as S-1-5-21-1-2-3") text.now reason
     × IsBadOption (codes "domain") reason answer
+IsBadValue NoAccounts answer = IsBadOption (codes "accounts") (codes "the file isn't read here") answer
 IsBadValue NoMapping answer = IsBadOption (codes "mapping")
     (codes "no such mapping: file, key, service, process, or four masks R,W,X,A") answer
 IsBadValue NoLogon answer = IsBadOption (codes "logon")

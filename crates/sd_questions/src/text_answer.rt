@@ -83,6 +83,7 @@ pub fn bad_value(alloc: Global, bad: BadValue<'_>) -> Result<Answer, AllocError>
             let reason = sid_reason(alloc, points, known, unfit, text)?;
             bad_option(alloc, "domain", reason.as_str())
         }
+        BadValue::NoAccounts => bad_option(alloc, "accounts", "the file isn't read here"),
         BadValue::NoMapping => {
             let reason = "no such mapping: file, key, service, process, or four masks R,W,X,A";
             bad_option(alloc, "mapping", reason)

@@ -211,6 +211,19 @@ adds the groups that Windows gives to a user who logs on so, 'interactive', 'net
 'service' or 'anonymous', as Everyone, Authenticated Users and NETWORK",
     ),
     (
+        "--accounts",
+        ProgramOption {
+            name: OptionName::Accounts,
+            value: Some(Value::File),
+            beside: Beside::Any,
+        },
+        "\
+USER, WORDs and groups may be names of accounts, as EXAMPLE\\alice, alice@example.test or alice, and
+USER has the groups that the file gives it, by lines 'user SID NAME', 'group SID NAME', 'member
+GROUP-SID MEMBER-SID', 'primary USER-SID GROUP-SID' and 'disabled USER-SID'; without '--logon' also
+Everyone and Authenticated Users",
+    ),
+    (
         "--type",
         ProgramOption {
             name: OptionName::Type,

@@ -129,10 +129,12 @@ pub enum OptionName {
     Type,
     /// `--self`.
     PrincipalSelf,
+    /// `--accounts`.
+    Accounts,
 }
 
 /// How many options there are.
-pub const OPTION_COUNT: usize = 25;
+pub const OPTION_COUNT: usize = 26;
 
 /// A command, and what follows it.
 #[derive(Clone, Copy)]
@@ -238,6 +240,8 @@ pub enum Value {
     Number,
     /// `GUID`: an object type ([MS-DTYP] 2.3.4.3).
     Guid,
+    /// `FILE`: the name of a file.
+    File,
 }
 
 /// The command that the text names.

@@ -114,5 +114,6 @@ fn value_name(value: Value) -> &'static str {
         Value::Logon => "LOGON",
         Value::Number => "N",
         Value::Guid => "GUID",
+        Value::File => "FILE",
     }
 }

@@ -3,13 +3,14 @@
 
 mod terminal;
 
-use sd_command_line::{Watched, drive, reads_input};
+use sd_command_line::{Watched, accounts_file, drive, drive_named, reads_input};
 use std::env::Env;
 use std::io::{ErrorKind, IsTerminal, Read, Write};
 use std::process::ExitCode;
+use std::rt::Files;
 use std::sync::Wait;
 use std::thread::Threads;
-use std::{env, io};
+use std::{env, fs, io};
 use terminal::{shows_colours, with_option};
 
 fn main(rt: HostRuntime) -> ExitCode {
@@ -30,7 +31,7 @@ fn main(rt: HostRuntime) -> ExitCode {
 // Unicode, or there is no memory for them.
 fn run<T, R, W, E>(rt: &T, input: R, output: W, errors: &mut E) -> io::Result<u8>
 where
-    T: Env + AllocGlobal + Threads + Wait + Sync,
+    T: Env + Files + AllocGlobal + Threads + Wait + Sync,
     R: Read + IsTerminal + Drop,
     W: Write + IsTerminal + Drop,
     E: Write + IsTerminal,
@@ -48,12 +49,31 @@ where
         // Where nobody can be told, nobody is.
         let _ = errors.write_all(b"sdstore: reads the standard input, up to its end\n");
     }
-    Ok(drive(
+    let words = words.as_slice();
+    let Some(file) = accounts_file(words) else {
+        let (mut input, mut output) = (Watched::new(input), Watched::new(output));
+        return Ok(drive(
+            rt,
+            alloc,
+            words,
+            &mut input,
+            &mut output,
+            &mut Watched::new(errors),
+        ));
+    };
+    let Ok(text) = fs::read(rt, file) else {
+        let _ = errors.write_all(b"sdstore: --accounts: the file can't be read\n");
+        return Ok(3);
+    };
+    let (mut input, mut output) = (Watched::new(input), Watched::new(output));
+    let text = text.as_slice();
+    Ok(drive_named(
         rt,
         alloc,
-        words.as_slice(),
-        &mut Watched::new(input),
-        &mut Watched::new(output),
+        words,
+        text,
+        &mut input,
+        &mut output,
         &mut Watched::new(errors),
     ))
 }

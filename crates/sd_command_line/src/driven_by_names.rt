@@ -1,0 +1,194 @@
+//! The program over words that name accounts.
+ghost use Rattle.std.specs.Prelude.{◌≡◌, ◌≢◌, ◌≤◌, ℕ, List, IfOk, map, string_bytes};
+ghost use Rattle.std.specs.Borrow.{Bor};
+ghost use Rattle.sd_lines.specs.Watched.{inner_of};
+ghost use Rattle.sd_answer.specs.Word.{texts};
+ghost use Rattle.sd_command_line.specs.Names.{AnswersNamed, AreNamedOf};
+ghost use Rattle.sd_command_line.specs.declared.driven_by_names.NamesFault.TheVariants.{Memory};
+
+use crate::names::{asked_options, named_words};
+use crate::perform::print;
+use crate::program::{drive, error_line, tell};
+use sd_accounts::{Accounts, AccountsError, AccountsFault, NameError};
+use sd_commands::{Answer, fault, told_line};
+use sd_lines::{RunError, Watched};
+use sd_named::{NamedError, WELL_KNOWN};
+use sd_questions::Ended;
+use std::alloc::{AllocError, Global};
+use std::io::{Read, Write};
+use std::sync::Wait;
+use std::thread::Threads;
+
+/// Why words that name accounts aren't answered.
+#[derive(Clone, Copy)]
+enum NamesFault {
+    /// The accounts file isn't UTF-8.
+    Utf8,
+    /// This line of it is no row.
+    Row { line: u64, kind: AccountsFault },
+    /// A name is nobody's, or may be that of two; or the user can't log on.
+    Named(NamedError),
+    Memory,
+}
+
+impl From<AllocError> for NamesFault {
+    ghost from_gives = { λ _ e. e ≡ Memory };
+
+    fn from(_error: AllocError) -> NamesFault {
+        NamesFault::Memory
+    }
+}
+
+/// Does what `drive` does with words that name accounts of this text of an accounts file: with SIDs in the place of the
+/// names, and with the groups that a user has. Where a line of the text is no row, or a name isn't one account's, that
+/// fault is the answer, with its status.
+pub fn drive_named<T: Threads + Wait + Sync, R: Read, W: Write, E: Write>(
+    rt: &T,
+    alloc: Global,
+    words: &[&str],
+    text: &[u8],
+    reader: &mut Watched<R>,
+    writer: &mut Watched<W>,
+    errors: &mut Watched<E>,
+) -> u8
+    ensures statuses { result ≤ 4 }
+    ensures done { result ≡ 0 → (named : List (Bor (List ℕ))) × (told : List ℕ)
+        × AnswersNamed text.now words.now (R.remaining (inner_of reader.old))
+        (W.contents (inner_of writer.old)) (W.contents (inner_of writer.new)) named told }
+{
+    match named_by(alloc, words, text) {
+        Ok(named) => match lent(alloc, &named) {
+            Ok(lent) => drive(rt, alloc, &lent, reader, writer, errors),
+            Err(_) => failed(errors, RunError::Memory),
+        },
+        Err(NamesFault::Memory) => failed(errors, RunError::Memory),
+        Err(names_fault) => tell_fault(alloc, words, names_fault, writer, errors),
+    }
+}
+
+/// The words with SIDs in the place of names.
+fn named_by(alloc: Global, words: &[&str], text: &[u8]) -> Result<Vec<String>, NamesFault>
+    ensures { IfOk result (λ named. AreNamedOf text.now words.now (map string_bytes named.items)) }
+{
+    let Ok(text) = str::from_utf8(text) else {
+        return Err(NamesFault::Utf8);
+    };
+    let mut all = String::from_str(alloc, text)?;
+    all.push_str(WELL_KNOWN)?;
+    let accounts = match Accounts::read(alloc, all.as_str()) {
+        Ok(accounts) => accounts,
+        Err(AccountsError::Fault { line, kind }) => return Err(NamesFault::Row { line, kind }),
+        Err(AccountsError::Memory) => return Err(NamesFault::Memory),
+    };
+    match named_words(alloc, &accounts, words) {
+        Ok(named) => Ok(named),
+        Err(NamedError::Memory) => Err(NamesFault::Memory),
+        Err(error) => Err(NamesFault::Named(error)),
+    }
+}
+
+/// The texts, lent.
+fn lent<'a>(alloc: Global, named: &'a [String]) -> Result<Vec<&'a str>, AllocError>
+    ensures { IfOk result (λ lent. texts lent.items ≡ map string_bytes named.now) }
+{
+    let mut lent = Vec::with_capacity(alloc, named.len())?;
+    for text in named {
+        lent.push(text.as_str())?;
+    }
+    Ok(lent)
+}
+
+/// The status after an error, which standard error is told.
+fn failed<E: Write>(errors: &mut Watched<E>, error: RunError) -> u8
+    ensures { result ≡ 3 }
+{
+    tell(errors, error_line(error));
+    3
+}
+
+/// Prints a fault, and what standard error says of it; the status is that of one.
+fn tell_fault<W: Write, E: Write>(
+    alloc: Global,
+    words: &[&str],
+    names_fault: NamesFault,
+    writer: &mut Watched<W>,
+    errors: &mut Watched<E>,
+) -> u8
+    ensures within { result ≤ 4 }
+    ensures is { result ≢ 0 }
+{
+    let (style, is_strict) = asked_options(words);
+    let printed = match fault_answer(alloc, names_fault) {
+        Ok(answer) => print(alloc, style, answer, writer),
+        Err(_) => Err(RunError::Memory),
+    };
+    match printed {
+        Ok(Ended { told, .. }) => {
+            tell(errors, told.as_str());
+            if is_strict { 4 } else { 1 }
+        }
+        Err(error) => failed(errors, error),
+    }
+}
+
+/// The answer that is this fault.
+fn fault_answer(alloc: Global, names_fault: NamesFault) -> Result<Answer, AllocError> {
+    match names_fault {
+        NamesFault::Utf8 => accounts_fault(alloc, "not UTF-8"),
+        NamesFault::Row { line, kind } => {
+            let reason = row_reason(kind);
+            let reason = format!(in alloc; "line {line}: {reason}")?;
+            accounts_fault(alloc, reason.as_str())
+        }
+        NamesFault::Named(NamedError::Word { place, error }) => {
+            let number = (place as u64).saturating_add(1);
+            let name = format!(in alloc; "WORD {number}")?;
+            fault(
+                alloc,
+                "token",
+                told_line(alloc, name.as_str(), name_reason(error))?,
+            )
+        }
+        NamesFault::Named(error) => fault(
+            alloc,
+            "sid",
+            told_line(alloc, "USER", user_reason(error))?,
+        ),
+        NamesFault::Memory => Err(AllocError),
+    }
+}
+
+fn accounts_fault(alloc: Global, reason: &str) -> Result<Answer, AllocError> {
+    fault(alloc, "accounts", told_line(alloc, "--accounts", reason)?)
+}
+
+/// Why a line is no row, by number and name, and what mends it.
+fn row_reason(kind: AccountsFault) -> &'static str {
+    match kind {
+        AccountsFault::Keyword =>
+            "1 Keyword: a line begins with user, group, member, primary, disabled or #",
+        AccountsFault::Sid => "2 Sid: a SID is missing, or not as S-1-5-21-1-2-3-1104",
+        AccountsFault::Name =>
+            "3 Name: a name is missing after the SID, or has a control character",
+        AccountsFault::Surplus => "4 Surplus: something follows the last SID",
+    }
+}
+
+/// Why a text is nobody's, by number and name, and what mends it.
+fn name_reason(error: NameError) -> &'static str {
+    match error {
+        NameError::Unknown =>
+            "1 Unknown: neither a SID nor the name of an account, as EXAMPLE\\alice",
+        NameError::Ambiguous =>
+            "2 Ambiguous: two accounts may be meant: add the domain, or give the SID",
+    }
+}
+
+fn user_reason(error: NamedError) -> &'static str {
+    match error {
+        NamedError::User(error) => name_reason(error),
+        NamedError::Disabled =>
+            "4 Disabled: the account can't log on; without its line 'disabled' it is asked about",
+        _ => "3 NoUser: the accounts have no line 'user SID NAME' with this SID",
+    }
+}
