@@ -22,6 +22,8 @@ PRINCIPAL_SELF = "S-1-5-10"
 #: GENERIC_READ, GENERIC_WRITE, GENERIC_EXECUTE and GENERIC_ALL, and the mapping of files.
 GENERIC = (0x80000000, 0x40000000, 0x20000000, 0x10000000)
 FILES = (0x120089, 0x120116, 0x1200A0, 0x1F01FF)
+#: A central policy, a trust label and an access filter, by which Windows may deny; and what a verdict says then.
+LIMITS, LEFT_OUT = (0x13, 0x14, 0x15), ", the rest of the SACL left out"
 #: What a label's policy takes away: NR, NW and NX, by the place of the right in the mapping.
 NO_UP = (0x2, 0x1, 0x4)
 MEDIUM = 8192
@@ -202,6 +204,15 @@ def label_of(descriptor: model.Descriptor) -> Tuple[int, int]:
     return MEDIUM, 0x1
 
 
+def has_limits(descriptor: model.Descriptor) -> bool:
+    """Whether an effective entry of the SACL but the label may deny, or one that can't be read."""
+    for entry in filter(is_effective, entries_of(descriptor.sacl)):
+        unread = not isinstance(entry, model.Entry)
+        if entry.kind in LIMITS or unread and (entry.kind == model.LABEL or entry.kind not in model.LETTERS):
+            return True
+    return False
+
+
 def taken(descriptor: model.Descriptor, level: int, mapping: Tuple[int, ...]) -> int:
     """What the label takes away from a client of a lower level: all but what a right is mapped to that isn't barred."""
     of_object, policy = label_of(descriptor)
@@ -262,7 +273,8 @@ def verdict(descriptor: model.Descriptor, question: Question, specializing: Make
     left = ~taken(descriptor, client.level, mapping)
     request = mapped(asked & ~MAXIMUM_ALLOWED, mapping)
     most = plain.most() & left if asked & MAXIMUM_ALLOWED else 0
-    return answered(asked, request, plain.grants(request) & left, most)
+    said = answered(asked, request, plain.grants(request) & left, most)
+    return said + LEFT_OUT if said.startswith("granted") and has_limits(descriptor) else said
 
 
 def verdict_of(text: str, question: Question) -> str:
