@@ -7,7 +7,7 @@
 
 #include "rooms.h"
 
-#define MOST_FORMS 120
+#define MOST_FORMS 200
 #define MOST_VALUES 24
 
 /* A row of the page's table of kinds. */
