@@ -1,1 +1,2 @@
 pub mod FromFirst
+pub mod SameAces

@@ -1,7 +1,8 @@
 //! Access control entries.
 
 ghost use Rattle.std.specs.Prelude.{◌≡◌, ◌≤◌};
-ghost use Rattle.sd_acl.specs.Ace.{ace_size, is_allow, is_inherit_only};
+ghost use Rattle.std.specs.Bool.{Decides};
+ghost use Rattle.sd_acl.specs.Ace.{ace_size, is_allow, is_inherit_only, same_ace};
 
 use crate::flags::AceFlags;
 use bitflags::Flags;
@@ -44,6 +45,19 @@ impl Ace {
         ensures { result ≡ is_inherit_only self.now }
     {
         self.flags.contains(AceFlags::IO)
+    }
+
+    /// Whether both are equal in all that they have ([MS-DTYP] 2.4.4.1): type, flags, mask and SID. (`==` tells contracts
+    /// nothing of the SIDs' values.)
+    #[tactic(auto, using(crate::proofs::SameAces::ace_decides))]
+    pub fn is(&self, other: &Ace) -> bool
+        ensures test { result ≡ same_ace self.now other.now }
+        ensures one { Decides result (self.now ≡ other.now) }
+    {
+        self.kind.is_allow() == other.kind.is_allow()
+            && self.flags.bits() == other.flags.bits()
+            && self.mask.bits() == other.mask.bits()
+            && self.sid.is(&other.sid)
     }
 
     /// The bytes that the entry takes in a list ([MS-DTYP] 2.4.4.1, AceSize): 16, and 4 for each

@@ -1,7 +1,7 @@
 //! The flags of an entry.
 
-ghost use Rattle.std.specs.Prelude.{⊤};
-ghost use Rattle.sd_acl.specs.Ace.{named_flags};
+ghost use Rattle.std.specs.Prelude.{⊤, ◌≡◌};
+ghost use Rattle.sd_acl.specs.Ace.{named_flags, passes_on};
 
 use bitflags::{Flag, Flags, bitflag_items};
 
@@ -49,6 +49,15 @@ impl AceFlags {
         | AceFlags::ID.0
         | AceFlags::SA.0
         | AceFlags::FA.0;
+
+    /// Whether objects or containers inherit an entry with these flags ([MS-DTYP] 2.4.4.1).
+    pub fn pass_on(self) -> bool
+        ensures { result ≡ passes_on self.0 }
+    {
+        let to_objects = self.contains(AceFlags::OI);
+        let to_containers = self.contains(AceFlags::CI);
+        to_objects || to_containers
+    }
 }
 
 impl Flags for AceFlags {

@@ -20,4 +20,4 @@ pub use canonical::{canonicalize, denies_stand_first, explicit_of, is_canonical}
 pub use descriptor::{Dacl, DaclOf, Descriptor};
 pub use flags::AceFlags;
 pub use lent::AceRef;
-pub use list::{ACL_HEADER_BYTES, AceList, AclTooLarge, MAX_ACL_BYTES, acl_size};
+pub use list::{ACL_HEADER_BYTES, AceList, AclTooLarge, MAX_ACL_BYTES, acl_size, same_entries};

@@ -1,9 +1,11 @@
 //! Lists of entries, and the bytes that they take.
 
 ghost use Rattle.std.specs.Prelude.{◌≡◌, ◌≤◌, ◌<◌, IfOk, IfErr, codes};
+ghost use Rattle.std.specs.Bool.{Decides};
 ghost use Rattle.sd_acl.specs.Ace.{acl_size_of};
 
 use crate::ace::Ace;
+use std::alloc::{AllocError, Global};
 use std::marker::Model;
 use thiserror::Error;
 
@@ -67,6 +69,14 @@ impl AceList {
         Ok(AceList { entries })
     }
 
+    /// An equal list.
+    pub fn copy(&self, alloc: Global) -> Result<AceList, AllocError>
+        ensures { IfOk result (λ copy. copy ≡ self.now) }
+    {
+        let entries = Vec::from_slice(alloc, &self.entries)?;
+        Ok(AceList { entries })
+    }
+
     /// The entries, in order.
     pub fn entries(&self) -> &[Ace]
         ensures entries { result.now ≡ self.now }
@@ -74,6 +84,21 @@ impl AceList {
     {
         &self.entries
     }
+}
+
+/// Whether both lists are one, entry by entry ([MS-DTYP] 2.4.5).
+pub fn same_entries(one: &[Ace], other: &[Ace]) -> bool
+    ensures { Decides result (one.now ≡ other.now) }
+{
+    if one.len() != other.len() {
+        return false;
+    }
+    for (i, entry) in one.iter().enumerate() {
+        if !entry.is(&other[i]) {
+            return false;
+        }
+    }
+    true
 }
 
 /// The bytes that a list of these entries takes ([MS-DTYP] 2.4.5, AclSize): its header's, and the size of each entry.

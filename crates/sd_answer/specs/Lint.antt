@@ -1,11 +1,9 @@
 -- What `lint` answers: what is doubtful in a descriptor's DACL, a line for each finding, entry by entry.
 use Rattle.std.specs.Prelude.{◌≡◌, ℕ, zero, suc, ◌+◌, Bool, not, ◌&&◌, ◌||◌, ◌==◌, if◌then◌else◌, Option, Some, None}
 use Rattle.std.specs.Prelude.{List, [], ◌∷◌, ◌++◌, length, take, slice_get, position}
-use Rattle.std.specs.Bool.{beq}
-use Rattle.sd_sid.specs.Mask.{holds}
 use Rattle.sd_sid.specs.Mapping.{MappingValue}
-use Rattle.sd_sid.specs.Sid.{SidValue, same_sid}
-use Rattle.sd_acl.specs.Ace.{is_allow, is_inherit_only}
+use Rattle.sd_sid.specs.Sid.{SidValue}
+use Rattle.sd_acl.specs.Ace.{is_inherit_only, passes_on, same_ace}
 use Rattle.sd_acl.specs.Canonical.{is_inherited, is_explicit, allows, denies}
 use Rattle.sd_acl.specs.Dacl.{Dacl}
 use Rattle.sd_acl.specs.Descriptor.{DescriptorValue}
@@ -27,17 +25,11 @@ use Rattle.sd_answer.specs.declared.forms.TheConstants.{NULL_DACL, OUT_OF_ORDER,
 abbrev pub is_misplaced : Ace → Ace → Bool
 is_misplaced later earlier = is_explicit later && (is_inherited earlier || (allows earlier && denies later))
 
--- both say the same
-abbrev pub is_repeated : Ace → Ace → Bool
-is_repeated later earlier =
-    ((beq (is_allow later.kind) (is_allow earlier.kind) && later.flags.0 == earlier.flags.0)
-    && later.mask == earlier.mask) && same_sid earlier.sid later.sid
-
 -- ---- what is wrong with one
 
 -- it waits to be inherited, and nothing inherits it: IO without OI or CI
 abbrev pub is_stranded : Ace → Bool
-is_stranded e = (is_inherit_only e && not (holds e.flags.0 0)) && not (holds e.flags.0 1)
+is_stranded e = is_inherit_only e && not (passes_on e.flags.0)
 
 -- it is redundant, as its mark says, and not for this reason alone
 abbrev pub is_useless : Ace → Bool → Bool
@@ -66,7 +58,7 @@ entry_lines before e mark =
     where_behind (position (is_misplaced e) before) place e (form OUT_OF_ORDER)
     ++ where_so (e.mask == 0) place e (form NO_RIGHT)
     ++ where_so (is_stranded e) place e (form NOT_INHERITED)
-    ++ where_behind (position (is_repeated e) before) place e (form REPEATED)
+    ++ where_behind (position (same_ace e) before) place e (form REPEATED)
     ++ where_so (is_useless e mark) place e (form NO_EFFECT)
     ++ where_so (is_limit e) place e (form LIMITS_OWNER)
 

@@ -1,15 +1,15 @@
 //! The lines of `lint`: what stands in a descriptor that its author may not have meant.
 ghost use Rattle.std.specs.Prelude.{◌≡◌, ◌<◌, ◌^◌, ◌++◌, ◌∷◌, [], IfOk, IfSome, OnOk, length, position};
+ghost use Rattle.sd_acl.specs.Ace.{same_ace};
 ghost use Rattle.sd_acl.specs.Descriptor.{descriptor_of};
 ghost use Rattle.sd_line.specs.Line.{form_of, line_of};
-ghost use Rattle.sd_answer.specs.Lint.{AreFindings, entry_lines, entry_values, is_misplaced, is_repeated};
+ghost use Rattle.sd_answer.specs.Lint.{AreFindings, entry_lines, entry_values, is_misplaced};
 ghost use Rattle.sd_answer.specs.Lint.{is_stranded, list_lines, where_behind, where_so};
 
 use crate::forms::{
     LIMITS_OWNER, NO_DACL, NO_EFFECT, NO_RIGHT, NOT_INHERITED, NULL_DACL, OUT_OF_ORDER, REPEATED,
 };
-use bitflags::Flags;
-use sd_acl::{Ace, AceFlags, Dacl, Descriptor};
+use sd_acl::{Ace, Dacl, Descriptor};
 use sd_analysis::{Base, redundant};
 use sd_line::{Line, LineForm, Value};
 use sd_sid::GenericMapping;
@@ -156,22 +156,15 @@ pub fn first_misplaced(before: &[Ace], entry: &Ace) -> Option<usize>
 
 /// The first entry that this one repeats.
 fn first_repeated(before: &[Ace], entry: &Ace) -> Option<usize>
-    ensures first { result ≡ position (is_repeated entry.now) before.now }
+    ensures first { result ≡ position (same_ace entry.now) before.now }
     ensures low { IfSome result (λ place. place < 2 ^ 63) }
 {
-    before.iter().position(|earlier| {
-        entry.kind.is_allow() == earlier.kind.is_allow()
-            && entry.flags.bits() == earlier.flags.bits()
-            && entry.mask.bits() == earlier.mask.bits()
-            && earlier.sid.is(&entry.sid)
-    })
+    before.iter().position(|earlier| entry.is(earlier))
 }
 
 /// Whether the entry waits to be inherited, and nothing inherits it ([MS-DTYP] 2.4.4.1).
 fn is_stranded(entry: &Ace) -> bool
     ensures { result ≡ is_stranded entry.now }
 {
-    let to_objects = entry.flags.contains(AceFlags::OI);
-    let to_containers = entry.flags.contains(AceFlags::CI);
-    entry.is_inherit_only() && !to_objects && !to_containers
+    entry.is_inherit_only() && !entry.flags.pass_on()
 }

@@ -1,10 +1,10 @@
 -- What `--object` makes of a descriptor: that of an object and of no container, which hands nothing on. The flags OI
 -- and CI of its entries ([MS-DTYP] 2.4.4.1) say nothing then, and are left out.
-use Rattle.std.specs.Prelude.{◌≡◌, ℕ, Bool, ◌&&◌, ◌||◌, bit_and, if◌then◌else◌, List, [], map, Option, Some}
+use Rattle.std.specs.Prelude.{◌≡◌, ℕ, Bool, ◌&&◌, bit_and, if◌then◌else◌, List, [], map, Option, Some}
 use Rattle.std.specs.List.{list_any}
 use Rattle.sd_sid.specs.Mapping.{MappingValue}
-use Rattle.sd_sid.specs.Mask.{holds}
 use Rattle.sd_sid.specs.Sid.{SidValue}
+use Rattle.sd_acl.specs.Ace.{passes_on}
 use Rattle.sd_acl.specs.Dacl.{Dacl}
 use Rattle.sd_acl.specs.Descriptor.{DescriptorValue}
 use Rattle.sd_acl.specs.declared.ace.Ace.{Ace}
@@ -28,9 +28,6 @@ abbrev pub looked_at : Bool → DescriptorValue → DescriptorValue
 looked_at is_object d = if is_object then record d { dacl = object_dacl d.dacl } else d
 
 -- what has OI or CI is passed on, so that something is left out
-abbrev pub passes_on : ℕ → Bool
-passes_on flags = holds flags 0 || holds flags 1
-
 abbrev pub is_passed_on : Ace → Bool
 is_passed_on e = passes_on e.flags.0
 

@@ -4,7 +4,6 @@ ghost use Rattle.std.specs.List.{list_any};
 ghost use Rattle.sd_acl.specs.Ace.{acl_size_of};
 ghost use Rattle.sd_acl.specs.Descriptor.{descriptor_of};
 ghost use Rattle.sd_commands.specs.Object.{is_passed_on, leaves_out, looked_at, object_dacl, object_entry};
-ghost use Rattle.sd_commands.specs.Object.{passes_on};
 
 use bitflags::Flags;
 use sd_acl::{Ace, AceFlags, AceList, Dacl, Descriptor};
@@ -57,16 +56,7 @@ fn are_passed_on(entries: &[Ace]) -> bool
 fn is_passed_on(entry: &Ace) -> bool
     ensures { result ≡ is_passed_on entry.now }
 {
-    passes_on(entry.flags)
-}
-
-/// Whether OI or CI is among the flags ([MS-DTYP] 2.4.4.1).
-pub(crate) fn passes_on(flags: AceFlags) -> bool
-    ensures { result ≡ passes_on flags.0 }
-{
-    let to_objects = flags.contains(AceFlags::OI);
-    let to_containers = flags.contains(AceFlags::CI);
-    to_objects || to_containers
+    entry.flags.pass_on()
 }
 
 /// The DACL of an object, which takes as many bytes.

@@ -1,11 +1,10 @@
 -- What a node inherits, and its DACL ([MS-DTYP] 2.5.3.4).
-use Rattle.std.specs.Prelude.{Bool, true, false, ◌&&◌, ◌==◌, if◌then◌else◌, bit_or, List, [], ◌∷◌, ◌++◌, map}
+use Rattle.std.specs.Prelude.{Bool, true, false, ◌&&◌, if◌then◌else◌, bit_or, List, [], ◌∷◌, ◌++◌, map}
 use Rattle.std.specs.Prelude.{Option, Some, None}
-use Rattle.std.specs.Bool.{beq}
 use Rattle.std.specs.List.{flat_map}
 use Rattle.sd_sid.specs.Mapping.{MappingValue}
-use Rattle.sd_sid.specs.Sid.{SidValue, same_sid}
-use Rattle.sd_acl.specs.Ace.{is_allow}
+use Rattle.sd_sid.specs.Sid.{SidValue}
+use Rattle.sd_acl.specs.Ace.{same_ace}
 use Rattle.sd_acl.specs.Canonical.{canonical_order}
 use Rattle.sd_acl.specs.declared.ace.Ace.{Ace}
 use Rattle.sd_inheritance.specs.Inheritance.{creator_group, creator_owner, pass_on}
@@ -26,10 +25,6 @@ abbrev pub handed_on : MappingValue → NodeRow → Option (List Ace) → List A
 handed_on g row above = handed_to g row.kind row.owner row.group above
 
 -- ---- what a node keeps that it had inherited elsewhere
-
-abbrev pub same_ace : Ace → Ace → Bool
-same_ace e f =
-    beq (is_allow e.kind) (is_allow f.kind) && e.flags.0 == f.flags.0 && e.mask == f.mask && same_sid e.sid f.sid
 
 abbrev pub same_list : List Ace → List Ace → Bool
 same_list [] [] = true

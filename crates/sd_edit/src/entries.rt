@@ -1,7 +1,6 @@
 //! The entries that a node has of its own.
 
 ghost use Rattle.std.specs.Prelude.{◌≡◌, IfOk};
-ghost use Rattle.std.specs.Bool.{Decides};
 ghost use Rattle.sd_acl.specs.Ace.{acl_size_of};
 
 use sd_acl::{Ace, acl_size};
@@ -68,29 +67,4 @@ impl Entries {
             size: self.size,
         })
     }
-}
-
-/// Whether both lists are one, entry by entry ([MS-DTYP] 2.4.4.2).
-pub fn same_entries(one: &[Ace], other: &[Ace]) -> bool
-    ensures { Decides result (one.now ≡ other.now) }
-{
-    if one.len() != other.len() {
-        return false;
-    }
-    for (i, entry) in one.iter().enumerate() {
-        if !same_entry(entry, &other[i]) {
-            return false;
-        }
-    }
-    true
-}
-
-/// Whether both are one. (`==` of entries tells contracts nothing of the SIDs' values.)
-fn same_entry(one: &Ace, other: &Ace) -> bool
-    ensures { Decides result (one.now ≡ other.now) }
-{
-    one.kind == other.kind
-        && one.flags == other.flags
-        && one.mask == other.mask
-        && one.sid.is(&other.sid)
 }

@@ -19,7 +19,7 @@ mod request;
 mod start;
 
 pub use edit::Edit;
-pub use entries::{Entries, same_entries};
+pub use entries::Entries;
 pub use limits::{Limits, LimitsError};
 pub use node::{NodeDacl, NodeRow};
 pub use opening::{Opening, RootSpec};

@@ -63,20 +63,10 @@ impl NodeDacl {
                 offer,
             } => Ok(NodeDacl::Stored {
                 entries: entries.copy(alloc)?,
-                inherited: copy_of(alloc, inherited)?,
-                offer: copy_of(alloc, offer)?,
+                inherited: inherited.copy(alloc)?,
+                offer: offer.copy(alloc)?,
             }),
         }
-    }
-}
-
-/// An equal list.
-fn copy_of(alloc: Global, list: &AceList) -> Result<AceList, AllocError>
-    ensures { IfOk result (λ copy. copy ≡ list.now) }
-{
-    match AceList::new(Vec::from_slice(alloc, list.entries())?) {
-        Ok(copy) => Ok(copy),
-        Err(_) => unreachable!(),
     }
 }
 

@@ -210,8 +210,7 @@ fn push_children(
 
 /// Whether an entry has OI or CI.
 fn is_inherited(entry: &WholeAce) -> bool {
-    let flags = entry.flags();
-    flags.contains(AceFlags::OI) || flags.contains(AceFlags::CI)
+    entry.flags().pass_on()
 }
 
 /// Notes a mask whose letters are also an alias, before groups, or that has decimal digits.

@@ -4,10 +4,9 @@ ghost use Rattle.sd_analysis.specs.Descendants.{list_of};
 ghost use Rattle.sd_analysis.specs.declared.descendants.Descendant.{Descendant};
 ghost use Rattle.sd_review.specs.Compared.{AreChangesBelow};
 
-use sd_acl::Ace;
+use sd_acl::{Ace, same_entries};
 use sd_analysis::{Base, Descendant, DescendantChange, compare_descendants, inherited_list};
 use sd_sid::GenericMapping;
-use sd_tree::same_entries;
 use std::alloc::{AllocError, Global};
 
 /// What all tokens gain and lose of what is made in a node whose list changes so ([MS-DTYP] 2.5.3.4): nothing in an

@@ -5,9 +5,8 @@ ghost use Rattle.sd_answer.specs.Parts.{parts_in};
 ghost use Rattle.sd_check.specs.Check.{dacl_entries};
 ghost use Rattle.sd_review.specs.Compared.{review_parts_in};
 
-use sd_acl::{Dacl, Descriptor};
+use sd_acl::{Dacl, Descriptor, same_entries};
 use sd_sid::Sid;
-use sd_tree::same_entries;
 
 /// Whether they are alike, and both lists or none protected from inheritance ([MS-DTYP] 2.5.3.4).
 pub(crate) fn is_same(one: &Descriptor, other: &Descriptor) -> bool

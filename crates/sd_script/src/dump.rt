@@ -229,14 +229,10 @@ fn storing_form(kind: NodeKind) -> LineForm
 fn list_value(alloc: Global, list: &AceList) -> Result<Value, AllocError>
     ensures { IfOk result (λ value. value ≡ Descriptor (descriptor_of_list list.now)) }
 {
-    let dacl = match AceList::new(Vec::from_slice(alloc, list.entries())?) {
-        Ok(copy) => Dacl::List(copy),
-        Err(_) => unreachable!(),
-    };
     Ok(Value::descriptor(sd_acl::Descriptor {
         owner: None,
         group: None,
-        dacl,
+        dacl: Dacl::List(list.copy(alloc)?),
         protected: false,
         auto_req: false,
         auto_inherited: false,

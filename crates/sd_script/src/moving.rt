@@ -12,9 +12,9 @@ use crate::argument::Parser;
 use crate::importing::entries_at;
 use crate::line_request::{LineRequest, Parsed};
 use crate::reply::{alone, ok_line, reply_line};
-use sd_acl::Ace;
+use sd_acl::{Ace, same_entries};
 use sd_line::Line;
-use sd_tree::{Edit, Path, Tree, same_entries};
+use sd_tree::{Edit, Path, Tree};
 use sd_versions::{Desk, Reply, Request};
 use std::alloc::{AllocError, Global};
 

@@ -10,7 +10,8 @@ ghost use Rattle.sd_script.specs.declared.line_request.LineRequest.TheVariants.{
 use crate::importing::Given;
 use crate::line_request::LineRequest;
 use crate::storing::given_with;
-use sd_tree::{Edit, NodeDacl, NodeKind, NodeRef, Path, RootSpec, same_entries};
+use sd_acl::same_entries;
+use sd_tree::{Edit, NodeDacl, NodeKind, NodeRef, Path, RootSpec};
 use sd_versions::Request;
 use std::alloc::{AllocError, Global};
 

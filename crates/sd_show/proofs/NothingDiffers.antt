@@ -4,13 +4,11 @@ use Rattle.std.proofs.lemmas.Bool.{and_parts, cases_Bool, eq-eqb, eqb-true, lt-l
 use Rattle.std.proofs.lemmas.List.Sums.{position_or_len_is}
 use Rattle.std.proofs.lemmas.Option.{get_or_from_slice_get, slice_get-map}
 use Rattle.std.proofs.lemmas.Slice.Eq.{bytes_eq-Decides}
-use Rattle.std.specs.Bool.{Decides, beq}
+use Rattle.std.specs.Bool.{Decides}
 use Rattle.std.specs.List.{count_by, flat_map, position, slice_get}
 use Rattle.std.specs.Option.{option_map}
 use Rattle.std.specs.Str.{bytes_eq}
-use Rattle.sd_acl.specs.Ace.{is_allow}
-use Rattle.sd_acl.specs.declared.ace.AceKind.{AceKind}
-use Rattle.sd_acl.specs.declared.ace.AceKind.TheVariants.{Allow, Deny}
+use Rattle.sd_acl.proofs.SameAces.{ace_itself}
 use Rattle.sd_acl.specs.declared.descriptor.DaclOf.TheVariants.{Absent, Null, List as Entries}
 use Rattle.sd_sid.proofs.Compared.{same_sid-itself}
 use Rattle.sd_sid.specs.Sid.{SidValue}
@@ -42,10 +40,6 @@ itself n = eq-eqb n n refl
 text_itself : (bs : List ℕ) → bytes_eq bs bs ≡ true
 text_itself bs = (bytes_eq-Decides bs bs).1 refl
 
-kind_itself : (k : AceKind) → beq (is_allow k) (is_allow k) ≡ true
-kind_itself Allow = refl
-kind_itself Deny = refl
-
 guid_itself : (g : Option Guid) → same_guid g g ≡ true
 guid_itself None = refl
 guid_itself (Some g) = text_itself g.bytes
@@ -54,7 +48,7 @@ both : (x y : Bool) → x ≡ true → y ≡ true → (x && y) ≡ true
 both x y hx hy = rw (hx, hy) refl
 
 entry_itself : (e : WholeAce) → same_entry e e ≡ true
-entry_itself (Plain e) = both _ _ (both _ _ (both _ _ (kind_itself e.kind) (itself e.flags.0)) (itself e.mask)) (same_sid-itself e.sid)
+entry_itself (Plain e) = ace_itself e
 entry_itself (Typed e) =
     both _ _ (both _ _ (both _ _ (both _ _ (both _ _ (both _ _ (itself (kind_number e.kind)) (itself e.flags.0)) (itself e.mask))
     (guid_itself e.types.object)) (guid_itself e.types.inherited)) (same_sid-itself e.sid)) (text_itself e.trailing)

@@ -2,12 +2,8 @@
 use Rattle.std.proofs.Common.{None, Option, Some, ap, refl, sym, true, ◌&&◌, ◌==◌, ◌≡◌, ◌∙◌}
 use Rattle.std.proofs.lemmas.Bool.{and_parts, eqb-true}
 use Rattle.std.proofs.lemmas.Slice.Eq.{bytes_eq-Decides}
-use Rattle.std.specs.Bool.{beq}
 use Rattle.std.specs.Str.{bytes_eq}
-use Rattle.sd_acl.specs.Ace.{is_allow}
-use Rattle.sd_acl.specs.declared.ace.Ace.{Ace}
-use Rattle.sd_acl.specs.declared.ace.AceKind.{AceKind}
-use Rattle.sd_acl.specs.declared.ace.AceKind.TheVariants.{Allow, Deny}
+use Rattle.sd_acl.proofs.SameAces.{one_ace}
 use Rattle.sd_sid.proofs.Compared.{same_sid-true}
 use Rattle.sd_sid.specs.Sid.{same_sid}
 use Rattle.sd_whole.proofs.KindNumbers.{kind_is_found}
@@ -18,13 +14,7 @@ use Rattle.sd_whole.specs.declared.ace.WholeAce.{WholeAce}
 use Rattle.sd_whole.specs.declared.ace.WholeAce.TheVariants.{Plain, Typed, Opaque}
 use Rattle.sd_whole.specs.declared.kind.WholeKind.{WholeKind}
 use Rattle.sd_whole.specs.declared.types.Guid.{Guid}
-use Rattle.sd_show.specs.Same.{same_entry, same_guid, same_opaque, same_plain, same_typed}
-
-plain_kinds : (a b : AceKind) → beq (is_allow a) (is_allow b) ≡ true → a ≡ b
-plain_kinds Allow Allow e = refl
-plain_kinds Allow Deny e = absurd cc
-plain_kinds Deny Allow e = absurd cc
-plain_kinds Deny Deny e = refl
+use Rattle.sd_show.specs.Same.{same_entry, same_guid, same_opaque, same_typed}
 
 kinds : (a b : WholeKind) → (kind_number a == kind_number b) ≡ true → a ≡ b
 kinds a b e =
@@ -38,20 +28,6 @@ guids (Some a) None e = absurd cc
 guids (Some a) (Some b) e =
     let bytes = (bytes_eq-Decides a.bytes b.bytes).0 e in
     λ i. Some (record { bytes = bytes i })
-
-plains : (a b : Ace) → same_plain a b ≡ true → a ≡ b
-plains a b e =
-    let t1 = beq (is_allow a.kind) (is_allow b.kind) in
-    let t2 = a.flags.0 == b.flags.0 in
-    let t3 = a.mask == b.mask in
-    let p4 = and_parts (t1 && t2 && t3) (same_sid a.sid b.sid) e in
-    let p3 = and_parts (t1 && t2) t3 p4.0 in
-    let p2 = and_parts t1 t2 p3.0 in
-    let kind = plain_kinds a.kind b.kind p2.0 in
-    let flags = eqb-true a.flags.0 b.flags.0 p2.1 in
-    let mask = eqb-true a.mask b.mask p3.1 in
-    let sid = same_sid-true a.sid b.sid p4.1 in
-    λ i. record { kind = kind i; flags = record { 0 = flags i }; mask = mask i; sid = sid i }
 
 typeds : (a b : TypedAce) → same_typed a b ≡ true → a ≡ b
 typeds a b e =
@@ -95,7 +71,7 @@ opaques a b e =
     λ i. record { kind = kind i; flags = record { 0 = flags i }; body = body i }
 
 pub same_entries : (a b : WholeAce) → same_entry a b ≡ true → a ≡ b
-same_entries (Plain a) (Plain b) e = ap Plain (plains a b e)
+same_entries (Plain a) (Plain b) e = ap Plain (one_ace a b e)
 same_entries (Plain a) (Typed b) e = absurd cc
 same_entries (Plain a) (Opaque b) e = absurd cc
 same_entries (Typed a) (Plain b) e = absurd cc

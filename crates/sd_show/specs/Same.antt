@@ -1,8 +1,6 @@
 -- Whether two entries are equal in all that they have: type, flags, mask, object types, SID and data.
 use Rattle.std.specs.Prelude.{Bool, true, false, ◌&&◌, ◌==◌, Option, Some, None, bytes_eq}
-use Rattle.std.specs.Bool.{beq}
-use Rattle.sd_acl.specs.Ace.{is_allow}
-use Rattle.sd_acl.specs.declared.ace.Ace.{Ace}
+use Rattle.sd_acl.specs.Ace.{same_ace}
 use Rattle.sd_sid.specs.Sid.{same_sid}
 use Rattle.sd_whole.specs.Kind.{kind_number}
 use Rattle.sd_whole.specs.declared.ace.OpaqueAce.{OpaqueAce}
@@ -10,10 +8,6 @@ use Rattle.sd_whole.specs.declared.ace.TypedAce.{TypedAce}
 use Rattle.sd_whole.specs.declared.ace.WholeAce.{WholeAce}
 use Rattle.sd_whole.specs.declared.ace.WholeAce.TheVariants.{Plain, Typed, Opaque}
 use Rattle.sd_whole.specs.declared.types.Guid.{Guid}
-
-abbrev pub same_plain : Ace → Ace → Bool
-same_plain a b =
-    beq (is_allow a.kind) (is_allow b.kind) && a.flags.0 == b.flags.0 && a.mask == b.mask && same_sid a.sid b.sid
 
 abbrev pub same_guid : Option Guid → Option Guid → Bool
 same_guid None None = true
@@ -31,7 +25,7 @@ abbrev pub same_opaque : OpaqueAce → OpaqueAce → Bool
 same_opaque a b = a.kind == b.kind && a.flags.0 == b.flags.0 && bytes_eq a.body b.body
 
 abbrev pub same_entry : WholeAce → WholeAce → Bool
-same_entry (Plain a) (Plain b) = same_plain a b
+same_entry (Plain a) (Plain b) = same_ace a b
 same_entry (Plain a) (Typed b) = false
 same_entry (Plain a) (Opaque b) = false
 same_entry (Typed a) (Plain b) = false

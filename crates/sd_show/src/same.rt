@@ -2,10 +2,9 @@
 
 ghost use Rattle.std.specs.Prelude.{◌≡◌};
 ghost use Rattle.std.specs.Bool.{Decides};
-ghost use Rattle.sd_show.specs.Same.{same_entry, same_guid, same_opaque, same_plain, same_typed};
+ghost use Rattle.sd_show.specs.Same.{same_entry, same_guid, same_opaque, same_typed};
 
 use bitflags::Flags;
-use sd_acl::Ace;
 use sd_whole::{Guid, OpaqueAce, TypedAce, WholeAce, WholeAcl};
 
 /// Whether both are absent, both null, or both lists of the same revision with the same entries in the same order.
@@ -47,20 +46,11 @@ pub(crate) fn same_entry(one: &WholeAce, other: &WholeAce) -> bool
     ensures { result ≡ same_entry one.now other.now }
 {
     match (one, other) {
-        (WholeAce::Plain(one), WholeAce::Plain(other)) => same_plain(one, other),
+        (WholeAce::Plain(one), WholeAce::Plain(other)) => one.is(other),
         (WholeAce::Typed(one), WholeAce::Typed(other)) => same_typed(one, other),
         (WholeAce::Opaque(one), WholeAce::Opaque(other)) => same_opaque(one, other),
         _ => false,
     }
-}
-
-fn same_plain(one: &Ace, other: &Ace) -> bool
-    ensures { result ≡ same_plain one.now other.now }
-{
-    one.kind.is_allow() == other.kind.is_allow()
-        && one.flags.bits() == other.flags.bits()
-        && one.mask.bits() == other.mask.bits()
-        && one.sid.is(&other.sid)
 }
 
 fn same_typed(one: &TypedAce, other: &TypedAce) -> bool

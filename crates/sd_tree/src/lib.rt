@@ -38,7 +38,7 @@ pub use journal::Journal;
 pub use listing::NodeRef;
 pub use sd_edit::{
     CheckReply, Edit, EditRefusal, Entries, Limits, LimitsError, NodeDacl, Opening, RootSpec,
-    TreeError, same_entries,
+    TreeError,
 };
 pub use sd_inheritance::NodeKind;
 pub use sd_path::{Name, Path, PathError};

@@ -6,8 +6,8 @@ ghost use Rattle.sd_tree.specs.Sharing.{names_creator, trustees_matter, AreAlike
 ghost use Rattle.sd_tree.specs.Node.{inherits};
 
 use crate::node::{Node, RowRef};
-use sd_acl::Ace;
-use sd_edit::{NodeDacl, same_entries};
+use sd_acl::{Ace, same_entries};
+use sd_edit::NodeDacl;
 use sd_inheritance::{is_creator_group, is_creator_owner};
 
 /// Whether a node with this DACL inherits what is handed on to it: it is neither null nor protected, nor was it stored.
