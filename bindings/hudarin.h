@@ -111,8 +111,8 @@ typedef enum hudarin_status {
     HUDARIN_UNENDED = 23,
     /* Object types are more than five, or not of 16 bytes each. */
     HUDARIN_TYPES = 24,
-    /* The DACL of a whole descriptor can't be decided for the question: the fault is HUDARIN_UNDECIDED_.. Of an entry
-     * it is of the first such one, whose index is `place`. */
+    /* A whole descriptor can't be decided for the question: the fault is HUDARIN_UNDECIDED_.. Of an entry of the DACL it
+     * is of the first such one, whose index is `place`. */
     HUDARIN_UNDECIDED = 25
 } hudarin_status;
 
@@ -218,7 +218,7 @@ typedef enum hudarin_not_plain_fault {
     HUDARIN_NOT_PLAIN_OPAQUE_ACE = 4
 } hudarin_not_plain_fault;
 
-/* ---- Why a DACL can't be decided for a question (HUDARIN_UNDECIDED). Of entries that aren't plain the numbers are
+/* ---- Why a descriptor can't be decided for a question (HUDARIN_UNDECIDED). Of entries that aren't plain the numbers are
  * those above; the first two of them are decided, and no fault. */
 
 typedef enum hudarin_undecided_fault {
@@ -229,7 +229,10 @@ typedef enum hudarin_undecided_fault {
     /* The token is restricted, and the entry's condition lets it apply in one of the two passes alone. */
     HUDARIN_UNDECIDED_PASSES_DIFFER = 5,
     /* With longer SIDs in place of PRINCIPAL SELF the list takes more than 65,535 bytes. */
-    HUDARIN_UNDECIDED_TOO_LARGE = 6
+    HUDARIN_UNDECIDED_TOO_LARGE = 6,
+    /* The DACL grants, and an entry of the SACL may deny: a central policy, a trust label, an access filter, an entry of
+     * an unknown type, or a label that can't be read. */
+    HUDARIN_UNDECIDED_MAY_BE_DENIED = 7
 } hudarin_undecided_fault;
 
 /* ---- Arguments of a check: the number of the invalid one, in an answer's `argument` */

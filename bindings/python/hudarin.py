@@ -1341,8 +1341,9 @@ class WholeDescriptor(_Bytes):
     ) -> Verdict:
         """Whether the descriptor grants ``asked`` to the client, by entries of every type, conditions, claims and the
         integrity label. The question is about the object ``types``, at most five from the class on, or else about the
-        whole object. ``principal_self`` takes the place of PRINCIPAL SELF (S-1-5-10) in entries. A DACL that can't be
-        decided is ``Refused`` as "undecided", with the index of the entry; so is a closed client."""
+        whole object. ``principal_self`` takes the place of PRINCIPAL SELF (S-1-5-10) in entries. A descriptor
+        that can't be decided is ``Refused`` as "undecided": with the index of an entry of the DACL, or as "MayBeDenied"
+        where an entry of the SACL may deny what the DACL grants. A closed client is ``Refused`` too."""
         _of_type(client, Client, "client")
         given, who, chain = self._bytes, b"", _types(types)
         if principal_self is not None:

@@ -213,6 +213,7 @@ static void unanswered(void)
     hudarin_free(&client.kept);
     undecided("D:(A;;FA;;;WD)(AU;SA;FA;;;WD)", "WD\n", HUDARIN_UNDECIDED_SYSTEM_ACE, 1);
     undecided("D:(A;;FA;;;WD)(A;;FA;;;BU)(ML;;NW;;;ME)(AU;SA;FA;;;WD)", "WD\n", HUDARIN_UNDECIDED_SYSTEM_ACE, 2);
+    undecided("D:(A;;FR;;;WD)S:(ML;;NW;;;LW)(SP;;;;;S-1-17-1)", "WD\n", HUDARIN_UNDECIDED_MAY_BE_DENIED, 0);
     undecided("D:(XA;;FR;;;WD;(Member_of {SID(BU)}))", "WD\nBU\nWD=restrict\n", HUDARIN_UNDECIDED_PASSES_DIFFER, 0);
     undecided("D:(A;;FR;;;WD)(XD;;FW;;;WD;(Member_of {SID(RC)}))", "WD\nWD=restrict\nRC=restrict\n", HUDARIN_UNDECIDED_PASSES_DIFFER, 1);
 }

@@ -200,7 +200,8 @@ static const struct {
     { HUDARIN_LIMITS, { "NoNodes", "TooManyNodes", "TooManyEdits" } },
     { HUDARIN_NO_TEXT, { "ResourceManager", "Control", "Keywords", "Opaque", "Kind", "Data" } },
     { HUDARIN_NOT_PLAIN, { "ObjectAce", "ConditionalAce", "SystemAce", "OpaqueAce" } },
-    { HUDARIN_UNDECIDED, { "ObjectAce", "ConditionalAce", "SystemAce", "OpaqueAce", "PassesDiffer", "TooLarge" } },
+    { HUDARIN_UNDECIDED, { "ObjectAce", "ConditionalAce", "SystemAce", "OpaqueAce", "PassesDiffer", "TooLarge",
+                           "MayBeDenied" } },
 };
 
 static void names(void)

@@ -1,3 +1,4 @@
 pub mod Question
 pub mod Access
+pub mod Limits
 pub mod Laws

@@ -13,10 +13,12 @@
 
 mod access;
 mod laws;
+mod limits;
 mod question;
 mod resource;
 
 pub use access::{Explained, check_whole, explain_whole};
 pub use laws::plain_is_checked_as_before;
+pub use limits::{has_limits, may_be_denied};
 pub use question::Question;
 pub use resource::resource_claims;

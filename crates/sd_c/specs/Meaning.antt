@@ -53,7 +53,7 @@ status_text n =
     else if n == 22 then codes "a word says nothing of a client"
     else if n == 23 then codes "the last word has no zero byte after it"
     else if n == 24 then codes "the object types are more than five, or not of 16 bytes"
-    else if n == 25 then codes "the DACL can't be decided for the question"
+    else if n == 25 then codes "the descriptor can't be decided for the question"
     else []
 
 -- ---- the fault with a number
@@ -153,6 +153,7 @@ abbrev pub undecided_fault_name : ℕ → List ℕ
 undecided_fault_name n =
     if n == 5 then codes "PassesDiffer"
     else if n == 6 then codes "TooLarge"
+    else if n == 7 then codes "MayBeDenied"
     else name_or_nothing odd_name (odd_kind n)
 
 abbrev pub fault_name : ℕ → ℕ → List ℕ

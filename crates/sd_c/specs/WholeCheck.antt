@@ -3,10 +3,11 @@ use Rattle.std.specs.Prelude.{◌≡◌, ◌⊎◌, ℕ, ◌<◌, ◌/◌, ◌%�
 use Rattle.std.specs.Prelude.{Result, Ok, Err, if◌then◌else◌}
 use Rattle.std.specs.Simd.{first_chunks}
 use Rattle.sd_access.specs.Access.{TakesMemory, whole_reasons, whole_verdict}
+use Rattle.sd_access.specs.Limits.{may_be_denied}
 use Rattle.sd_access.specs.Question.{QuestionValue}
 use Rattle.sd_check.specs.declared.verdict.Verdict.{Verdict}
 use Rattle.sd_client.specs.Client.{ClientValue}
-use Rattle.sd_explain.specs.Parts.{reason_in}
+use Rattle.sd_explain.specs.Parts.{reason_in, told_verdict}
 use Rattle.sd_explain.specs.declared.reason.Reason.{Reason}
 use Rattle.sd_sid.specs.Mapping.{MappingValue}
 use Rattle.sd_sid.specs.Sid.{SidValue}
@@ -24,7 +25,8 @@ use Rattle.sd_c.specs.declared.handle.Handle.{Handle}
 use Rattle.sd_c.specs.declared.handle.kept.Kept.{Kept}
 use Rattle.sd_c.specs.declared.mapping.Mapping.{Mapping}
 use Rattle.sd_c.specs.declared.stop.NotRead.{NotRead}
-use Rattle.sd_c.specs.declared.stop.NotRead.TheVariants.{ClientHandle, Descriptor, PrincipalSelf, Types, Undecided}
+use Rattle.sd_c.specs.declared.stop.NotRead.TheVariants.{ClientHandle, Descriptor, MayBeDenied, PrincipalSelf, Types}
+use Rattle.sd_c.specs.declared.stop.NotRead.TheVariants.{Undecided}
 use Rattle.sd_c.specs.CallAnswer.{check_memory, not_read, verdict_given}
 use Rattle.sd_c.specs.Explaining.{parts_of, unexplained}
 use Rattle.sd_c.specs.Kept.{client_in, is_kept}
@@ -94,16 +96,22 @@ abbrev pub of_decision : {A : Type 0} → Result A SpecializeFault → Result A 
 of_decision (Ok answer) = Ok answer
 of_decision (Err fault) = Err (Undecided fault)
 
+-- no grant stands that an entry of the SACL may deny (2.5.3.3)
+abbrev pub unless_denied : WholeDescriptor → Verdict → Result Verdict NotRead
+unless_denied w verdict = if may_be_denied verdict w then Err MayBeDenied else Ok verdict
+
 -- the verdict on a question about the whole descriptor that the bytes hold
 abbrev pub verdict_over : List ℕ → Result QuestionValue NotRead → Result Verdict NotRead
 verdict_over bytes question =
-    question >>= λ q. (of_whole (whole_read bytes) >>= λ w. of_decision (whole_verdict q w))
+    question >>= λ q.
+    (of_whole (whole_read bytes) >>= λ w. (of_decision (whole_verdict q w) >>= λ verdict. unless_denied w verdict))
 
 -- the reasons of the same question, by the plain descriptor that the whole one is for it
 abbrev pub reasons_over : List ℕ → Result QuestionValue NotRead → Result (List (Option Reason)) NotRead
 reasons_over bytes question =
     question >>= λ q.
-    (of_whole (whole_read bytes) >>= λ w. (of_decision (whole_reasons q w) >>= λ reasons. Ok reasons.1))
+    (of_whole (whole_read bytes) >>= λ w. (of_decision (whole_reasons q w) >>= λ reasons.
+    (unless_denied w (told_verdict (reason_in reasons.1)) >>= λ verdict. Ok reasons.1)))
 
 -- ---- the answer
 

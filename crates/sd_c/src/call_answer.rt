@@ -62,7 +62,8 @@ pub const WORD: u32 = 22;
 pub const UNENDED: u32 = 23;
 /// Object types are more than five, or not of 16 bytes each.
 pub const TYPES: u32 = 24;
-/// A DACL can't be decided for a question; the fault is one of those of `SpecializeFault`.
+/// A descriptor can't be decided for a question; the fault is one of those of `SpecializeFault`, or that an entry of the
+/// SACL may deny what the DACL grants.
 pub const UNDECIDED: u32 = 25;
 
 /// The answer of a check: a verdict and its mask, or which argument is invalid.
@@ -152,6 +153,7 @@ pub(crate) fn not_read(why: NotRead) -> CheckAnswer
         NotRead::PrincipalSelf(fault) => unread(SID, 21, fault.number(), 0),
         NotRead::ClientHandle => unread(HANDLE, 22, 0, 0),
         NotRead::Undecided(fault) => unread(UNDECIDED, 1, fault.number(), undecided_place(fault)),
+        NotRead::MayBeDenied => unread(UNDECIDED, 1, 7, 0),
     }
 }
 

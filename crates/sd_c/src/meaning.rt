@@ -67,7 +67,7 @@ fn status_text(status: u32) -> &'static str
         WORD => "a word says nothing of a client",
         UNENDED => "the last word has no zero byte after it",
         TYPES => "the object types are more than five, or not of 16 bytes",
-        UNDECIDED => "the DACL can't be decided for the question",
+        UNDECIDED => "the descriptor can't be decided for the question",
         _ => "",
     }
 }
@@ -196,6 +196,7 @@ fn undecided_fault_name(number: u32) -> &'static str
     match number {
         5 => "PassesDiffer",
         6 => "TooLarge",
+        7 => "MayBeDenied",
         _ => match odd_kind(number) {
             Some(kind) => kind.name(),
             None => "",

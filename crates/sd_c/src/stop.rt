@@ -51,6 +51,8 @@ pub enum NotRead {
     PrincipalSelf(SidError),
     /// The descriptor's DACL can't be decided for the question.
     Undecided(SpecializeFault),
+    /// An entry of the descriptor's SACL may deny what the verdict grants.
+    MayBeDenied,
 }
 
 /// Why a check stops: an invalid argument, or out of memory.

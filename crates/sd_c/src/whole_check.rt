@@ -7,14 +7,14 @@ ghost use Rattle.sd_whole.specs.Reading.{whole_read};
 ghost use Rattle.sd_c.specs.Kept.{Stays};
 ghost use Rattle.sd_c.specs.Request.{Gives};
 ghost use Rattle.sd_c.specs.WholeCheck.{AnswersWhole, TakesMemoryOver, question_by, question_read, terms_read};
-ghost use Rattle.sd_c.specs.WholeCheck.{verdict_over};
+ghost use Rattle.sd_c.specs.WholeCheck.{unless_denied, verdict_over};
 
 use crate::call_answer::{CheckAnswer, not_read, verdict_given, why_not};
 use crate::handle::{Handle, Kept};
 use crate::mapping::Mapping;
 use crate::question::{Terms, whole_of};
 use crate::stop::{NotRead, Stop};
-use sd_access::{Question, check_whole};
+use sd_access::{Question, check_whole, may_be_denied};
 use sd_check::Verdict;
 use sd_specialize::SpecializeError;
 use sd_whole::WholeDescriptor;
@@ -25,8 +25,8 @@ use std::alloc::Global;
 /// from the class on, at most five of 16 bytes each ([MS-DTYP] 2.3.4.2), and without one about the whole object. The
 /// SID at the front of `principal_self` is that for which PRINCIPAL SELF stands; without bytes it stands for itself.
 /// The client's handle is tested first, then the object types, then the SID, then the mapping, then the bytes; last is
-/// whether the DACL can be decided. There are allocations for the object types and the descriptor, and those of
-/// `check_whole`.
+/// whether the DACL can be decided, and whether an entry of the SACL may deny what it grants ([MS-DTYP] 2.5.3.3). There
+/// are allocations for the object types and the descriptor, and those of `check_whole`.
 #[unsafe(no_mangle)]
 #[tactic(auto, unfolding(crate::specs::WholeCheck::question_read))]
 pub extern "C" fn hudarin_check_whole(
@@ -114,8 +114,21 @@ fn verdict_on(alloc: Global, bytes: &[u8], question: &Question<'_>) -> Result<Ve
 {
     let descriptor = whole_of(alloc, bytes)?;
     match check_whole(alloc, question, &descriptor) {
-        Ok(verdict) => Ok(verdict),
+        Ok(verdict) => Ok(unless_denied(&descriptor, verdict)?),
         Err(SpecializeError::Fault(fault)) => Err(Stop::NotRead(NotRead::Undecided(fault))),
         Err(SpecializeError::Memory) => Err(Stop::Memory),
     }
+}
+
+/// The verdict, unless an entry of the SACL may deny what it grants.
+pub(crate) fn unless_denied(
+    descriptor: &WholeDescriptor,
+    verdict: Verdict,
+) -> Result<Verdict, NotRead>
+    ensures { result ≡ unless_denied descriptor.now verdict }
+{
+    if may_be_denied(&verdict, descriptor) {
+        return Err(NotRead::MayBeDenied);
+    }
+    Ok(verdict)
 }

@@ -16,6 +16,7 @@ use crate::handle::{Handle, Kept};
 use crate::mapping::Mapping;
 use crate::question::{Terms, whole_of};
 use crate::stop::{NotRead, Stop};
+use crate::whole_check::unless_denied;
 use sd_access::{Question, explain_whole};
 use sd_explain::Explanation;
 use sd_specialize::SpecializeError;
@@ -120,7 +121,10 @@ fn explanation_on(alloc: Global, bytes: &[u8], question: &Question<'_>) -> Resul
 {
     let descriptor = whole_of(alloc, bytes)?;
     match explain_whole(alloc, question, &descriptor) {
-        Ok(explained) => Ok(explained.explanation),
+        Ok(explained) => {
+            unless_denied(&descriptor, explained.explanation.verdict())?;
+            Ok(explained.explanation)
+        }
         Err(SpecializeError::Fault(fault)) => Err(Stop::NotRead(NotRead::Undecided(fault))),
         Err(SpecializeError::Memory) => Err(Stop::Memory),
     }

@@ -23,10 +23,11 @@ use Rattle.sd_specialize.specs.declared.fault.SpecializeFault.{SpecializeFault}
 use Rattle.sd_specialize.specs.declared.fault.SpecializeFault.TheVariants.{Refused, TooLarge}
 use Rattle.sd_client.specs.Client.{ClientValue}
 use Rattle.sd_access.specs.Access.{whole_reasons, whole_verdict}
+use Rattle.sd_access.specs.Limits.{may_be_denied}
 use Rattle.sd_access.specs.Question.{QuestionValue}
 use Rattle.sd_commands.specs.Answer.{AnswerValue, IsAnswer, IsFault}
 use Rattle.sd_commands.specs.Chain.{types_of}
-use Rattle.sd_commands.specs.Limits.{may_be_denied, sacl_left_out}
+use Rattle.sd_commands.specs.Limits.{sacl_left_out}
 use Rattle.sd_commands.specs.Diagnostic.{told_line}
 use Rattle.sd_commands.specs.Whole.{entry_place}
 use Rattle.sd_commands.specs.declared.command_answer.Outcome.{Outcome}
