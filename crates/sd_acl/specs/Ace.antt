@@ -1,6 +1,7 @@
 -- Entries: whether they count in a check, and the sizes of entries and of lists ([MS-DTYP] 2.4.4.1, AceSize, and 2.4.5,
 -- AclSize).
-use Rattle.std.specs.Prelude.{ℕ, Bool, true, false, ◌+◌, ◌*◌, ◌&&◌, ◌||◌, ◌==◌, List, [], ◌∷◌, length, sum_by, fold, bit_or, codes}
+use Rattle.std.specs.Prelude.{ℕ, Bool, true, false, ◌+◌, ◌*◌, ◌&&◌, ◌||◌, ◌==◌, List, [], ◌∷◌, length, sum_by}
+use Rattle.std.specs.Prelude.{fold, bit_or, codes}
 use Rattle.std.specs.Bool.{beq}
 use Rattle.sd_sid.specs.Mask.{holds}
 use Rattle.sd_sid.specs.Sid.{same_sid}

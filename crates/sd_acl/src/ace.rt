@@ -47,8 +47,8 @@ impl Ace {
         self.flags.contains(AceFlags::IO)
     }
 
-    /// Whether both are equal in all that they have ([MS-DTYP] 2.4.4.1): type, flags, mask and SID. (`==` tells contracts
-    /// nothing of the SIDs' values.)
+    /// Whether both are equal in all that they have ([MS-DTYP] 2.4.4.1): type, flags, mask and SID. (`==` tells
+    /// contracts nothing of the SIDs' values.)
     #[tactic(auto, using(crate::proofs::SameAces::ace_decides))]
     pub fn is(&self, other: &Ace) -> bool
         ensures test { result ≡ same_ace self.now other.now }

@@ -62,8 +62,8 @@ pub const WORD: u32 = 22;
 pub const UNENDED: u32 = 23;
 /// Object types are more than five, or not of 16 bytes each.
 pub const TYPES: u32 = 24;
-/// A descriptor can't be decided for a question; the fault is one of those of `SpecializeFault`, or that an entry of the
-/// SACL may deny what the DACL grants.
+/// A descriptor can't be decided for a question; the fault is one of those of `SpecializeFault`, or that an entry of
+/// the SACL may deny what the DACL grants.
 pub const UNDECIDED: u32 = 25;
 
 /// The answer of a check: a verdict and its mask, or which argument is invalid.
