@@ -21,7 +21,7 @@ any_of test (row ∷ rows) = ap (λ b. test (row_of row) || b) (any_of test rows
 
 -- ---- one row more
 
-rows_more : (rows : List Row) (i : ℕ) (row : Row) → i < length rows → row ≡ get_or rows i row → all_rows (take (i + 1) rows) ≡ all_rows (take i rows) ++ row_of row ∷ []
+pub rows_more : (rows : List Row) (i : ℕ) (row : Row) → i < length rows → row ≡ get_or rows i row → all_rows (take (i + 1) rows) ≡ all_rows (take i rows) ++ row_of row ∷ []
 rows_more rows i row low is = ap all_rows (take_more rows i row low ∙ ap (λ r. take i rows ++ r ∷ []) (sym is)) ∙ map-append row_of (take i rows) (row ∷ [])
 
 front_of : (rows : List Row) (i : ℕ) (one : AccountRow) → Contains (all_rows (take i rows)) one → Contains (all_rows rows) one

@@ -5,12 +5,12 @@ use Rattle.std.specs.List.{Contains}
 use Rattle.std.specs.Str.{bytes_eq}
 use lib.Pointwise.{bytes_decides}
 use Rattle.sd_sid.specs.Sid.{SidValue}
-use Rattle.sd_accounts.specs.Fault.{AreNoTwoSids, IsNoOneSid, IsNoRow, IsNoSidAndName, no_disabled, no_group, no_keyword, no_member, no_primary, no_user}
+use Rattle.sd_accounts.specs.Fault.{AreNoTwoSids, IsNoOneSid, IsNoRow, IsNoSidAndName, incomplete, no_disabled, no_group, no_keyword, no_member, no_primary, no_user}
 use Rattle.sd_accounts.specs.Groups.{IsIn, directly, further}
 use Rattle.sd_accounts.specs.Laws.{OrderDoesNotMatter, RowsHaveNoFault}
 use Rattle.sd_accounts.specs.Row.{AccountRow, AreRows, AreTwoSids, IsOneSid, IsRow, IsSidAndName, SaysNothing, User, Group, Member, Primary, Disabled, first_word, nothing, row}
 use Rattle.sd_accounts.specs.declared.fault.AccountsFault.{AccountsFault}
-use Rattle.sd_accounts.specs.declared.fault.AccountsFault.TheVariants.{Keyword, Sid, Name, Surplus}
+use Rattle.sd_accounts.specs.declared.fault.AccountsFault.TheVariants.{Keyword, Sid, Name, Surplus, Incomplete}
 
 in_others : (rows others : List AccountRow) (m g : SidValue) → ((row : AccountRow) → Contains rows row → Contains others row) → IsIn rows m g → IsIn others m g
 in_others rows others m g all (one, at, says) = (one, all one at, says)
@@ -30,6 +30,7 @@ named_or_not left sid name Keyword is bad = bad
 named_or_not left sid name Sid is bad = bad sid is.0
 named_or_not left sid name Name is bad = bad.1 name is.1 is.2
 named_or_not left sid name Surplus is bad = bad
+named_or_not left sid name Incomplete is bad = bad
 
 two_or_not : (left : Option (List ℕ)) (one two : SidValue) (fault : AccountsFault) → AreTwoSids left one two → AreNoTwoSids left fault → ⊥
 two_or_not left one two Keyword are bad = bad
@@ -37,12 +38,14 @@ two_or_not left one two Sid are (inl bad) = bad one are.0
 two_or_not left one two Sid are (inr bad) = bad two are.1
 two_or_not left one two Name are bad = bad
 two_or_not left one two Surplus are bad = bad.2 are.2
+two_or_not left one two Incomplete are bad = bad
 
 one_or_not : (left : Option (List ℕ)) (sid : SidValue) (fault : AccountsFault) → IsOneSid left sid → IsNoOneSid left fault → ⊥
 one_or_not left sid Keyword is bad = bad
 one_or_not left sid Sid is bad = bad sid is.0
 one_or_not left sid Name is bad = bad
 one_or_not left sid Surplus is bad = bad.1 is.1
+one_or_not left sid Incomplete is bad = bad
 
 row_or_not : (line : List ℕ) (one : AccountRow) (fault : AccountsFault) → IsRow line one → IsNoRow line fault → ⊥
 row_or_not line (User sid name) _ is (no_keyword bad) = bad (0, omega arith, sym is.0)
@@ -50,6 +53,11 @@ row_or_not line (Group sid name) _ is (no_keyword bad) = bad (1, omega arith, sy
 row_or_not line (Member group member) _ is (no_keyword bad) = bad (2, omega arith, sym is.0)
 row_or_not line (Primary user group) _ is (no_keyword bad) = bad (3, omega arith, sym is.0)
 row_or_not line (Disabled user) _ is (no_keyword bad) = bad (4, omega arith, sym is.0)
+row_or_not line (User sid name) _ is (incomplete word) = two_words (first_word line) (codes "user") (codes "incomplete") refl is.0 word
+row_or_not line (Group sid name) _ is (incomplete word) = two_words (first_word line) (codes "group") (codes "incomplete") refl is.0 word
+row_or_not line (Member group member) _ is (incomplete word) = two_words (first_word line) (codes "member") (codes "incomplete") refl is.0 word
+row_or_not line (Primary user group) _ is (incomplete word) = two_words (first_word line) (codes "primary") (codes "incomplete") refl is.0 word
+row_or_not line (Disabled user) _ is (incomplete word) = two_words (first_word line) (codes "disabled") (codes "incomplete") refl is.0 word
 row_or_not line (User sid name) _ is (no_user fault word bad) = named_or_not _ sid name fault is.1 bad
 row_or_not line (User sid name) _ is (no_group fault word bad) = two_words (first_word line) (codes "user") (codes "group") refl is.0 word
 row_or_not line (User sid name) _ is (no_member fault word bad) = two_words (first_word line) (codes "user") (codes "member") refl is.0 word

@@ -7,3 +7,5 @@ pub mod Faults
 pub mod Rows
 pub mod Found
 pub mod LawsHold
+pub mod Disabled
+pub mod Logging

@@ -9,3 +9,4 @@ pub mod Walk
 pub mod Lines
 pub mod Found
 pub mod Laws
+pub mod Users

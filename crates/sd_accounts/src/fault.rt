@@ -14,6 +14,8 @@ pub enum AccountsFault {
     Name,
     /// Something follows the last SID.
     Surplus,
+    /// It says that rows are missing.
+    Incomplete,
 }
 
 /// Why there are no accounts.

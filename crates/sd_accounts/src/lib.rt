@@ -23,6 +23,7 @@ mod read;
 mod row;
 #[cfg(test)]
 mod tests;
+mod users;
 mod words;
 
 pub use accounts::Accounts;

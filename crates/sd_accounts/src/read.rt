@@ -20,7 +20,8 @@ impl Accounts {
     ///
     /// A row is `user SID NAME` or `group SID NAME`, where the name is the rest of the line, `member GROUP MEMBER`,
     /// `primary USER GROUP` or `disabled USER`. SIDs are texts of [MS-DTYP] 2.4.2.1, or aliases that need no domain.
-    /// An empty line, and one that begins with `#`, says nothing.
+    /// An empty line, and one that begins with `#`, says nothing. A line that begins with `incomplete` says that rows
+    /// are missing, and is a fault: a user may be in groups that no row has.
     pub fn read(alloc: Global, text: &str) -> Result<Accounts, AccountsError>
         ensures rows { IfOk result (λ accounts. AreRows (lines_of text.now) (rows_of accounts)) }
         ensures fault { (line : ℕ) → (kind : AccountsFault) → result ≡ Err (AccountsError.Fault line kind)

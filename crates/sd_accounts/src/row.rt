@@ -55,6 +55,7 @@ pub(crate) fn read_row(alloc: Global, line: &str) -> Result<Row, RowError>
             let user = one_sid(left)?;
             Ok(Row::Disabled { user })
         }
+        "incomplete" => Err(RowError::Fault(AccountsFault::Incomplete)),
         _ => Err(RowError::Fault(AccountsFault::Keyword)),
     }
 }

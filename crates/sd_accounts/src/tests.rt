@@ -61,10 +61,41 @@ fn the_first_fault_is_reported(rt: HostRuntime) {
         ("\n#\nuser S-1-1 a", 3, AccountsFault::Sid),
         ("user S-1-1-0 ", 1, AccountsFault::Name),
         ("member BU BA\nmember BU BA BG", 2, AccountsFault::Surplus),
+        ("#\nincomplete 3 unknown", 2, AccountsFault::Incomplete),
     ] {
         let error = Accounts::read(rt.alloc(), text)
             .err()
             .expect(&rt, "a fault");
         assert_eq!(rt; error, AccountsError::Fault { line, kind });
     }
+}
+
+/// Anna and Ben have two names each; Cora and Dora are disabled, Dora by a row before her own.
+const PEOPLE: &str = "user S-1-5-21-1-2-3-1001 SCHOOL\\anna
+user S-1-5-21-1-2-3-1001 anna@school.test
+group S-1-5-21-1-2-3-513 Domain Users
+user S-1-5-21-1-2-3-1003 SCHOOL\\cora
+user S-1-5-21-1-2-3-1002 SCHOOL\\ben
+disabled S-1-5-21-1-2-3-1003
+member S-1-5-21-1-2-3-513 S-1-5-21-1-2-3-1002
+user S-1-5-21-1-2-3-1002 ben@school.test
+disabled S-1-5-21-1-2-3-1004
+user S-1-5-21-1-2-3-1004 SCHOOL\\dora
+user S-1-5-21-1-2-3-1005 SCHOOL\\emil
+";
+
+#[test]
+fn users_that_may_log_on_are_listed_once(rt: HostRuntime) -> Result<(), Fail> {
+    let accounts = accounts(&rt, rt.alloc(), PEOPLE);
+    let users = accounts.users(rt.alloc())?;
+    assert_eq!(rt; users.len(), 3);
+    for (place, account, name) in [
+        (0, "S-1-5-21-1-2-3-1001", "SCHOOL\\anna"),
+        (1, "S-1-5-21-1-2-3-1002", "SCHOOL\\ben"),
+        (2, "S-1-5-21-1-2-3-1005", "SCHOOL\\emil"),
+    ] {
+        assert_eq!(rt; users[place].0, sid(&rt, account));
+        assert_eq!(rt; users[place].1, name);
+    }
+    Ok(())
 }

@@ -1,22 +1,23 @@
 //! The arguments of a command, where accounts are known: SIDs in the place of names, and the groups that a user has.
 ghost use Rattle.std.specs.Prelude.{◌≡◌, ℕ, List, IfErr, IfOk, map, string_bytes};
 ghost use Rattle.std.specs.Borrow.{Bor};
-ghost use Rattle.std.specs.List.{filter_map};
-ghost use Rattle.sd_text.specs.Canon.{full_canon};
 ghost use Rattle.sd_answer.specs.Word.{texts};
 ghost use Rattle.sd_accounts.specs.Accounts.{rows_of};
-ghost use Rattle.sd_named.specs.Arguments.{AreNamedWords, AreOfUser, AreOfWords, IsUserError, IsWordsError, MayLogOn};
-ghost use Rattle.sd_named.specs.Arguments.{added, enabled_sid, is_of, is_said, starts, word_text};
+ghost use Rattle.sd_named.specs.Arguments.{AreAdded, AreNamedWords, AreOfAccount, AreOfUser, AreOfWords};
+ghost use Rattle.sd_named.specs.Arguments.{IsUserError, IsWordsError, MayLogOn, sids_as, word_text};
+ghost use Rattle.sd_accounts.specs.Groups.{AreGroupsOf};
 ghost use Rattle.sd_named.specs.Trustee.{Means};
 ghost use Rattle.sd_named.specs.declared.arguments.NamedError.TheVariants.{Memory};
 
+use crate::added::{added_texts, sids_as, starts};
 use crate::logon::logon_groups;
 use crate::trustee::trustee_of;
-use crate::word::{NamedWord, WordError, named_word};
+use crate::word::{NamedWord, Role, WordError, named_word};
 use sd_accounts::{Accounts, NameError};
 use sd_sid::Sid;
 use sd_text::{Aliases, print_full_sid};
 use std::alloc::{AllocError, AllocFailed, Global};
+use std::marker::Model;
 
 /// Why arguments can't be named.
 #[derive(Clone, Copy, Debug, PartialEq, Eq)]
@@ -47,6 +48,21 @@ impl<T: Drop> From<AllocFailed<T>> for NamedError {
     fn from(_error: AllocFailed<T>) -> NamedError {
         NamedError::Memory
     }
+}
+
+/// Words with SIDs in the place of names. Contracts see the list.
+#[derive(Drop)]
+pub struct NamedWords {
+    ones: Vec<NamedWord>,
+}
+
+impl Model for NamedWords {
+    ghost use Rattle.std.specs.Prelude.{List};
+    ghost use Rattle.sd_named.specs.declared.word.NamedWord.{NamedWord};
+
+    ghost Value = { List NamedWord };
+
+    ghost view = { λ w. w.ones.items };
 }
 
 /// The accounts, and the aliases that SIDs may have.
@@ -82,14 +98,25 @@ impl Naming<'_> {
             Ok(ones) => ones,
             Err(error) => return Err(error),
         };
-        let starts = self.starts(has_logon, sid, &ones)?;
-        let groups = self.accounts.groups_of(self.alloc, &starts)?;
-        let groups = self.added(has_logon, sid, &ones, groups)?;
-        let first = print_full_sid(self.alloc, &sid)?;
+        Ok(self.of_account(has_logon, &sid, mask, &ones)?)
+    }
+
+    /// The arguments about the user of this SID, with words in which SIDs stand in the place of names.
+    pub fn of_account(
+        &self,
+        has_logon: bool,
+        user: &Sid,
+        mask: &str,
+        words: &NamedWords,
+    ) -> Result<Vec<String>, AllocError>
+        ensures { IfOk result (λ named. AreOfAccount (rows_of self.now.accounts.now) has_logon user.now mask.now
+            words.now (map string_bytes named.items)) }
+    {
+        let first = print_full_sid(self.alloc, user)?;
         let second = String::from_str(self.alloc, mask)?;
         let mut named = vec![in self.alloc; first, second]?;
-        named.append(&mut self.word_texts(&ones)?)?;
-        named.append(&mut self.sid_texts(&groups)?)?;
+        named.append(&mut self.word_texts(&words.ones)?)?;
+        named.append(&mut self.added_texts(has_logon, *user, &words.ones)?)?;
         Ok(named)
     }
 
@@ -100,7 +127,7 @@ impl Naming<'_> {
         ensures none { IfErr result (IsWordsError (rows_of self.now.accounts.now) self.now.known words.now) }
     {
         match self.named_words(words) {
-            Ok(ones) => Ok(self.word_texts(&ones)?),
+            Ok(words) => Ok(self.word_texts(&words.ones)?),
             Err(error) => Err(error),
         }
     }
@@ -126,9 +153,9 @@ impl Naming<'_> {
     }
 
     /// The words with SIDs in the place of names.
-    fn named_words(&self, words: &[&str]) -> Result<Vec<NamedWord>, NamedError>
-        ensures named { IfOk result (λ ones. AreNamedWords (rows_of self.now.accounts.now) self.now.known
-            (texts words.now) ones.items) }
+    pub fn named_words(&self, words: &[&str]) -> Result<NamedWords, NamedError>
+        ensures named { IfOk result (AreNamedWords (rows_of self.now.accounts.now) self.now.known
+            (texts words.now)) }
         ensures none { IfErr result (IsWordsError (rows_of self.now.accounts.now) self.now.known words.now) }
     {
         let mut ones = Vec::new(self.alloc);
@@ -139,39 +166,39 @@ impl Naming<'_> {
                 Err(WordError::Memory) => return Err(NamedError::Memory),
             }
         }
-        Ok(ones)
+        Ok(NamedWords { ones })
     }
 
-    /// The SIDs by which the user belongs to groups.
-    fn starts(&self, has_logon: bool, user: Sid, ones: &[NamedWord]) -> Result<Vec<Sid>, AllocError>
-        ensures { IfOk result
-            (λ all. all.items ≡ starts has_logon user ones.now) }
-    {
-        let mut all = vec![in self.alloc; user]?;
-        all.append(&mut logon_groups(self.alloc, has_logon, &user)?)?;
-        all.append(&mut enabled_sids(self.alloc, ones)?)?;
-        Ok(all)
-    }
-
-    /// The groups of which no word speaks, of the user's logon where none is given, and of these.
-    fn added(
+    /// The words of the groups that are added: the user's, and those that are reached from words for denies alone and
+    /// from the device's.
+    fn added_texts(
         &self,
         has_logon: bool,
         user: Sid,
         ones: &[NamedWord],
-        mut groups: Vec<Sid>,
-    ) -> Result<Vec<Sid>, AllocError>
-        ensures { IfOk result (λ all. all.items
-            ≡ added has_logon user ones.now groups.items) }
+    ) -> Result<Vec<String>, AllocError>
+        ensures { IfOk result (λ named. AreAdded (rows_of self.now.accounts.now) has_logon user ones.now
+            (map string_bytes named.items)) }
     {
-        let mut all = logon_groups(self.alloc, has_logon, &user)?;
-        all.append(&mut groups)?;
-        Ok(
-            all.iter()
-                .filter(|sid| !is_said(ones, sid))
-                .copied()
-                .collect(self.alloc)?,
-        )
+        let alloc = self.alloc;
+        let mut own = logon_groups(alloc, has_logon, &user)?;
+        let starts = starts(alloc, has_logon, user, ones)?;
+        own.append(&mut self.accounts.groups_of(alloc, &starts)?)?;
+        let denied = self.reached_as(Role::DenyOnly, ones)?;
+        let of_device = self.reached_as(Role::Device, ones)?;
+        let mut named = added_texts(alloc, Role::Enabled, ones, &own, &[])?;
+        named.append(&mut added_texts(alloc, Role::DenyOnly, ones, &denied, &own)?)?;
+        named.append(&mut added_texts(alloc, Role::Device, ones, &of_device, &[])?)?;
+        Ok(named)
+    }
+
+    /// The groups that are reached from the words in the role.
+    fn reached_as(&self, role: Role, ones: &[NamedWord]) -> Result<Vec<Sid>, AllocError>
+        ensures { IfOk result (λ groups. AreGroupsOf (rows_of self.now.accounts.now) (sids_as role ones.now)
+            groups.items) }
+    {
+        let sids = sids_as(self.alloc, role, ones)?;
+        self.accounts.groups_of(self.alloc, &sids)
     }
 
     fn word_texts(&self, ones: &[NamedWord]) -> Result<Vec<String>, AllocError>
@@ -182,51 +209,5 @@ impl Naming<'_> {
             named.push(one.text.clone()?)?;
         }
         Ok(named)
-    }
-
-    fn sid_texts(&self, sids: &[Sid]) -> Result<Vec<String>, AllocError>
-        ensures { IfOk result (λ named. map string_bytes named.items ≡ map full_canon sids.now) }
-    {
-        let mut named = Vec::with_capacity(self.alloc, sids.len())?;
-        for sid in sids {
-            named.push(print_full_sid(self.alloc, sid)?)?;
-        }
-        Ok(named)
-    }
-}
-
-/// The enabled groups that the words are.
-fn enabled_sids(alloc: Global, ones: &[NamedWord]) -> Result<Vec<Sid>, AllocError>
-    ensures { IfOk result (λ sids. sids.items ≡ filter_map enabled_sid ones.now) }
-{
-    let mut sids = Vec::new(alloc);
-    for one in ones {
-        if let Some(sid) = enabled_sid(one) {
-            sids.push(sid)?;
-        }
-    }
-    Ok(sids)
-}
-
-/// The enabled group that the word is.
-fn enabled_sid(one: &NamedWord) -> Option<Sid>
-    ensures { result ≡ enabled_sid one.now }
-{
-    if one.is_enabled { one.sid } else { None }
-}
-
-/// Whether a word says how the token has this SID.
-fn is_said(ones: &[NamedWord], sid: &Sid) -> bool
-    ensures { result ≡ is_said ones.now sid.now }
-{
-    ones.iter().any(|one| is_of(sid, one))
-}
-
-fn is_of(sid: &Sid, one: &NamedWord) -> bool
-    ensures { result ≡ is_of sid.now one.now }
-{
-    match one.sid {
-        Some(own) => own.is(sid),
-        None => false,
     }
 }

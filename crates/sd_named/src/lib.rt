@@ -7,12 +7,15 @@
 //! ```
 #![tactic(auto)]
 
+mod added;
 mod arguments;
+mod lending;
 mod logon;
 mod trustee;
 mod well_known;
 mod word;
 
-pub use arguments::{NamedError, Naming};
+pub use arguments::{NamedError, NamedWords, Naming};
+pub use lending::lent;
 pub use trustee::trustee_of;
 pub use well_known::WELL_KNOWN;

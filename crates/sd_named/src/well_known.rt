@@ -1,6 +1,7 @@
 //! The accounts that need no file.
 
-/// The accounts that Windows has everywhere ([MS-DTYP] 2.4.2.4), as lines of an accounts file.
+/// The accounts that Windows has everywhere ([MS-DTYP] 2.4.2.4), as lines of an accounts file; SYSTEM is in
+/// Administrators.
 pub const WELL_KNOWN: &str = "
 group S-1-1-0 Everyone
 group S-1-2-0 LOCAL
@@ -33,4 +34,5 @@ group S-1-5-32-552 BUILTIN\\Replicator
 group S-1-5-32-554 BUILTIN\\Pre-Windows 2000 Compatible Access
 group S-1-5-32-555 BUILTIN\\Remote Desktop Users
 group S-1-5-32-580 BUILTIN\\Remote Management Users
+member S-1-5-32-544 S-1-5-18
 ";

@@ -1,7 +1,7 @@
 //! The words that say which groups a token has, where accounts are known.
 ghost use Rattle.std.specs.Prelude.{◌≡◌, ◌++◌, ℕ, List, IfErr, IfNone, IfOk, IfSome};
 ghost use Rattle.sd_accounts.specs.Accounts.{rows_of};
-ghost use Rattle.sd_named.specs.Word.{HasNoAccount, IsCut, IsNamedWord, is_other};
+ghost use Rattle.sd_named.specs.Word.{HasNoAccount, IsCut, IsNamedWord, ending_of, is_other};
 ghost use Rattle.sd_named.specs.declared.word.WordError.TheVariants.{Memory};
 
 use crate::trustee::trustee_of;
@@ -16,8 +16,37 @@ pub(crate) struct NamedWord {
     pub(crate) text: String,
     /// The SID, if it is of a trustee.
     pub(crate) sid: Option<Sid>,
-    /// Whether that is an enabled group.
-    pub(crate) is_enabled: bool,
+    pub(crate) role: Role,
+}
+
+/// What the SID of a word is to the token ([MS-DTYP] 2.5.2), as the word's ending says.
+#[derive(Clone, Copy)]
+pub(crate) enum Role {
+    /// An enabled group: without an ending.
+    Enabled,
+    /// A group for denies alone.
+    DenyOnly,
+    /// A group that counts for nothing.
+    Disabled,
+    /// A restricting SID.
+    Restricting,
+    /// A group of the device.
+    Device,
+}
+
+impl Role {
+    /// The ending of a word in the role.
+    pub(crate) fn ending(self) -> &'static str
+        ensures { result.now ≡ ending_of self }
+    {
+        match self {
+            Role::Enabled => "",
+            Role::DenyOnly => "=deny",
+            Role::Disabled => "=off",
+            Role::Restricting => "=restrict",
+            Role::Device => "=device",
+        }
+    }
 }
 
 /// Why a word can't be named.
@@ -46,12 +75,12 @@ pub(crate) fn named_word(
     ensures named { IfOk result (IsNamedWord (rows_of accounts.now) known word.now) }
     ensures none { IfErr result (HasNoAccount (rows_of accounts.now) known word.now) }
 {
-    let (front, ending) = cut(word);
+    let (front, role) = cut(word);
     if is_other(front) {
         return Ok(NamedWord {
             text: String::from_str(alloc, word)?,
             sid: None,
-            is_enabled: false,
+            role,
         });
     }
     let sid = match trustee_of(accounts, known, front) {
@@ -59,39 +88,39 @@ pub(crate) fn named_word(
         Err(error) => return Err(WordError::NoAccount(error)),
     };
     let mut text = print_full_sid(alloc, &sid)?;
-    text.push_str(ending)?;
+    text.push_str(role.ending())?;
     Ok(NamedWord {
         text,
         sid: Some(sid),
-        is_enabled: ending.is_empty(),
+        role,
     })
 }
 
-/// What is before the word's ending, and the ending, which may be none.
-fn cut(word: &str) -> (&str, &str)
-    ensures { IsCut word.now result.0.now result.1.now }
+/// What is before the word's ending, and the role that this says.
+fn cut(word: &str) -> (&str, Role)
+    ensures { IsCut word.now result.0.now result.1 }
 {
-    if let Some(front) = before(word, "=deny") {
-        return (front, "=deny");
+    if let Some(front) = before(word, Role::DenyOnly) {
+        return (front, Role::DenyOnly);
     }
-    if let Some(front) = before(word, "=off") {
-        return (front, "=off");
+    if let Some(front) = before(word, Role::Disabled) {
+        return (front, Role::Disabled);
     }
-    if let Some(front) = before(word, "=restrict") {
-        return (front, "=restrict");
+    if let Some(front) = before(word, Role::Restricting) {
+        return (front, Role::Restricting);
     }
-    match before(word, "=device") {
-        Some(front) => (front, "=device"),
-        None => (word, ""),
+    match before(word, Role::Device) {
+        Some(front) => (front, Role::Device),
+        None => (word, Role::Enabled),
     }
 }
 
-/// What is before this ending, if the word has it.
-fn before<'a>(word: &'a str, ending: &str) -> Option<&'a str>
-    ensures found { IfSome result (λ front. word.now ≡ front.now ++ ending.now) }
-    ensures none { IfNone result ((front : List ℕ) → word.now ≡ front ++ ending.now → ⊥) }
+/// What is before the role's ending, if the word has it.
+fn before(word: &str, role: Role) -> Option<&str>
+    ensures found { IfSome result (λ front. word.now ≡ front.now ++ ending_of role) }
+    ensures none { IfNone result ((front : List ℕ) → word.now ≡ front ++ ending_of role → ⊥) }
 {
-    word.strip_suffix(ending)
+    word.strip_suffix(role.ending())
 }
 
 /// Whether it is no trustee's, as that of a privilege, of a claim or of a level.

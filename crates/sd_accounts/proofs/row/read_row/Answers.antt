@@ -1,7 +1,7 @@
 use Rattle.std.proofs.Common.{Err, ap, subst, sym, ◌∙◌, ◌≡◌}
-use Rattle.sd_accounts.specs.Fault.{AreNoTwoSids, IsNoOneSid, IsNoRow, IsNoSidAndName, no_disabled, no_group, no_keyword, no_member, no_primary, no_user}
+use Rattle.sd_accounts.specs.Fault.{AreNoTwoSids, IsNoOneSid, IsNoRow, IsNoSidAndName, incomplete, no_disabled, no_group, no_keyword, no_member, no_primary, no_user}
 use Rattle.sd_accounts.specs.Row.{after_word, first_word}
-use Rattle.sd_accounts.specs.declared.fault.AccountsFault.TheVariants.{Keyword}
+use Rattle.sd_accounts.specs.declared.fault.AccountsFault.TheVariants.{Keyword, Incomplete}
 use Rattle.sd_accounts.specs.declared.fault.RowError.TheVariants.{Fault}
 use Rattle.sd_accounts.proofs.Faults.{made, none_of, passed_on}
 use Rattle.sd_accounts.proofs.row.read_row.Goals as goal
@@ -34,9 +34,15 @@ returns-in_err-user-in-disabled-clause-fault c = λ fault is.
     no_disabled fault (sym c.cut.ensures.before ∙ c.in-disabled.is)
     (subst (IsNoOneSid (after_word c.args.line.now)) same (subst (λ left. IsNoOneSid left c.in_err-user-in-disabled.field-0.0) c.cut.ensures.after c.in_err-user-in-disabled.ensures.fault))
 
+pub returns-in-incomplete-clause-fault : goal.returns-in-incomplete-clause-fault
+returns-in-incomplete-clause-fault c = λ fault is.
+    let same : Incomplete ≡ fault = cc (is) in
+    subst (IsNoRow c.args.line.now) same (incomplete (sym c.cut.ensures.before ∙ c.in-incomplete.is))
+
 pub returns-in_default-clause-fault : goal.returns-in_default-clause-fault
 returns-in_default-clause-fault c = λ fault is.
     let same : Keyword ≡ fault = cc (is) in
     let word = c.cut.ensures.before in
     subst (IsNoRow c.args.line.now) same (no_keyword (none_of (first_word c.args.line.now) (λ e. c.in_default.not-user (word ∙ e)) (λ e. c.in_default.not-group (word ∙ e))
-    (λ e. c.in_default.not-member (word ∙ e)) (λ e. c.in_default.not-primary (word ∙ e)) (λ e. c.in_default.not-disabled (word ∙ e))))
+    (λ e. c.in_default.not-member (word ∙ e)) (λ e. c.in_default.not-primary (word ∙ e)) (λ e. c.in_default.not-disabled (word ∙ e))
+    (λ e. c.in_default.not-incomplete (word ∙ e))))
