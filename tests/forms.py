@@ -1,4 +1,4 @@
-"""The lines that the program prints: the forms of forms.rt of sd_answer, sd_show and sd_script, put together.
+"""The lines that the program prints: the forms of forms.rt of sd_answer, sd_show, sd_script and sd_people, put together.
 
 A form is words in which each `{name}` stands for a value, which a line's object has as the member of that name.
 LAYOUTS, WITH_PARTS and PLACES have which forms make a line, NUMBERS and ARRAYS of which type a value is: forms.rt says
@@ -12,7 +12,7 @@ from pathlib import Path
 from typing import Any, Iterator, NamedTuple
 
 CRATES = Path(__file__).resolve().parent.parent / "crates"
-SOURCES = [CRATES / crate / "src/forms.rt" for crate in ("sd_answer", "sd_show", "sd_script")]
+SOURCES = [CRATES / crate / "src/forms.rt" for crate in ("sd_answer", "sd_show", "sd_script", "sd_people")]
 
 FORM = re.compile(r"pub const ([A-Z_]+): (LineForm|BitsForm|&str) =\s*([^;]*);")
 USE = re.compile(r"use [\w:]+;|pub type BitsForm = [^;]*;")
@@ -33,8 +33,8 @@ SEEN? GRANTED|DENIED|RESERVED|EMPTY
 SEEN? NO_NODE
 SEEN FOUND|GRANTED_BY|DENIED_ALL|SHOWN
 OPENED DIFFERS?
-GRANTED BY_ENTRY|WITHOUT_A|TO_THE|BY
-GRANTED BY_ENTRY SECOND_BY_ENTRY
+GRANTED BY_ENTRY|WITHOUT_A|TO_THE|BY PERSON?
+GRANTED BY_ENTRY SECOND_BY_ENTRY PERSON?
 DENIED BY_ENTRY|BY_NO|WITHOUT|BEYOND|AS|BY
 DENIED BY_ENTRY|BY_NO SECOND_BY_ENTRY|SECOND_BY_NO
 WHO AS_THE? WHO_LIST?

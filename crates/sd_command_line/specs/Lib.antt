@@ -1,4 +1,5 @@
 pub mod Answer
 pub mod Output
+pub mod People
 pub mod Names
 pub mod Scripts

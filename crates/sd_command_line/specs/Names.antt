@@ -20,7 +20,10 @@ use Rattle.sd_arguments.specs.CommandLine.{Ask, CommandLineValue, Each, RequestV
 use Rattle.sd_arguments.specs.Options.{GivesSettings, OptionsValue, given}
 use Rattle.sd_usage.specs.declared.row.OptionName.TheVariants.{Accounts}
 use Rattle.sd_arguments.specs.declared.options.BadValue.{BadValue}
+use Rattle.sd_line.specs.declared.print.Style.{Style}
+use Rattle.sd_commands.specs.Answer.{AnswerValue}
 use Rattle.sd_command_line.specs.Output.{AppendsAnswer}
+use Rattle.sd_command_line.specs.People.{AppendsPeople, IsOfPeople}
 
 -- the accounts of a file's text: its rows, and those that need no file
 abbrev pub AreAccounts : List ℕ → List AccountRow → Type 0
@@ -92,13 +95,19 @@ abbrev pub without_accounts : List (Bor (List ℕ)) → List (Bor (List ℕ))
 without_accounts words =
     let place = accounts_place words in take place words ++ drop (place + 2) words
 
--- the words with SIDs in the place of names of the accounts of a file's text
-abbrev pub AreNamedOf : List ℕ → List (Bor (List ℕ)) → List (List ℕ) → Type 0
-AreNamedOf text words named = (rows : List AccountRow) × AreAccounts text rows
-    × AreNamedWords rows (without_accounts words) named
+-- the words without the accounts file, named by the accounts of the file's text
+abbrev pub AreNamedBy : List AccountRow → List ℕ → List (Bor (List ℕ)) → List (List ℕ) → Type 0
+AreNamedBy rows text words named = AreAccounts text rows × AreNamedWords rows (without_accounts words) named
 
--- known bytes grow by the whole answer to these words, which is what was asked for
-abbrev pub AnswersNamed : List ℕ → List (Bor (List ℕ)) → Option (List ℕ) → Option (List ℕ) → Option (List ℕ)
-    → List (Bor (List ℕ)) → List ℕ → Type 0
-AnswersNamed text words input old new named told =
-    AreNamedOf text words (texts named) × AppendsAnswer named input old new told 0
+-- known bytes grow by the whole answer to these words, which is what was asked for, and then by what is answered about
+-- people
+pub record AnswersNamed (text : List ℕ) (words : List (Bor (List ℕ))) (input old new : Option (List ℕ)) : Type 0 where
+  pub rows : List AccountRow
+  pub named : List (Bor (List ℕ))
+  pub are_named : AreNamedBy rows text words (texts named)
+  pub told : List ℕ
+  pub answered : Option (List ℕ)
+  pub answers : AppendsAnswer named input old answered told 0
+  pub people : Option (AnswerValue × Style)
+  pub are_people : IsOfPeople rows (without_accounts words) people
+  pub ended : AppendsPeople people answered new

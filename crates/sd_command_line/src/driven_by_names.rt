@@ -1,18 +1,20 @@
 //! The program over words that name accounts.
-ghost use Rattle.std.specs.Prelude.{◌≡◌, ◌≢◌, ◌≤◌, ℕ, List, IfOk, map, string_bytes};
-ghost use Rattle.std.specs.Borrow.{Bor};
+ghost use Rattle.std.specs.Prelude.{◌≡◌, ◌≢◌, ◌≤◌, List, IfOk, map, option_map, string_bytes};
 ghost use Rattle.sd_lines.specs.Watched.{inner_of};
-ghost use Rattle.sd_answer.specs.Word.{texts};
-ghost use Rattle.sd_command_line.specs.Names.{AnswersNamed, AreNamedOf};
+ghost use Rattle.sd_accounts.specs.Accounts.{rows_of};
+ghost use Rattle.sd_accounts.specs.Row.{AccountRow};
+ghost use Rattle.sd_command_line.specs.Names.{AnswersNamed, AreAccounts, AreNamedBy, AreNamedWords, without_accounts};
+ghost use Rattle.sd_command_line.specs.People.{AppendsPeople, IsOfPeople, people_of};
 ghost use Rattle.sd_command_line.specs.declared.driven_by_names.NamesFault.TheVariants.{Memory};
 
-use crate::names::{asked_options, named_words};
+use crate::names::{asked_options, named_line, without_accounts};
+use crate::people::{People, people_asked};
 use crate::perform::print;
 use crate::program::{drive, error_line, tell};
 use sd_accounts::{Accounts, AccountsError, AccountsFault, NameError};
 use sd_commands::{Answer, fault, told_line};
 use sd_lines::{RunError, Watched};
-use sd_named::{NamedError, WELL_KNOWN};
+use sd_named::{NamedError, WELL_KNOWN, lent};
 use sd_questions::Ended;
 use std::alloc::{AllocError, Global};
 use std::io::{Read, Write};
@@ -40,8 +42,9 @@ impl From<AllocError> for NamesFault {
 }
 
 /// Does what `drive` does with words that name accounts of this text of an accounts file: with SIDs in the place of the
-/// names, and with the groups that a user has. Where a line of the text is no row, or a name isn't one account's, that
-/// fault is the answer, with its status.
+/// names, and with the groups that a user has. After an answer to `who` of a text that is what was asked for comes what
+/// each user is granted. Where a line of the text is no row, or a name isn't one account's, that fault is the answer,
+/// with its status.
 pub fn drive_named<T: Threads + Wait + Sync, R: Read, W: Write, E: Write>(
     rt: &T,
     alloc: Global,
@@ -52,13 +55,15 @@ pub fn drive_named<T: Threads + Wait + Sync, R: Read, W: Write, E: Write>(
     errors: &mut Watched<E>,
 ) -> u8
     ensures statuses { result ≤ 4 }
-    ensures done { result ≡ 0 → (named : List (Bor (List ℕ))) × (told : List ℕ)
-        × AnswersNamed text.now words.now (R.remaining (inner_of reader.old))
-        (W.contents (inner_of writer.old)) (W.contents (inner_of writer.new)) named told }
+    ensures done { result ≡ 0 → AnswersNamed text.now words.now (R.remaining (inner_of reader.old))
+        (W.contents (inner_of writer.old)) (W.contents (inner_of writer.new)) }
 {
     match named_by(alloc, words, text) {
-        Ok(named) => match lent(alloc, &named) {
-            Ok(lent) => drive(rt, alloc, &lent, reader, writer, errors),
+        Ok((named, people)) => match lent(alloc, &named) {
+            Ok(lent) => {
+                let status = drive(rt, alloc, &lent, reader, writer, errors);
+                tell_people(alloc, status, people, writer, errors)
+            }
             Err(_) => failed(errors, RunError::Memory),
         },
         Err(NamesFault::Memory) => failed(errors, RunError::Memory),
@@ -66,36 +71,82 @@ pub fn drive_named<T: Threads + Wait + Sync, R: Read, W: Write, E: Write>(
     }
 }
 
-/// The words with SIDs in the place of names.
-fn named_by(alloc: Global, words: &[&str], text: &[u8]) -> Result<Vec<String>, NamesFault>
-    ensures { IfOk result (λ named. AreNamedOf text.now words.now (map string_bytes named.items)) }
+/// After an answer that ended so, prints what is answered about people if it is what was asked for; and how all ends.
+fn tell_people<W: Write, E: Write>(
+    alloc: Global,
+    status: u8,
+    people: Option<People>,
+    writer: &mut Watched<W>,
+    errors: &mut Watched<E>,
+) -> u8
+    ensures within { status ≤ 4 → result ≤ 4 }
+    ensures done { result ≡ 0 → (status ≡ 0) × AppendsPeople (option_map people_of people)
+        (W.contents (inner_of writer.old)) (W.contents (inner_of writer.new)) }
 {
-    let Ok(text) = str::from_utf8(text) else {
-        return Err(NamesFault::Utf8);
+    if status != 0 {
+        return status;
+    }
+    let Some(
+        People {
+            answer,
+            style,
+            is_strict,
+        },
+    ) = people
+    else {
+        return 0;
     };
-    let mut all = String::from_str(alloc, text)?;
-    all.push_str(WELL_KNOWN)?;
-    let accounts = match Accounts::read(alloc, all.as_str()) {
-        Ok(accounts) => accounts,
-        Err(AccountsError::Fault { line, kind }) => return Err(NamesFault::Row { line, kind }),
-        Err(AccountsError::Memory) => return Err(NamesFault::Memory),
-    };
-    match named_words(alloc, &accounts, words) {
+    let printed = print(alloc, style, answer, writer);
+    match printed {
+        Ok(Ended { told, outcome }) => {
+            tell(errors, told.as_str());
+            outcome.status(is_strict)
+        }
+        Err(error) => failed(errors, error),
+    }
+}
+
+/// Words with SIDs in the place of names, and what is answered about people after their answer.
+type Named = (Vec<String>, Option<People>);
+
+fn named_by(alloc: Global, words: &[&str], text: &[u8]) -> Result<Named, NamesFault>
+    ensures { IfOk result (λ named. (rows : List AccountRow)
+        × AreNamedBy rows text.now words.now (map string_bytes named.0.items)
+        × IsOfPeople rows (without_accounts words.now) (option_map people_of named.1)) }
+{
+    let accounts = accounts_in(alloc, text)?;
+    match named_and_people(alloc, &accounts, words) {
         Ok(named) => Ok(named),
         Err(NamedError::Memory) => Err(NamesFault::Memory),
         Err(error) => Err(NamesFault::Named(error)),
     }
 }
 
-/// The texts, lent.
-fn lent<'a>(alloc: Global, named: &'a [String]) -> Result<Vec<&'a str>, AllocError>
-    ensures { IfOk result (λ lent. texts lent.items ≡ map string_bytes named.now) }
+fn named_and_people(alloc: Global, accounts: &Accounts, words: &[&str]) -> Result<Named, NamedError>
+    ensures { IfOk result (λ named. AreNamedWords (rows_of accounts.now) (without_accounts words.now)
+        (map string_bytes named.0.items)
+        × IsOfPeople (rows_of accounts.now) (without_accounts words.now) (option_map people_of named.1)) }
 {
-    let mut lent = Vec::with_capacity(alloc, named.len())?;
-    for text in named {
-        lent.push(text.as_str())?;
+    let own = without_accounts(alloc, words)?;
+    let words = named_line(alloc, accounts, &own)?;
+    let people = people_asked(alloc, accounts, &own)?;
+    Ok((words, people))
+}
+
+/// The accounts of a file's text, and those that need no file.
+fn accounts_in(alloc: Global, text: &[u8]) -> Result<Accounts, NamesFault>
+    ensures { IfOk result (λ accounts. AreAccounts text.now (rows_of accounts)) }
+{
+    let Ok(text) = str::from_utf8(text) else {
+        return Err(NamesFault::Utf8);
+    };
+    let mut all = String::from_str(alloc, text)?;
+    all.push_str(WELL_KNOWN)?;
+    match Accounts::read(alloc, all.as_str()) {
+        Ok(accounts) => Ok(accounts),
+        Err(AccountsError::Fault { line, kind }) => Err(NamesFault::Row { line, kind }),
+        Err(AccountsError::Memory) => Err(NamesFault::Memory),
     }
-    Ok(lent)
 }
 
 /// The status after an error, which standard error is told.
@@ -171,6 +222,8 @@ fn row_reason(kind: AccountsFault) -> &'static str {
         AccountsFault::Name =>
             "3 Name: a name is missing after the SID, or has a control character",
         AccountsFault::Surplus => "4 Surplus: something follows the last SID",
+        AccountsFault::Incomplete =>
+            "5 Incomplete: rows are missing, by which a user may be denied; without this line the others are used",
     }
 }
 

@@ -13,6 +13,7 @@
 
 mod driven_by_names;
 mod names;
+mod people;
 mod perform;
 mod program;
 mod scripts;

@@ -45,23 +45,12 @@ pub(crate) fn asked_options(words: &[&str]) -> (Style, bool) {
     }
 }
 
-/// The words of a command line without the accounts file, with SIDs in the place of the names of accounts, and with the
-/// groups that a user has. The only errors are those of a name, and out of memory.
-pub(crate) fn named_words(
-    alloc: Global,
-    accounts: &Accounts,
-    words: &[&str],
-) -> Result<Vec<String>, NamedError>
-    ensures { IfOk result (λ named. AreNamedWords (rows_of accounts.now) (without_accounts words.now)
-        (map string_bytes named.items)) }
-{
-    let own = without_accounts(alloc, words)?;
-    named_line(alloc, accounts, &own)
-}
-
 /// The words without the option and the name of the file.
 #[tactic(auto, using(std::proofs::lemmas::List::drop_min))]
-fn without_accounts<'a>(alloc: Global, words: &[&'a str]) -> Result<Vec<&'a str>, AllocError>
+pub(crate) fn without_accounts<'a>(
+    alloc: Global,
+    words: &[&'a str],
+) -> Result<Vec<&'a str>, AllocError>
     ensures { IfOk result (λ own. own.items ≡ without_accounts words.now) }
 {
     let place = accounts_place(words);
@@ -91,8 +80,13 @@ fn is_accounts(word: &str) -> bool
     word == "--accounts"
 }
 
-/// The words of a command line, with SIDs in the place of the names of accounts.
-fn named_line(alloc: Global, accounts: &Accounts, words: &[&str]) -> Result<Vec<String>, NamedError>
+/// The words of a command line, with SIDs in the place of the names of accounts, and with the groups that a user has.
+/// The only errors are those of a name, and out of memory.
+pub(crate) fn named_line(
+    alloc: Global,
+    accounts: &Accounts,
+    words: &[&str],
+) -> Result<Vec<String>, NamedError>
     ensures { IfOk result
         (λ named. AreNamedWords (rows_of accounts.now) words.now (map string_bytes named.items)) }
 {

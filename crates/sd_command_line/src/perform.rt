@@ -1,5 +1,7 @@
 //! A command line, carried out over streams.
-ghost use Rattle.std.specs.Prelude.{◌≡◌, ◌≢◌, ◌||◌, ℕ, List, [], Option, false, Err, IfErr, IfOk, string_bytes};
+ghost use Rattle.std.specs.Prelude.{◌≡◌, ◌≢◌, ◌||◌, ℕ, List, [], Option, None, false, Err, IfErr, IfOk, string_bytes};
+ghost use Rattle.std.specs.Io.KnownBytes.{Appends};
+ghost use Rattle.sd_line.specs.Printed.{printed};
 ghost use Rattle.sd_lines.specs.Watched.{has_failed, inner_of};
 ghost use Rattle.sd_lines.specs.Streams.{ReadsPart, is_read_error, is_write_error};
 ghost use Rattle.sd_commands.specs.Answer.{answer_of, outcome_status};
@@ -122,6 +124,8 @@ pub(crate) fn print<W: Write>(
         → IfOk result (λ ended. AppendsAnswerTo line input
         (W.contents (inner_of writer.old)) (W.contents (inner_of writer.new)) (string_bytes ended.told)
         (outcome_status (tells_faults line) ended.outcome)) }
+    ensures whole { IfOk result (λ ended. Appends (W.contents (inner_of writer.old)) (W.contents (inner_of writer.new))
+        (printed style None answer.lines.items) × (ended.outcome ≡ answer.outcome)) }
     ensures err { (line : CommandLineValue) → (input left : Option (List ℕ))
         → Answers input line (printed_as style (answer_of answer))
         → IfErr result (LeavesAfter line input left

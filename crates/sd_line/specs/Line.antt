@@ -1,6 +1,6 @@
 -- A line of an answer: its kind, and its parts, of which nothing is spelled.
-use Rattle.std.specs.Prelude.{ℕ, Bool, false, List, [], ◌∷◌, Option, Some, None, codes, bytes_eq, drop}
-use Rattle.std.specs.Prelude.{if◌then◌else◌}
+use Rattle.std.specs.Prelude.{ℕ, Bool, false, List, [], ◌∷◌, ◌++◌, Option, Some, None, codes, bytes_eq}
+use Rattle.std.specs.Prelude.{drop, if◌then◌else◌}
 use Rattle.std.specs.List.{list_any}
 use Rattle.std.specs.Borrow.{Bor}
 use Rattle.sd_line.specs.Form.{name_in, pieces_of, words_in}
@@ -52,6 +52,9 @@ text_line text = line_of ([], codes "{text}") (Text text ∷ [])
 
 abbrev pub with_head : PartOf → LineOf → LineOf
 with_head head l = record { kind = l.kind; parts = head ∷ l.parts }
+
+abbrev pub with_tail : PartOf → LineOf → LineOf
+with_tail tail l = record { kind = l.kind; parts = l.parts ++ tail ∷ [] }
 
 -- the line is of this kind
 abbrev pub is_of : List ℕ → LineOf → Bool

@@ -5,7 +5,7 @@ ghost use Rattle.std.specs.List.{list_any};
 ghost use Rattle.sd_acl.specs.Descriptor.{descriptor_of};
 ghost use Rattle.sd_line.specs.declared.line.Value.TheVariants as values;
 ghost use Rattle.sd_line.specs.Line.{form_of, is_of, line_of, line_with, part_of, part_says, parts_from, says};
-ghost use Rattle.sd_line.specs.Line.{text_line, value_says, with_head, word_part};
+ghost use Rattle.sd_line.specs.Line.{text_line, value_says, with_head, with_tail, word_part};
 
 use sd_acl::{Ace, Descriptor};
 use sd_sid::{Mask, Sid};
@@ -305,6 +305,19 @@ impl Line {
             first: Some(head),
             rest,
         })
+    }
+
+    /// The line with a part more behind it. The only error is out of memory.
+    pub fn with_tail(self, tail: Part) -> Result<Line, AllocError>
+        ensures { IfOk result (λ line. line ≡ with_tail tail self) }
+    {
+        let Line {
+            kind,
+            first,
+            mut rest,
+        } = self;
+        rest.push(tail)?;
+        Ok(Line { kind, first, rest })
     }
 
     /// Whether the line is of this kind.
