@@ -42,6 +42,9 @@ def _check_replaced(name: str) -> None:
 def _lines(joined: Joined) -> Iterator[str]:
     """The lines of the file, in an order that doesn't depend on that of the sources."""
     yield _HEAD
+    if joined.skipped or joined.unknown:
+        # (`sdstore` refuses such a file: a user may lack a group by which it is denied)
+        yield f"incomplete {joined.skipped} skipped, {joined.unknown} unknown"
     sids = {*joined.users, *joined.groups, *joined.primaries.values()}
     sids.update(sid for pair in joined.members for sid in pair)
     rank = {sid: number for number, sid in enumerate(sorted(sids, key=order_of))}

@@ -100,6 +100,8 @@ class Accounts(Case):
         self.rows = self.runs(status, "accounts", *words, *names, "out", says=says)
         head, *lines = (self.room / "out").read_text(encoding="utf-8").removesuffix("\n").split("\n")
         self.assertEqual(head, HEAD)
+        if self.rows:
+            self.assertRegex(lines.pop(0), r"^incomplete [0-9]+ skipped, [0-9]+ unknown$")
         return lines
 
     def refuses(self, *rows: tuple[str | bytes, str], others: tuple[str, ...] = ()) -> None:
