@@ -56,7 +56,7 @@ def _sum_up(arguments: argparse.Namespace, counts: Counts, table: Table) -> None
         f"{plural(counts.left_out, 'file')} left out",
         f"{counts.skipped:,} skipped",
         f"{counts.differing:,} differing",
-        f"{plural(counts.sacls, 'SACL')} dropped",
+        f"{plural(counts.sacls, 'SACL')} kept",
     ]
     if counts.unlisted:
         said.append(f"{plural(counts.unlisted, 'folder')} not listed")

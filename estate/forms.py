@@ -3,9 +3,10 @@ security.NTACL. The library judges each; what is done here is to find it, and to
 
 import enum
 import struct
-from dataclasses import dataclass
 
 from hudarin import OF_DACL, OF_GROUP, OF_OWNER, Descriptor, WholeDescriptor
+
+from others import Kept, kept_of, put_back
 
 #: The offsets of owner, group, SACL and DACL in a header, and where they begin.
 _OFFSETS, _OFFSETS_AT = struct.Struct("<4I"), 4
@@ -38,19 +39,9 @@ def _place_in_ntacl(blob: bytes) -> int:
     return (end + 1 + 3) // 4 * 4 + 8 + 64
 
 
-@dataclass(frozen=True, slots=True)
-class Kept:
-    """The descriptor of an attribute."""
-
-    #: In canonical SDDL, without a SACL.
-    text: str
-    has_sacl: bool
-
-
 def kept_in(attribute: Attribute, blob: bytes) -> Kept:
-    """The descriptor that the attribute holds. A ValueError says why there is none."""
-    descriptor, left_out = whole_in(attribute, blob).plain()
-    return Kept(str(descriptor), bool(left_out & 1))
+    """What is kept of the descriptor that the attribute holds. A ValueError says why there is none."""
+    return kept_of(whole_in(attribute, blob))
 
 
 def whole_in(attribute: Attribute, blob: bytes) -> WholeDescriptor:
@@ -60,12 +51,12 @@ def whole_in(attribute: Attribute, blob: bytes) -> WholeDescriptor:
 
 def replaced(attribute: Attribute, blob: bytes, before: str, after: str) -> bytes:
     """The attribute with the parts of the descriptor that differ between two texts, before and after a change. All else
-    stays, as the SACL and what Samba keeps beside the descriptor. The texts are canonical SDDL; a ValueError says why
-    the attribute has no descriptor."""
+    stays, as the SACL, entries of other types, and what Samba keeps beside the descriptor. The texts are canonical
+    SDDL; a ValueError says why the attribute has no descriptor, or can't have the new one."""
     place, has = attribute.place_in(blob), whole_in(attribute, blob)
-    kept_in(attribute, blob)
     old, new = (WholeDescriptor(Descriptor.from_sddl(text)) for text in (before, after))
     changed = sum(part for part in (OF_OWNER, OF_GROUP, OF_DACL) if old.with_parts(new, part) != old)
+    new = put_back(has, before, after) if changed & OF_DACL else new
     return blob[:place] + _counted_from(place, bytes(has.with_parts(new, changed)))
 
 

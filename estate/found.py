@@ -2,6 +2,7 @@
 
 from dataclasses import dataclass
 
+from others import Kept
 from paths import Path
 
 
@@ -12,9 +13,8 @@ class Found:
 
     path: Path
     is_container: bool
-    #: The descriptor in canonical SDDL, without a SACL; or None, and `why` says why there is none.
-    text: str | None
+    #: What is kept of its descriptor; or None, and `why` says why there is none.
+    kept: Kept | None
     why: str | None = None
-    has_sacl: bool = False
     #: Why what is in the folder couldn't be listed, or None.
     unlisted: str | None = None

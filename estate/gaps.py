@@ -23,6 +23,8 @@ class Gap:
     why: str = ""
     #: How many nodes are below, or how many files these are.
     count: int = 0
+    #: Of a node with entries of other types its owner, group and DACL, as others.py spells them.
+    whole: str = ""
 
     @property
     def cells(self) -> dict[str, Cell]:
@@ -34,8 +36,8 @@ class Gap:
 
     @property
     def comment(self) -> str:
-        """Its line in a script, in ASCII: the row."""
-        cells = (safe(str(cell)) for cell in self.cells.values())
+        """Its line in a script, in ASCII: the row, and what a write compares."""
+        cells = (safe(str(cell)) for cell in (*self.cells.values(), *filter(None, (self.whole,))))
         return "\t".join([f"# {self.what}", *cells]).encode("ascii", "backslashreplace").decode()
 
     @property
@@ -58,11 +60,12 @@ def gap_of(comment: str) -> Gap | None:
     columns = _COLUMNS.get(what)
     if columns is None or not cells:
         return None
+    whole = cells.pop() if what == "differs" and len(cells) == 3 else ""
     values = dict(zip(columns, cells[1:]))
     count = values.get("below", values.get("count", "0"))
     if len(cells) != len(columns) + 1 or not (count.isascii() and count.isdecimal()):
         raise ValueError(f"{what}: not a comment that estate read writes")
-    return Gap(what, names_in(cells[0]), values.get("why", ""), int(count))
+    return Gap(what, names_in(cells[0]), values.get("why", ""), int(count), whole)
 
 
 def count_in(comment: str) -> int | None:

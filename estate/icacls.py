@@ -3,6 +3,7 @@
 import re
 
 from errors import Stopped
+from others import put_back, whole_of
 from paths import spelled
 from script import Change, Script
 from sddl import parts_of
@@ -29,9 +30,17 @@ def write_icacls(script: Script, name: str, folder: str, is_old: bool, table: Ta
     with atomic_file(name) as file:
         for change in changes:
             path = "\\".join([folder, *(part.decode() for part in change.path)])
-            text = change.read if is_old else change.after
-            file.write(f"{path}\r\n{text[text.index('D:') :]}\r\n".encode("utf-16-le"))
+            file.write(f"{path}\r\n{_dacl(change, is_old)}\r\n".encode("utf-16-le"))
     return len(changes)
+
+
+def _dacl(change: Change, is_old: bool) -> str:
+    """The DACL before or after a change, with all its entries. A ValueError says why there is no text."""
+    text = change.read if is_old else change.after
+    if change.whole:
+        whole = whole_of(change.whole)
+        text = (whole if is_old else put_back(whole, change.before, change.after)).without_bits()[0]
+    return text[text.index("D:") :]
 
 
 def _why_not(script: Script, change: Change) -> str | None:
@@ -42,4 +51,10 @@ def _why_not(script: Script, change: Change) -> str | None:
         return "its path has a character that no name has on Windows"
     if change.is_passed_down and script.nodes[change.path].left_out:
         return "its files have no lines, and would keep their entries: read without --folders"
+    if change.dropped:
+        return "it would lose entries of other types that it inherited"
+    try:
+        _dacl(change, False)
+    except ValueError as error:
+        return f"it has entries of other types: {error}"
     return None

@@ -6,6 +6,7 @@ from dataclasses import dataclass, field
 from forms import kept_in, replaced
 from inheritance import Chain, Inheritance, TooMuch
 from journal import Step
+from others import FOR_CHILDREN, INHERITED, Kept, others_of
 from paths import Path, spelled
 from script import Change, Script, chain_of
 from sddl import Parts, parts_of
@@ -36,6 +37,8 @@ class Plan:
     left: int = 0
     _inheritance: Inheritance = field(default_factory=Inheritance)
     _inodes: dict[int, Step] = field(default_factory=dict)
+    #: Folders that lose entries of other types which are for children too.
+    _closed: set[Path] = field(default_factory=set)
 
     def make(self) -> None:
         for change in self.script.changes():
@@ -47,39 +50,64 @@ class Plan:
                 self._stop(change.path, f"its descriptor isn't supported: {error}")
             if change.is_container and change.is_passed_down:
                 self._plan_files_in(change)
+        self._leave_inherited()
 
     def _plan(self, change: Change) -> None:
         with self.volume.node(change.path) as node:
             blob, inode = node.read(), node.inode
-        has = parts_of(kept_in(self.volume.attribute, blob).text)
-        read, before, after = (parts_of(text) for text in (change.read, change.before, change.after))
-        if change.path:
-            is_as_read = has.text == read.text
-        else:
-            is_as_read = has.as_root.own == read.own
-            if has.inherited and change.is_of_dacl and not after.is_protected:
-                self._stop(
-                    (), "it inherits from a folder that the script doesn't have: protect it, or read that folder"
-                )
-                return
-            has = has.as_root
-        if not is_as_read:
-            self._stop(change.path, "its descriptor isn't the one that was read: read it again")
-        elif change.is_of_dacl and has.dacl != before.dacl and not self.leave.replaces_differing:
-            self._stop(change.path, "it differed from the tree when it was read: --replace-differing replaces its list")
-        else:
-            if has.dacl != before.dacl:
-                self._say_other(change, has)
-            self._add(
-                Step(change.path, blob, replaced(self.volume.attribute, blob, change.before, change.after)), inode
-            )
+        kept = kept_in(self.volume.attribute, blob)
+        has = parts_of(kept.text) if change.path else parts_of(kept.text).as_root
+        why = self._why_not(change, kept, has)
+        if why is not None:
+            self._stop(change.path, why)
+            return
+        new = replaced(self.volume.attribute, blob, change.before, change.after)
+        if _differs(change, has):
+            self._say_other(change, has, new)
+        self._add(Step(change.path, blob, new), inode)
 
-    def _say_other(self, change: Change, has: Parts) -> None:
+    def _why_not(self, change: Change, kept: Kept, has: Parts) -> str | None:
+        """Why the node can't be written safely, or None."""
+        read, after = parts_of(change.read), parts_of(change.after)
+        if not change.path and _inherited(kept) and change.is_of_dacl and not after.is_protected:
+            return "it inherits from a folder that the script doesn't have: protect it, or read that folder"
+        is_as_read = has.text == read.text if change.path else has.own == read.own
+        if not is_as_read or kept.whole != change.whole:
+            return "its descriptor isn't the one that was read: read it again"
+        if change.is_of_dacl and _differs(change, has) and not self.leave.replaces_differing:
+            return "it differed from the tree when it was read: --replace-differing replaces its list"
+        return None
+
+    def _say_other(self, change: Change, has: Parts, new: bytes) -> None:
         """A row for a node whose list isn't the tree's, so that a review of the script isn't about what is lost."""
-        if change.is_of_dacl:
-            self.table.row("replaced", {"path": spelled(change.path), "has": has.text, "gets": change.after})
-        else:
+        if not change.is_of_dacl:
             self._leave(change.path, "its list isn't the tree's, and the script changes its owner or group", False)
+            return
+        path = spelled(change.path)
+        gets = kept_in(self.volume.attribute, new).whole or change.after
+        self.table.row("replaced", {"path": path, "has": change.whole or has.text, "gets": gets})
+        if change.dropped:
+            entries = "".join(each.text or f"0x{bytes(each).hex()}" for each in change.dropped)
+            self.table.row("dropped", {"path": path, "entries": entries})
+        if any(each.flags & FOR_CHILDREN for each in change.dropped):
+            self._closed.add(change.path)
+
+    def _leave_inherited(self) -> None:
+        """A row for each node that keeps entries of other types which its folder loses."""
+        for path, node in self.script.nodes.items() if self._closed else ():
+            if any(each.flags & INHERITED for each in others_of(node.whole)):
+                above = self._closed_above(path)
+                if above is not None:
+                    why = f"it keeps entries of other types that it inherited, and that {spelled(above)} loses"
+                    self._leave(path, why, False)
+
+    def _closed_above(self, path: Path) -> Path | None:
+        """The folder above the node from which it inherits what that loses, or None."""
+        while path and parts_of(self.script.descriptor(path)).inherits:
+            path = path[:-1]
+            if path in self._closed:
+                return path
+        return None
 
     def _add(self, step: Step, inode: int) -> None:
         other = self._inodes.setdefault(inode, step)
@@ -115,7 +143,8 @@ class Plan:
         try:
             with self.volume.node(path) as node:
                 blob, inode = node.read(), node.inode
-            has = parts_of(kept_in(self.volume.attribute, blob).text)
+            kept = kept_in(self.volume.attribute, blob)
+            has = parts_of(kept.text)
             before = self._inheritance.child(chains[0], folder.before, has.own, False)
             after = self._inheritance.child(chains[1], folder.after, has.own, False)
         except OSError as error:
@@ -125,7 +154,7 @@ class Plan:
         except TooMuch as refused:
             self._leave(path, f"the tree refuses it: {refused}", True)
         else:
-            if has.has_no_own and has.dacl == parts_of(before).dacl:
+            if not kept.whole and has.has_no_own and has.dacl == parts_of(before).dacl:
                 self._add(Step(path, blob, replaced(self.volume.attribute, blob, before, after)), inode)
             else:
                 self._leave(path, "it has no line in the script, and not just what its folder passes down", True)
@@ -140,3 +169,13 @@ class Plan:
     def _stop(self, path: Path, why: str) -> None:
         self.stops += 1
         self.table.row("stop", {"path": spelled(path), "why": why})
+
+
+def _inherited(kept: Kept) -> bool:
+    """Whether some entry is inherited."""
+    return bool(parts_of(kept.text).inherited) or any(each.flags & INHERITED for each in others_of(kept.whole))
+
+
+def _differs(change: Change, has: Parts) -> bool:
+    """Whether the node has another DACL than the tree before the change."""
+    return bool(change.whole) or has.dacl != parts_of(change.before).dacl

@@ -8,6 +8,7 @@ from errors import Invalid
 from found import Found
 from gaps import Gap, end_of
 from inheritance import Chain, Inheritance, TooMuch
+from others import Kept
 from paths import MAX_NODES, Path, fault_of, spelled
 from progress import Progress
 from sddl import Parts, parts_of
@@ -71,7 +72,7 @@ class Reading:
         for found in source:
             progress.step()
             self.counts.nodes += 1
-            self.counts.sacls += found.has_sacl
+            self.counts.sacls += found.kept is not None and found.kept.has_sacl
             if not self._is_hidden(found.path):
                 self._leave(found.path)
                 self._visit(found)
@@ -92,59 +93,60 @@ class Reading:
         if found.unlisted is not None:
             self.counts.unlisted += 1
             self._say(Gap("unlisted", found.path, found.unlisted))
-        why = found.why or fault_of(found.path)
-        if found.text is None or why is not None:
+        kept, why = found.kept, found.why or fault_of(found.path)
+        if kept is None or why is not None:
             self._skip(found, why or "")
             return
         try:
-            parts = parts_of(found.text)
+            parts = parts_of(kept.text)
         except ValueError as error:
             self._skip(found, f"its descriptor isn't supported: {error}")
             return
         if found.path:
-            self._import(found, parts)
+            self._import(found, kept, parts)
         else:
-            self._open(parts)
+            self._open(kept, parts)
 
-    def _open(self, parts: Parts) -> None:
+    def _open(self, kept: Kept, parts: Parts) -> None:
         given = parts.as_root.own
         text = self._inheritance.root(given)
         self._above.append(_Folder((), (given,), text))
-        self._compare((), parts.as_root, parts_of(text))
         self._write_node(f"open 1 {given}")
+        self._compare((), kept, parts.as_root, parts_of(text))
 
-    def _import(self, found: Found, parts: Parts) -> None:
+    def _import(self, found: Found, kept: Kept, parts: Parts) -> None:
         above = self._above[-1]
         try:
             text = self._inheritance.child(above.chain, above.text, parts.own, found.is_container)
         except TooMuch as refused:
             self._skip(found, f"the tree refuses it: {refused}")
             return
-        if self.folders_only and not found.is_container and self._is_passed_down(parts, text):
+        if self.folders_only and not found.is_container and self._is_passed_down(kept, parts, text):
             above.files += 1
             self.counts.left_out += 1
             return
-        self._compare(found.path, parts, parts_of(text))
         kind = "container" if found.is_container else "object"
         self._write_node(f"import {kind} {spelled(found.path)} {parts.text}")
+        self._compare(found.path, kept, parts, parts_of(text))
         if found.is_container:
             self._above.append(_Folder(found.path, (*above.chain, parts.own), text))
 
-    def _is_passed_down(self, parts: Parts, tree: str) -> bool:
-        return parts.has_no_own and parts.dacl == parts_of(tree).dacl
+    def _is_passed_down(self, kept: Kept, parts: Parts, tree: str) -> bool:
+        return not kept.whole and parts.has_no_own and parts.dacl == parts_of(tree).dacl
 
-    def _compare(self, path: Path, source: Parts, tree: Parts) -> None:
+    def _compare(self, path: Path, kept: Kept, source: Parts, tree: Parts) -> None:
         """A row, if the tree has another DACL for the node than the source."""
-        why = None
+        whys = [f"entries of other types are kept beside the tree: {kept.first}"] if kept.whole else []
         if source.is_absent:
-            why = "it has no DACL, which grants everything: so does the null one of the script"
+            whys.append("it has no DACL, which grants everything: so does the null one of the script")
         elif source.inherited != tree.inherited:
-            why = "it inherits otherwise than its folder passes down"
+            whys.append("it inherits otherwise than its folder passes down")
         elif source.dacl != tree.dacl:
-            why = "its own entries are in another order: the script has denies first"
-        if why is not None:
+            whys.append("its own entries are in another order: the script has denies first")
+        if whys:
             self.counts.differing += 1
-            self._say(Gap("differs", path, why), {"source": source.text, "tree": tree.text})
+            gap = Gap("differs", path, "; ".join(whys), whole=kept.whole)
+            self._say(gap, {"source": kept.whole or source.text, "tree": tree.text})
 
     # Nodes without a line
 

@@ -3,11 +3,12 @@
 from collections.abc import Callable, Iterator
 from dataclasses import dataclass, field
 
-from hudarin import Descriptor, Refused, Sid, Store, View
+from hudarin import Descriptor, Refused, Sid, Store, View, WholeEntry
 
 from errors import Failed, Invalid
 from gaps import UNKNOWN, Gap, count_in, gap_of
 from inheritance import Chain
+from others import FOR_CHILDREN, INHERITED, others_of, whole_of
 from paths import Path, parsed, spelled
 from sddl import parts_of
 
@@ -26,6 +27,8 @@ class Node:
     text: str
     #: How many files that inherit all have no line, by --folders.
     left_out: int = 0
+    #: If the source has entries of other types: owner, group and DACL, as others.py spells them.
+    whole: str = ""
 
 
 @dataclass(slots=True)
@@ -34,8 +37,9 @@ class Change:
 
     path: Path
     is_container: bool
-    #: What the script read.
+    #: What the script read, and the same with entries of other types if there are any.
     read: str
+    whole: str
     #: The tree's descriptors, in canonical SDDL.
     before: str
     after: str
@@ -48,6 +52,12 @@ class Change:
     def is_passed_down(self) -> bool:
         """Whether what is in the folder may change too."""
         return parts_of(self.before).for_children != parts_of(self.after).for_children
+
+    @property
+    def dropped(self) -> list[WholeEntry]:
+        """The entries of other types that the node had inherited and loses: all of one that no longer inherits."""
+        is_closed = parts_of(self.before).inherits and not parts_of(self.after).inherits
+        return [each for each in others_of(self.whole) if is_closed and each.flags & INHERITED]
 
 
 @dataclass(slots=True)
@@ -92,7 +102,7 @@ class Script:
             before, after = self.before.descriptor(at), self.after.descriptor(at)
             if before != after:
                 node = self.nodes[path]
-                yield Change(path, node.is_container, node.text, str(before), str(after))
+                yield Change(path, node.is_container, node.text, node.whole, str(before), str(after))
 
     # What the source has otherwise
 
@@ -156,6 +166,9 @@ class Script:
             self.gaps.append(gap)
             if gap.what == "files" and gap.path in self.nodes:
                 self.nodes[gap.path].left_out = gap.count
+            if gap.whole and gap.path in self.nodes:
+                whole_of(gap.whole)
+                self.nodes[gap.path].whole = gap.whole
 
     def _open(self, command: str, words: list[str]) -> None:
         if command != "open" or len(words) != 2:
@@ -203,8 +216,20 @@ class Script:
             raise ValueError("it ends before 'publish': it isn't complete")
         if len(self._store) != len(self.after):
             raise ValueError("changes after the last 'publish' aren't published")
+        if any(node.whole for node in self.nodes.values()):
+            for change in self.changes():
+                self._require_others(change)
         if self._gap_count != len(self.gaps):
             self.gaps.append(UNKNOWN)
+
+    def _require_others(self, change: Change) -> None:
+        """Raises a ValueError if the node can't have the entries of other types beside the tree that it would have."""
+        before, after = parts_of(change.before), parts_of(change.after)
+        above = self.nodes[change.path[:-1]].whole if change.path else ""
+        if change.whole and after.entries is None:
+            raise ValueError(f"{spelled(change.path)}: it has entries of other types, and a null DACL has none")
+        if after.inherits and not before.inherits and any(each.flags & FOR_CHILDREN for each in others_of(above)):
+            raise ValueError(f"{spelled(change.path)}: it would inherit entries of other types, and no write adds some")
 
 
 def plain(path: Path) -> str:

@@ -77,9 +77,14 @@ class Parts:
         return tuple(each for each in self.entries or () if each.is_for_children)
 
     @property
+    def inherits(self) -> bool:
+        """Whether it has what its folder passes down."""
+        return self.entries is not None and not self.is_protected
+
+    @property
     def has_no_own(self) -> bool:
         """Whether all that it has is inherited."""
-        return self.entries is not None and not self.is_protected and all(each.is_inherited for each in self.entries)
+        return self.inherits and all(each.is_inherited for each in self.entries or ())
 
     def _with(self, entries: list[Entry] | tuple[Entry, ...] | None, in_order: bool = False) -> str:
         owners = f"O:{self.owner}G:{self.group}"
@@ -107,17 +112,3 @@ def _entries_of(text: str) -> tuple[Entry, ...]:
         Entry(kind, tuple(flags[at : at + 2] for at in range(0, len(flags), 2)), rest)
         for kind, flags, rest in _ENTRY.findall(text)
     )
-
-
-_SECTIONS = re.compile(r"(?:O:([^:]*?))?(?:G:([^:]*?))?(D:.*)?")
-
-
-def completed(text: str, owner: str | None, group: str | None) -> str:
-    """A canonical text with this owner and group where it has none, or a ValueError if one is missing still."""
-    found = _SECTIONS.fullmatch(text)
-    has_owner, has_group, dacl = found.groups() if found else (None, None, None)
-    owner, group = has_owner or owner, has_group or group
-    if owner is None or group is None:
-        option = "--owner" if owner is None else "--group"
-        raise ValueError(f"it lacks an owner or a group, which {option} gives")
-    return f"O:{owner}G:{group}{dacl or ''}"

@@ -9,8 +9,9 @@ from dataclasses import dataclass
 
 import attributes
 from errors import Failed, Invalid
-from forms import Attribute, Kept, kept_in
+from forms import Attribute, kept_in
 from found import Found
+from others import Kept
 from paths import MAX_NAMES, Path, spelled
 
 _FOLDER = os.O_RDONLY | os.O_DIRECTORY | os.O_NOFOLLOW | os.O_CLOEXEC
@@ -88,7 +89,7 @@ class Volume:
             if root is None:
                 yield self._found((), True, lambda: self._read(self._root, b"."), unlisted)
             else:
-                yield Found((), True, root, None, False, unlisted)
+                yield Found((), True, Kept(root), None, unlisted)
             while levels:
                 level = levels[-1]
                 name, kind = next(level.names, (b"", ""))
@@ -139,16 +140,16 @@ class Volume:
             kept = self._kept(read())
         except OSError as error:
             self._is_alive(path, error)
-            return Found(path, is_container, None, f"its descriptor can't be read: {text_of(error)}", False, unlisted)
+            return Found(path, is_container, None, f"its descriptor can't be read: {text_of(error)}", unlisted)
         if isinstance(kept, str):
-            return Found(path, is_container, None, kept, False, unlisted)
-        return Found(path, is_container, kept.text, None, kept.has_sacl, unlisted)
+            return Found(path, is_container, None, kept, unlisted)
+        return Found(path, is_container, kept, None, unlisted)
 
     def _read(self, folder: int, name: bytes) -> bytes:
         return attributes.read(attributes.in_folder(folder, name), self.attribute.value)
 
     def _kept(self, blob: bytes) -> Kept | str:
-        """The descriptor that the attribute holds, or why it is skipped."""
+        """What is kept of the descriptor that the attribute holds, or why it is skipped."""
         kept = self._answers.get(blob)
         if kept is None:
             try:

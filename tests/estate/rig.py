@@ -63,9 +63,10 @@ def acl_bytes(entries: list[bytes], revision: int = 2) -> bytes:
     return struct.pack("<BBHHH", revision, 0, 8 + len(body), len(entries), 0) + body
 
 
-#: An audit entry for Everyone, and an object entry, which the library doesn't support.
+#: An audit entry for Everyone, an object entry, which no tree has, and an allow of a SID that is none.
 AUDIT = acl_bytes([struct.pack("<BBHI", 2, 0xC0, 20, 0x1F01FF) + sid_bytes((1, (0,)))])
 OBJECT_ENTRY = struct.pack("<BBHII", 5, 0, 24, 1, 0) + sid_bytes((1, (0,)))
+NO_SID_ENTRY = struct.pack("<BBHI", 0, 0, 16, 1) + sid_bytes((1, ()))
 
 
 def form(owner: bytes, group: bytes, dacl: bytes | None, control: int, sacl: bytes = b"") -> bytes:
@@ -90,7 +91,7 @@ def node_form(tree: Tree, path: Names, sacl: bytes = b"", extra: int = 0) -> byt
 
 
 def read_form(blob: bytes) -> tuple[str, bytes]:
-    """The canonical text of a form without unsupported entries, and its SACL, by this module alone."""
+    """The canonical text of a form without entries of other types, and its SACL, by this module alone."""
     _, _, control, owner, group, sacl, dacl = struct.unpack_from("<BBHIIII", blob)
     size = struct.unpack_from("<H", blob, sacl + 2)[0] if sacl else 0
     if not control & PRESENT:
@@ -98,16 +99,30 @@ def read_form(blob: bytes) -> tuple[str, bytes]:
     elif not dacl:
         text = "D:NO_ACCESS_CONTROL"
     else:
-        text = f"D:{'P' if control & PROTECTED else ''}" + "".join(map(second.entry_text, entries_in(blob, dacl)))
+        text = f"D:{'P' if control & PROTECTED else ''}" + "".join(map(second.entry_text, entries_in(blob)))
     return f"O:{sid_text(blob, owner)}G:{sid_text(blob, group)}{text}", blob[sacl : sacl + size]
 
 
-def entries_in(blob: bytes, at: int) -> list[Entry]:
-    entries, (count,) = [], struct.unpack_from("<H", blob, at + 4)
+def entries_in(blob: bytes) -> list[Entry]:
+    """The allows and denies of a form's DACL."""
+    plain = [entry for entry in raw_entries(blob) if entry[0] < 2]
+    heads = [struct.unpack_from("<BBHI", entry) for entry in plain]
+    return [Entry("AD"[kind], flags, mask, sid_in(entry, 8)) for entry, (kind, flags, _, mask) in zip(plain, heads)]
+
+
+def others_in(blob: bytes) -> list[bytes]:
+    """The entries of other types of a form's DACL."""
+    return [entry for entry in raw_entries(blob) if entry[0] > 1]
+
+
+def raw_entries(blob: bytes) -> list[bytes]:
+    """The entries of a form's DACL, each as it is; none if it is null or absent."""
+    entries, (at,) = [], struct.unpack_from("<I", blob, 16)
+    (count,) = struct.unpack_from("<H", blob, at + 4) if at else (0,)
     at += 8
     for _ in range(count):
-        kind, flags, size, mask = struct.unpack_from("<BBHI", blob, at)
-        entries.append(Entry("AD"[kind], flags, mask, sid_in(blob, at + 8)))
+        (size,) = struct.unpack_from("<H", blob, at + 2)
+        entries.append(blob[at : at + size])
         at += size
     return entries
 

@@ -127,7 +127,7 @@ class Writes(Volumes):
         made = self.plant(80)
         os.mkdir(self.volume.at(("odd\n",)))
         os.mkdir(self.volume.at(("odd\n", "below")))
-        blob = next(made.forms[path] for path, kind in made.kinds.items() if kind == "object entry")
+        blob = next(made.forms[path] for path, kind in made.kinds.items() if kind == "no SID")
         self.volume.put(("odd\n",), blob)
         _, table = self.read("script")
         self.assertEqual((table["/odd%0A"][0], table["/odd%0A"][3]), ("skipped", "1"))

@@ -64,11 +64,14 @@ class Replaced(unittest.TestCase):
         self.assertEqual(control_of(self.replaced(TEXT)), control_of(self.blob))
 
     def test_a_list_that_is_not_plain(self) -> None:
-        """The refusal names the first entry that isn't."""
-        condition = entry_bytes(Entry("A", 0, 0x1, EVERYONE)), struct.pack("<BBHI", 9, 0, 20, 1) + sid_bytes(EVERYONE)
-        blob = form(OWNER, GROUP, acl_bytes(list(condition)), PRESENT)
-        with self.assertRaisesRegex(ValueError, "DACL not plain 2 ConditionalAce at 1"):
-            forms.kept_in(forms.Attribute.NTFS, blob)
+        """It is kept without the other entries, of which the first is named, and whole: here it has no text."""
+        entries = entry_bytes(Entry("A", 0, 0x1, EVERYONE)), struct.pack("<BBHI", 9, 0, 20, 1) + sid_bytes(EVERYONE)
+        blob = form(OWNER, GROUP, acl_bytes(list(entries)), PRESENT, SACL)
+        kept = forms.kept_in(forms.Attribute.NTFS, blob)
+        self.assertEqual((kept.text, kept.has_sacl), ("O:SYG:BAD:(A;;0x1;;;WD)", True))
+        self.assertEqual(kept.first, "DACL not plain 2 ConditionalAce at 1")
+        head = struct.pack("<BBHIIII", 1, 0, 0x8000 | PRESENT, 20, 20 + len(OWNER), 0, 20 + len(OWNER + GROUP))
+        self.assertEqual(kept.whole, f"0x{(head + OWNER + GROUP + acl_bytes(list(entries))).hex()}")
 
 
 if __name__ == "__main__":

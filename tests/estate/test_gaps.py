@@ -8,7 +8,8 @@ import struct
 from collections.abc import Callable
 from pathlib import Path
 
-from rig import AI, PRESENT, PROTECTED, Case, Names, acl_bytes, entry_bytes, form, needs_program, sid_bytes
+from rig import AI, NO_SID_ENTRY, PRESENT, PROTECTED, Case, Names
+from rig import acl_bytes, entry_bytes, form, needs_program, sid_bytes
 from test_texts import CHILD, FILE, ROOT, csv_of
 from test_volumes import Volumes
 from trees import BA, FULL, SY, WD, allow
@@ -16,13 +17,14 @@ from second import ID
 
 USER = "S-1-5-21-1-2-3-1001"
 EVERYONE = "O:BAG:SYD:AI(A;ID;FA;;;WD)"
-CONDITIONAL = "O:BAG:SYD:(XA;;FA;;;WD;(@User.a==1))"
-#: A file that was moved here, one that is supported by no tree, and one in a folder that no line has.
+#: An alias of a domain, which isn't known.
+UNKNOWN = "O:BAG:SYD:(A;;FA;;;DA)"
+#: A file that was moved here, a folder whose descriptor isn't supported, and a file in it.
 ROWS = (
     ("C:\\s", ROOT),
     ("C:\\s\\a", CHILD),
     ("C:\\s\\a\\moved", EVERYONE),
-    ("C:\\s\\b", CONDITIONAL),
+    ("C:\\s\\b", UNKNOWN),
     ("C:\\s\\b\\c", FILE),
     ("C:\\s\\d", FILE),
 )
@@ -35,7 +37,7 @@ class Sources(Case):
     def read(self, *rows: tuple[str, str], words: tuple[str, ...] = ()) -> str:
         """The script of a CSV."""
         self.write("source", csv_of(*rows))
-        self.runs(1 if CONDITIONAL in dict(rows).values() else 0, "read", *words, "source", "script")
+        self.runs(1 if UNKNOWN in dict(rows).values() else 0, "read", *words, "source", "script")
         return (self.room / "script").read_text()
 
 
@@ -197,12 +199,11 @@ class Folders(Case):
 @needs_program
 class Ntfs(Volumes):
     def test_a_volume(self) -> None:
-        """A file that was moved with Everyone's entry, and nodes below a folder that no tree has."""
+        """A file that was moved with Everyone's entry, and nodes below a folder whose descriptor isn't supported."""
         folder = self.volume.folder
         plant(self.volume.put, folder)
         (folder / "none" / "below").touch()
-        odd = entry_bytes(allow(WD, FULL)).replace(b"\0", b"\5", 1)
-        self.volume.put(("none",), blob_of(0, odd))
+        self.volume.put(("none",), blob_of(0, NO_SID_ENTRY))
         self.read("script")
         rows = self.runs(4, "find", "script", "/", USER, "0x2", says="2 nodes that couldn't be read")
         self.assertEqual(rows[:3], [ASSUMED, "found\t/null", MOVED.replace("/a/moved", "/moved")])

@@ -68,7 +68,7 @@ class Samba(Case):
         """What Samba wrote is read; what is written Samba reads, with the hashes that were beside it."""
         made = planted(600, seed=2)
         # (ext4 keeps no longer attribute than a block, and Samba's module writes no object entry without its GUID)
-        odd = {path for path, kind in made.kinds.items() if kind in ("long", "object entry")}
+        odd = {path for path, kind in made.kinds.items() if kind in ("long", "object entry", "no SID")}
         made.tree.nodes = {path: node for path, node in made.tree.nodes.items() if path not in odd}
         self.fill(made)
         paths = sorted(made.tree.nodes)
@@ -107,7 +107,7 @@ class Samba(Case):
     def test_attributes_that_are_invalid(self) -> None:
         """Each cut, and each change of the first bytes, is read or named; none ends the run."""
         made = planted(60, seed=3)
-        paths = [path for path in sorted(made.tree.nodes) if made.kinds[path] not in ("long", "object entry")]
+        paths = [path for path in sorted(made.tree.nodes) if made.kinds[path] not in ("long", "object entry", "no SID")]
         made.tree.nodes = {path: made.tree.nodes[path] for path in paths}
         self.fill(made)
         blob = os.getxattr(self.share, "security.NTACL")

@@ -102,17 +102,19 @@ class Texts(Case):
         self.assertIn("import object /d ", self.script(status=1, says="2 skipped"))
         self.assertEqual(self.rows, ["skipped\t/a/b\tno line has its folder\t1"])
 
-    def test_entries_that_are_not_supported(self) -> None:
-        """A node is skipped with what is below it; a SACL is dropped."""
-        conditional = "O:BAG:SYD:(XA;;FA;;;WD;(@User.a==1))"
+    def test_entries_of_other_types(self) -> None:
+        """A node has a line without them, and a row with them; so has a file in it that inherited none of them."""
+        conditional = "O:BAG:SYD:AI(XA;CI;FX;;;WD;(a))(A;OICIID;FA;;;BA)"
         audited = FILE + "S:AI(AU;SAFA;FA;;;WD)"
         rows = (("C:\\s", ROOT), ("C:\\s\\a", conditional), ("C:\\s\\a\\b", FILE), ("C:\\s\\c", audited))
         self.write("source", csv_of(*rows))
-        script = self.script(status=1, says="2 skipped, 0 differing, 1 SACL dropped")
-        self.assertNotIn("/a", script)
+        script = self.script(says="4 lines of nodes, 0 files left out, 0 skipped, 1 differing, 1 SACL kept")
+        plain = "O:BAG:SYD:(A;OICIID;FA;;;BA)"
+        self.assertIn(f"import container /a {plain}\nimport object /a/b O:BAG:SYD:(A;ID;FA;;;BA)\n", script)
         self.assertIn("import object /c O:BAG:SYD:(A;ID;FA;;;BA)\n", script)
-        why = "its descriptor isn't supported: DACL not plain 2 ConditionalAce at 0"
-        self.assertEqual(self.rows[0], f"skipped\t/a\t{why}\t1")
+        why = "entries of other types are kept beside the tree: DACL not plain 2 ConditionalAce at 0"
+        self.assertEqual(self.rows, [f"differs\t/a\t{why}\t{conditional}\t{plain}"])
+        self.assertIn(f"# differs\t/a\t{why}\t{conditional}\n", (self.room / "script").read_text())
 
     def test_a_null_list_with_flags(self) -> None:
         """AI, AR and P of it are dropped, and what is below it is read too."""

@@ -8,6 +8,7 @@ from rig import (
     AI,
     AUDIT,
     MANAGER,
+    NO_SID_ENTRY,
     OBJECT_ENTRY,
     PRESENT,
     PROTECTED,
@@ -128,9 +129,10 @@ def _plant_odd(made: Planted, dice: random.Random) -> None:
             (True, [order[1], order[0]]),
             _form([entry_bytes(each) for each in order], PROTECTED),
         ),
-        ("object entry", "skipped", None, _form([OBJECT_ENTRY], 0)),
+        ("object entry", "differs", (False, []), _form([OBJECT_ENTRY], 0)),
+        ("no SID", "skipped", None, _form([NO_SID_ENTRY], 0)),
     )
-    for path, (kind, said, dacl, blob) in zip(dice.sample(files, 40), odd * 10):
+    for path, (kind, said, dacl, blob) in zip(dice.sample(files, 40), odd * 8):
         made.kinds[path], made.said[path], made.forms[path] = kind, said, blob
         made.tree.nodes[path] = Node(False, USERS[0], BU, dacl)
 
