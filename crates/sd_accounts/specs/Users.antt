@@ -35,11 +35,11 @@ user_after last (Member group member) = None
 user_after last (Primary user group) = None
 user_after last (Disabled user) = None
 
--- a lent user with its name, as what it is
+-- a borrowed user with its name, as what it is
 abbrev pub lent_user : Bor SidValue × Bor (List ℕ) → SidValue × List ℕ
 lent_user user = (user.0.now, user.1.now)
 
--- users with lent names, as what they are
+-- users with borrowed names, as what they are
 abbrev pub named_user : SidValue × Bor (List ℕ) → SidValue × List ℕ
 named_user user = (user.0, user.1.now)
 

@@ -16,6 +16,7 @@ use Rattle.sd_usage.specs.declared.row.DescriptorCommand.TheVariants.{Why}
 use Rattle.sd_usage.specs.declared.row.TextCommand.TheVariants.{Descriptor}
 use Rattle.sd_commands.specs.Answer.{AnswerValue, IsAnswer}
 use Rattle.sd_commands.specs.CommandAnswer.{AnswersQuestion}
+use Rattle.sd_commands.specs.Escaped.{escaped}
 use Rattle.sd_commands.specs.Logon.{words_for}
 use Rattle.sd_commands.specs.declared.command_answer.Outcome.TheVariants.{Done, Refused, Fault}
 use Rattle.sd_commands.specs.declared.settings.Settings.{Settings}
@@ -27,10 +28,10 @@ User = SidValue × List ℕ
 
 -- ---- lines
 
--- the line of what is granted, and after it to whom
+-- the line of what is granted, and after it to whom, with what a name hides shown by its number
 abbrev pub granted_to : User → LineOf → Option LineOf
 granted_to user l = if is_of (codes "granted") l
-    then Some (with_tail (part_of PERSON.now (values.Sid user.0 ∷ values.Text user.1 ∷ [])) l) else None
+    then Some (with_tail (part_of PERSON.now (values.Sid user.0 ∷ values.Text (escaped user.1) ∷ [])) l) else None
 
 -- of the lines of `why`, of which the first is the verdict's, those of what is granted
 abbrev pub lines_to : User → List LineOf → List LineOf

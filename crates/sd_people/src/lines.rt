@@ -4,6 +4,7 @@ ghost use Rattle.sd_people.specs.People.{granted_to, leaves_out, lines_to};
 
 use crate::forms::PERSON;
 use sd_answer::LABEL_ALONE;
+use sd_commands::escaped_word;
 use sd_line::{Line, Part, Value};
 use sd_sid::Sid;
 use std::alloc::{AllocError, Global};
@@ -41,7 +42,8 @@ fn granted_to(alloc: Global, user: &Sid, name: &str, line: Line) -> Result<Optio
     if !line.is_of("granted") {
         return Ok(None);
     }
-    let name = Value::text(String::from_str(alloc, name)?);
+    // (a name is from outside: it neither writes a line of its own nor reaches a terminal)
+    let name = Value::text(escaped_word(alloc, name)?);
     let values = vec![in alloc; Value::Sid(*user), name]?;
     Ok(Some(line.with_tail(Part::new(PERSON, values))?))
 }

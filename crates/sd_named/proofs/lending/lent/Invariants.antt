@@ -1,4 +1,4 @@
--- What is lent so far are the texts of the words so far.
+-- What is borrowed so far are the texts of the words so far.
 use Rattle.std.proofs.Common.{◌≡◌, map, string_bytes, take}
 use Rattle.sd_answer.specs.Word.{texts}
 use Rattle.sd_named.proofs.lending.lent.Given as goal
