@@ -67,7 +67,7 @@ typedef enum hudarin_status {
     HUDARIN_UTF8 = 3,
     /* A text is invalid: the fault is HUDARIN_TEXT_.., at the byte offset `place`. */
     HUDARIN_TEXT = 4,
-    /* Bytes hold no descriptor: the fault is HUDARIN_WIRE_... */
+    /* Bytes hold no descriptor, or no entries: the fault is HUDARIN_WIRE_... */
     HUDARIN_WIRE = 5,
     /* Bytes don't start with a SID: the fault is HUDARIN_SID_... Of groups and restricting SIDs `place` is the index.
      */
@@ -783,6 +783,15 @@ HUDARIN_ANSWERS hudarin_trimmed hudarin_whole_plain(const void *bytes, size_t by
 HUDARIN_ANSWERS hudarin_written hudarin_whole_with_parts(const void *bytes, size_t bytes_length, const void *other,
                                                          size_t other_length, uint32_t parts, void *room,
                                                          size_t room_length);
+
+/* The one self-relative form of the whole descriptor at the front of `bytes`, with a list, HUDARIN_LIST_.., of the
+ * AclRevision `revision`, 2 or 4, and of just the entries in `entries`, which stand there one after the other as in a
+ * list. It takes the place of what was there, a list or none; all else stays. With HUDARIN_WIRE the fault is that of
+ * `bytes` or of an entry, HUDARIN_WIRE_ACL_REVISION for another revision, or HUDARIN_WIRE_ACL_SIZE where the list would
+ * have more than 65,535 bytes. HUDARIN_NO_PART if there is no such list. */
+HUDARIN_ANSWERS hudarin_written hudarin_whole_with_entries(const void *bytes, size_t bytes_length, uint32_t list,
+                                                           uint32_t revision, const void *entries,
+                                                           size_t entries_length, void *room, size_t room_length);
 
 /* The SID of the owner, HUDARIN_PART_OWNER, or of the group, HUDARIN_PART_GROUP, of the whole descriptor at the front of
  * the bytes. */

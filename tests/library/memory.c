@@ -7,7 +7,7 @@
 
 /* The three before CHECK keep lines; it and those after it check, or keep something by which a check is made. */
 enum call {
-    TO_BYTES, TO_SDDL, CANONICAL, LENGTH, WHOLE_BYTES, WHOLE_TEXT, WHOLE_AT, PLAIN, JOINED, TRUSTEE, ACE, SID_BYTES, SID_TEXT,
+    TO_BYTES, TO_SDDL, CANONICAL, LENGTH, WHOLE_BYTES, WHOLE_TEXT, WHOLE_AT, PLAIN, JOINED, LISTED, TRUSTEE, ACE, SID_BYTES, SID_TEXT,
     FULL_TEXT, MASK_TEXT, OWNER, ENTRY, SUBJECT, LINE, OBJECT, VALUE, WHO, LINT, COMPARE, CHECK, CHECK_WHOLE, KEEP_SDDL, KEEP_BYTES, KEEP_TOKEN,
     KEEP_CLIENT, SHARE
 };
@@ -70,6 +70,7 @@ static const row rows[] = {
     { WHOLE_AT, row_1, row_1, 76, 0, 0 },
     { PLAIN, row_1, row_1, 76, 0, 0 },
     { JOINED, row_1, row_1, 76, 0, 0 },
+    { LISTED, row_1, row_1, 76, 0, 0 },
     { TRUSTEE, row_1, "01020000000000052000000020020000", 16, 0, 0 },
     { ACE, row_1, "010100000000000100000000", 12, 0, 0 },
     { OWNER, CHECKED, "01020000000000052000000020020000", 16, 0, 0 },
@@ -207,6 +208,11 @@ static void made(const row *row, outcome *it)
     case PLAIN: written(it, hudarin_whole_plain(lent.bytes, lent.length, it->room, room).written); break;
     case JOINED:
         written(it, hudarin_whole_with_parts(lent.bytes, lent.length, lent.bytes, lent.length, HUDARIN_PART_DACL, it->room, room));
+        break;
+    case LISTED:
+        /* The entry of the list, after the header, the owner, the group and the list's header. */
+        written(it, hudarin_whole_with_entries(lent.bytes, lent.length, HUDARIN_LIST_DACL, 2, lent.bytes + 56, 20, it->room,
+                                               room));
         break;
     case TRUSTEE: written(it, hudarin_whole_trustee(lent.bytes, lent.length, HUDARIN_PART_OWNER, it->room, room)); break;
     case ACE:

@@ -1,5 +1,6 @@
-/* Whole descriptors: their texts and bytes, their plain parts, parts of two put together, and their entries. The bytes are
- * worked by hand from [MS-DTYP] 2.4.4 to 2.4.6; those of the two conditions are Samba's, but for the list's revision. */
+/* Whole descriptors: their texts and bytes, their plain parts, parts of two put together, their entries, and lists of entries.
+ * The bytes are worked by hand from [MS-DTYP] 2.4.4 to 2.4.6; those of the two conditions are Samba's, but for the list's
+ * revision. */
 #include "tally.h"
 
 #define OWNED "O:SYG:BA"
@@ -210,6 +211,7 @@ static void wires(void)
     HOLDS(hudarin_whole_at(NULL, 0, 0, room, sizeof room).fault == HUDARIN_WIRE_SHORT);
     HOLDS(hudarin_whole_with_parts(given, 20, given, 19, 0, room, sizeof room).fault == HUDARIN_WIRE_SHORT);
     HOLDS(hudarin_whole_with_parts(given, 19, given, 20, 0, room, sizeof room).fault == HUDARIN_WIRE_SHORT);
+    HOLDS(hudarin_whole_with_entries(given, 19, HUDARIN_LIST_DACL, 2, NULL, 0, room, sizeof room).fault == HUDARIN_WIRE_SHORT);
     HOLDS(hudarin_whole_trustee(given, 19, HUDARIN_PART_OWNER, room, sizeof room).fault == HUDARIN_WIRE_SHORT);
     given[0] = 2;
     list = hudarin_whole_list(given, 20, HUDARIN_LIST_DACL);
@@ -310,6 +312,114 @@ static void entries(void)
     HOLDS(hudarin_whole_trustee(made.at, made.length, HUDARIN_PART_OWNER, room, sizeof room).status == HUDARIN_NO_PART);
 }
 
+/* An allow; one on the condition (a); one of a class of objects; one of a type that the standard doesn't have; an audit. */
+#define EVERYONE 1, 1, 0, 0, 0, 0, 0, 1, 0, 0, 0, 0
+#define ALLOW 0, 0, 20, 0, 0xff, 1, 0x1f, 0, EVERYONE
+#define ON_CONDITION 9, 2, 32, 0, 0x20, 0, 0, 0, EVERYONE, 'a', 'r', 't', 'x', 0xf8, 2, 0, 0, 0, 'a', 0, 0
+#define OF_CLASS                                                                                                             \
+    5, 0, 40, 0, 0x10, 0, 0, 0, 1, 0, 0, 0, 0x86, 0x7a, 0x96, 0xbf, 0xe6, 0x0d, 0xd0, 0x11, 0xa2, 0x85, 0, 0xaa, 0, 0x30, 0x49, \
+        0xe2, EVERYONE
+#define UNKNOWN 0x42, 0x30, 12, 0, 1, 2, 3, 4, 5, 6, 7, 8
+#define AUDIT 2, 0x40, 20, 0, 0xff, 1, 0x1f, 0, EVERYONE
+#define SYSTEM 1, 1, 0, 0, 0, 0, 0, 5, 18, 0, 0, 0
+
+/* A descriptor that has nothing, and those with a DACL. */
+static const unsigned char bare[] = { 1, 0, 0, 0x80, 0, 0, 0, 0, 0, 0, 0, 0, 0, 0, 0, 0, 0, 0, 0, 0 };
+#define LISTED 1, 0, 4, 0x80, 0, 0, 0, 0, 0, 0, 0, 0, 0, 0, 0, 0, 20, 0, 0, 0
+static const unsigned char empty[] = { LISTED, 2, 0, 8, 0, 0, 0, 0, 0 };
+static const unsigned char of_one[] = { LISTED, 2, 0, 28, 0, 1, 0, 0, 0, ALLOW };
+static const unsigned char of_four[] = { LISTED, 4, 0, 112, 0, 4, 0, 0, 0, ALLOW, ON_CONDITION, OF_CLASS, UNKNOWN };
+static const unsigned char four[] = { ALLOW, ON_CONDITION, OF_CLASS, UNKNOWN };
+
+/* With an owner, a resource manager's byte, and RM, PD, SI and OD set: no SACL, a null one, and one of an audit. */
+static const unsigned char unaudited[] = {
+    1, 7, 5, 0xd8, 20, 0, 0, 0, 0, 0, 0, 0, 0, 0, 0, 0, 32, 0, 0, 0, SYSTEM, 4, 0, 8, 0, 0, 0, 0, 0,
+};
+static const unsigned char null_sacl[] = {
+    1, 7, 21, 0xd8, 20, 0, 0, 0, 0, 0, 0, 0, 0, 0, 0, 0, 32, 0, 0, 0, SYSTEM, 4, 0, 8, 0, 0, 0, 0, 0,
+};
+static const unsigned char audited[] = {
+    1, 7, 21, 0xd8, 20, 0, 0, 0, 0, 0, 0, 0, 32, 0, 0, 0, 60, 0, 0, 0, SYSTEM, 2, 0, 28, 0, 1, 0, 0, 0, AUDIT, 4, 0, 8, 0, 0, 0, 0, 0,
+};
+static const unsigned char silent[] = {
+    1, 7, 21, 0xd8, 20, 0, 0, 0, 0, 0, 0, 0, 32, 0, 0, 0, 40, 0, 0, 0, SYSTEM, 4, 0, 8, 0, 0, 0, 0, 0, 4, 0, 8, 0, 0, 0, 0, 0,
+};
+static const unsigned char an_audit[] = { AUDIT };
+
+#define GIVEN(BYTES) BYTES, sizeof BYTES
+
+/* That the list of these entries in this descriptor makes this one, in a room that just suffices, and in none that doesn't. */
+static void lists(const void *given, size_t length, uint32_t list, uint32_t revision, const void *entries, size_t entries_length,
+                  const void *wanted, size_t wanted_length)
+{
+    unsigned char room[200];
+    hudarin_written answer;
+    memset(room, 0x5A, sizeof room);
+    answer = hudarin_whole_with_entries(given, length, list, revision, entries, entries_length, room, wanted_length - 1);
+    HOLDS(answer.status == HUDARIN_ROOM && answer.fault == 0 && answer.place == 0 && answer.length == wanted_length);
+    HOLDS(room[0] == 0x5A && memcmp(room, room + 1, sizeof room - 1) == 0);
+    answer = hudarin_whole_with_entries(given, length, list, revision, entries, entries_length, room, wanted_length);
+    HOLDS(answer.status == HUDARIN_OK && answer.fault == 0 && answer.place == 0 && answer.length == wanted_length);
+    HOLDS(memcmp(room, wanted, wanted_length) == 0 && room[wanted_length] == 0x5A);
+}
+
+/* That no list of these entries is made in a descriptor that has nothing. */
+static void unlisted(uint32_t list, uint32_t revision, const void *entries, size_t length, uint32_t status, uint32_t fault)
+{
+    unsigned char room[200];
+    hudarin_written answer;
+    memset(room, 0x5A, sizeof room);
+    answer = hudarin_whole_with_entries(GIVEN(bare), list, revision, entries, length, room, sizeof room);
+    HOLDS(answer.status == status && answer.fault == fault && answer.place == 0 && answer.length == 0);
+    HOLDS(room[0] == 0x5A && memcmp(room, room + 1, sizeof room - 1) == 0);
+}
+
+static void lists_of_entries(void)
+{
+    static const unsigned char no_sid[] = { 0, 0, 20, 0, 0, 0, 0, 0, 2, 1, 0, 0, 0, 0, 0, 1, 0, 0, 0, 0 };
+    static const unsigned char odd[] = { 0x42, 0, 6, 0, 0, 0, 0, 0 };
+    static const uint32_t others[] = { 0, 1, 3, 5, 0x102, 0x204, UINT32_MAX };
+    size_t at;
+    lists(GIVEN(bare), HUDARIN_LIST_DACL, 2, NULL, 0, GIVEN(empty));
+    lists(GIVEN(of_one), HUDARIN_LIST_DACL, 2, NULL, 0, GIVEN(empty));
+    lists(GIVEN(of_four), HUDARIN_LIST_DACL, 2, four, 20, GIVEN(of_one));
+    lists(GIVEN(bare), HUDARIN_LIST_DACL, 4, GIVEN(four), GIVEN(of_four));
+    lists(GIVEN(of_one), HUDARIN_LIST_DACL, 4, GIVEN(four), GIVEN(of_four));
+    lists(GIVEN(unaudited), HUDARIN_LIST_SACL, 2, GIVEN(an_audit), GIVEN(audited));
+    lists(GIVEN(null_sacl), HUDARIN_LIST_SACL, 2, GIVEN(an_audit), GIVEN(audited));
+    lists(GIVEN(audited), HUDARIN_LIST_SACL, 4, NULL, 0, GIVEN(silent));
+    for (at = 1; at < sizeof four; at++) {
+        if (at != 20 && at != 52 && at != 92) {
+            unlisted(HUDARIN_LIST_DACL, 2, four, at, HUDARIN_WIRE, HUDARIN_WIRE_ENTRY_SIZE);
+        }
+    }
+    unlisted(HUDARIN_LIST_DACL, 2, GIVEN(odd), HUDARIN_WIRE, HUDARIN_WIRE_ENTRY_SIZE);
+    unlisted(HUDARIN_LIST_DACL, 2, GIVEN(no_sid), HUDARIN_WIRE, HUDARIN_WIRE_BAD_SID);
+    for (at = 0; at < sizeof others / sizeof others[0]; at++) {
+        unlisted(HUDARIN_LIST_SACL, others[at], GIVEN(four), HUDARIN_WIRE, HUDARIN_WIRE_ACL_REVISION);
+        if (others[at] != HUDARIN_LIST_DACL) {
+            unlisted(others[at], 2, GIVEN(four), HUDARIN_NO_PART, 0);
+        }
+    }
+}
+
+/* As many entries as a list has at most, each a header alone, and one more. */
+static void longest_list(void)
+{
+    static unsigned char entries[16382 * 4], room[HUDARIN_WHOLE_BYTES];
+    const size_t most = 16381 * 4;
+    size_t at;
+    hudarin_written answer;
+    for (at = 0; at < sizeof entries; at += 4) {
+        entries[at] = 0x42;
+        entries[at + 2] = 4;
+    }
+    answer = hudarin_whole_with_entries(GIVEN(bare), HUDARIN_LIST_DACL, 2, entries, most, room, sizeof room);
+    HOLDS(answer.status == HUDARIN_OK && answer.length == 28 + most && memcmp(room + 28, entries, most) == 0);
+    HOLDS(room[22] == 0xfc && room[23] == 0xff && room[24] == 0xfd && room[25] == 0x3f);
+    unlisted(HUDARIN_LIST_DACL, 2, GIVEN(entries), HUDARIN_WIRE, HUDARIN_WIRE_ACL_SIZE);
+}
+
 #define FIVE "-4294967295-4294967295-4294967295-4294967295-4294967295"
 #define LONGEST_SID "S-1-5" FIVE FIVE FIVE
 
@@ -357,5 +467,7 @@ int main(void)
     blobs();
     parts();
     entries();
+    lists_of_entries();
+    longest_list();
     return close_tally();
 }

@@ -9,3 +9,4 @@ mod Changes
 mod Unasked
 mod Reviewing
 mod Words
+mod EntriesLoop

@@ -20,6 +20,7 @@ pub mod Whole
 pub mod Plain
 pub mod WithParts
 pub mod WholeParts
+pub mod WithEntries
 pub mod Client
 pub mod WholeCheck
 pub mod Analysis

@@ -43,6 +43,7 @@ mod whole;
 mod whole_check;
 mod whole_explaining;
 mod whole_parts;
+mod with_entries;
 mod with_parts;
 
 pub use analysis::{CompareAnswer, hudarin_compare, hudarin_lint, hudarin_who};
@@ -85,4 +86,5 @@ pub use whole_explaining::hudarin_explain_whole;
 pub use whole_parts::{
     WholeEntry, WholeListAnswer, hudarin_whole_entry, hudarin_whole_list, hudarin_whole_trustee,
 };
+pub use with_entries::hudarin_whole_with_entries;
 pub use with_parts::hudarin_whole_with_parts;

@@ -8,7 +8,7 @@ use sd_text::TextFault;
 use sd_whole::OddEntry;
 use sd_whole_text::NoText;
 use sd_wire::WireFault;
-use std::alloc::AllocError;
+use std::alloc::{AllocError, AllocFailed};
 
 /// Why a call that writes is refused.
 #[derive(Clone, Copy)]
@@ -37,6 +37,14 @@ impl From<AllocError> for Refusal {
     ghost from_gives = { λ _ why. why ≡ Memory };
 
     fn from(_: AllocError) -> Refusal {
+        Refusal::Memory
+    }
+}
+
+impl<T: Drop> From<AllocFailed<T>> for Refusal {
+    ghost from_gives = { λ _ why. why ≡ Memory };
+
+    fn from(_: AllocFailed<T>) -> Refusal {
         Refusal::Memory
     }
 }

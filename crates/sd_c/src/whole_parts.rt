@@ -154,7 +154,7 @@ fn trustee_with(part: u32, descriptor: &WholeDescriptor) -> Option<Sid>
     }
 }
 
-fn list_with(list: u32, descriptor: &WholeDescriptor) -> Option<&WholeAcl>
+pub(crate) fn list_with(list: u32, descriptor: &WholeDescriptor) -> Option<&WholeAcl>
     ensures { option_map (λ acl. acl.now) result ≡ list_with list descriptor.now }
 {
     match list {
