@@ -342,6 +342,7 @@ def _load() -> ctypes.CDLL:
         "whole_at": (given + [_U64] + buffer, _Written),
         "whole_plain": (given + buffer, _Trimmed),
         "whole_with_parts": (given * 2 + [_U32] + buffer, _Written),
+        "whole_with_entries": (given + [_U32] * 2 + given + buffer, _Written),
         "whole_trustee": (given + [_U32] + buffer, _Written),
         "whole_list": (given + [_U32], _WholeList),
         "whole_entry": (given + [_U32, _U64] + buffer, _WholeEntry),
@@ -1233,14 +1234,21 @@ class WholeEntry(NamedTuple):
             return None
 
     def __bytes__(self) -> bytes:
-        """The entry as it is in a list."""
-        types = [kind for kind in (self.object_type, self.inherited_object_type) if kind is not None]
-        word = (self.object_type is not None) + 2 * (self.inherited_object_type is not None)
-        body = b"" if self.sid is None else struct.pack("<I", self.mask)
-        if self.sid is not None and self.type in _OBJECT_TYPES:
-            body += struct.pack("<I", word) + b"".join(kind.bytes_le for kind in types)
-        body += (b"" if self.sid is None else bytes(self.sid)) + self.data
-        return struct.pack("<BBH", self.type, self.flags, 4 + len(body)) + body
+        """The entry as it is in a list. A mask or an object type for which it has no place is a ValueError."""
+        number, flags, mask = _number(self.type, "type", 8), _number(self.flags, "flags", 8), _number(self.mask, "mask")
+        kinds = (self.object_type, self.inherited_object_type)
+        types = [_of_type(kind, uuid.UUID, "object type").bytes_le for kind in kinds if kind is not None]
+        has_types = self.sid is not None and number in _OBJECT_TYPES
+        if mask != 0 and self.sid is None:
+            raise ValueError("mask: an entry without a SID has none")
+        if types and not has_types:
+            raise ValueError(f"object type: an entry of type {number:#x}, or one without a SID, has none")
+        body = b"" if self.sid is None else struct.pack("<I", mask)
+        if has_types:
+            word = (self.object_type is not None) + 2 * (self.inherited_object_type is not None)
+            body += struct.pack("<I", word) + b"".join(types)
+        body += (b"" if self.sid is None else bytes(_of_type(self.sid, Sid, "sid"))) + _data(self.data)
+        return struct.pack("<BBH", number, flags, _number(4 + len(body), "an entry's bytes", 16)) + body
 
 
 #: A type of objects, as a UUID or as its text in SDDL.
@@ -1331,6 +1339,16 @@ class WholeDescriptor(_Bytes):
         """The entries of the SACL in their order. None if there is no list, but an absent or a null SACL."""
         return self._entries(2)
 
+    @property
+    def dacl_revision(self) -> Optional[int]:
+        """AclRevision of the DACL, 2 or 4. None if there is no list."""
+        return self._list(1).revision or None
+
+    @property
+    def sacl_revision(self) -> Optional[int]:
+        """AclRevision of the SACL, 2 or 4. None if there is no list."""
+        return self._list(2).revision or None
+
     def check(
         self,
         client: Client,
@@ -1370,6 +1388,17 @@ class WholeDescriptor(_Bytes):
         call = _library.hudarin_whole_with_parts
         return WholeDescriptor._of(_filled(lambda *buffer: call(one, len(one), two, len(two), number, *buffer))[0])
 
+    def with_entries(self, entries: Iterable[WholeEntry], revision: int = 2, sacl: bool = False) -> "WholeDescriptor":
+        """The descriptor with a DACL, or with ``sacl`` a SACL, of just these entries in their order and of this
+        AclRevision, 2 or 4, whether there was one or none. All else stays. What no list can be is ``Refused`` as
+        "wire": another revision as "AclRevision", more than 65,535 bytes as "AclSize", an entry as "EntrySize" or
+        "BadSid"."""
+        number, place = _number(revision, "revision"), 2 if _of_type(sacl, bool, "sacl") else 1
+        one, two = self._bytes, b"".join(bytes(_of_type(entry, WholeEntry, "entries")) for entry in entries)
+        call = _library.hudarin_whole_with_entries
+        made = _filled(lambda *buffer: call(one, len(one), place, number, two, len(two), *buffer))[0]
+        return WholeDescriptor._of(made)
+
     def _trustee(self, part: int) -> Optional[Sid]:
         buffer = _Buffer()
         answer = _library.hudarin_whole_trustee(self._bytes, len(self._bytes), part, buffer, len(buffer))
@@ -1377,8 +1406,11 @@ class WholeDescriptor(_Bytes):
             return None
         return Sid._of(buffer.raw[: _checked(answer).length])
 
+    def _list(self, number: int) -> Any:
+        return _checked(_library.hudarin_whole_list(self._bytes, len(self._bytes), number))
+
     def _entries(self, number: int) -> Optional[Tuple[WholeEntry, ...]]:
-        answer = _checked(_library.hudarin_whole_list(self._bytes, len(self._bytes), number))
+        answer = self._list(number)
         if answer.kind != _LIST:
             return None
         return tuple(self._entry_at(number, index) for index in range(answer.entries))

@@ -58,6 +58,8 @@ blob: WholeDescriptor = WholeDescriptor.from_blob(memoryview(b""), 0)
 plain: Tuple[Descriptor, int] = whole.plain()
 printed: Tuple[str, int] = whole.without_bits()
 joined: WholeDescriptor = whole.with_parts(descriptor, OF_OWNER | OF_GROUP).with_parts(blob, OF_DACL | OF_SACL)
+listed: WholeDescriptor = joined.with_entries(joined.dacl or (), 4).with_entries(iter(joined.sacl or ()), sacl=True)
+revisions: Tuple[Optional[int], ...] = (listed.dacl_revision, listed.sacl_revision)
 audits: Optional[Tuple[WholeEntry, ...]] = whole.sacl
 types: Tuple[Optional[UUID], ...] = tuple(entry.object_type for entry in joined.dacl or ())
 data: Tuple[bytes, ...] = tuple(entry.data + bytes(entry) for entry in audits or () if entry.sid == whole.owner)
@@ -103,6 +105,10 @@ store.review("/")  # type: ignore
 view.check("/a", user)  # type: ignore
 verdict.missing  # type: ignore
 WholeDescriptor.from_sddl("S:").with_parts("S:", OF_SACL)  # type: ignore
+whole.with_entries(["(A;;FA;;;WD)"])  # type: ignore
+whole.with_entries(descriptor.entries or ())  # type: ignore
+whole.with_entries((), "2")  # type: ignore
+number: int = whole.dacl_revision  # type: ignore
 Client(user, [user])  # type: ignore
 whole.check(token)  # type: ignore
 whole.check(client, types=[b""])  # type: ignore

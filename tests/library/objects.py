@@ -10,7 +10,9 @@ import functools
 import multiprocessing
 import operator
 import pickle
+import struct
 import sys
+import uuid
 from pathlib import Path
 from typing import Any, Callable, List, Optional, Tuple
 
@@ -42,6 +44,7 @@ from hudarin import (  # noqa: E402
     Verdict,
     View,
     WholeDescriptor,
+    WholeEntry,
     mask,
     mask_names,
 )
@@ -333,6 +336,7 @@ def whole() -> None:
     gives("no owner, no group, no list", 4 * [None], lambda: [NONE.owner, NONE.group, NONE.dacl, NONE.sacl])
     gives("a null SACL", None, lambda: WholeDescriptor.from_sddl("S:NO_ACCESS_CONTROL").sacl)
     wholes_entries()
+    wholes_lists()
     wholes_refusals()
 
 
@@ -353,6 +357,85 @@ def wholes_entries() -> None:
     entry = (WholeDescriptor(opaque).dacl or ())[0]
     gives("no layout", (4, 0, None, 16, None), lambda: (entry.type, entry.mask, entry.sid, len(entry.data), entry.text))
     gives("its bytes", bytes(opaque[28:]), lambda: bytes(entry))
+
+
+def listed(revision: int, *entries: bytes) -> bytes:
+    """A descriptor that has just a DACL, as [MS-DTYP] 2.4.5 and 2.4.6 have it."""
+    body = b"".join(entries)
+    head = struct.pack("<BBHIIIIBBHHH", 1, 0, 0x8004, 0, 0, 0, 20, revision, 0, 8 + len(body), len(entries), 0)
+    return head + body
+
+
+def revisions(one: WholeDescriptor) -> List[Optional[int]]:
+    return [one.dacl_revision, one.sacl_revision]
+
+
+def wholes_lists() -> None:
+    """Lists of whole descriptors, of given entries. Their bytes are those of [MS-DTYP] 2.4.4."""
+    sid = b"\1\1\0\0\0\0\0\1\0\0\0\0"
+    allow = b"\0\0\x14\0\xff\1\x1f\0" + sid
+    of_class = b"\5\2\x28\0\x10\0\0\0\1\0\0\0" + uuid.UUID(CLASSES[0]).bytes_le + sid
+    conditional = b"\x09\x10\x20\0\x20\0\0\0" + sid + b"artx\xf8\2\0\0\0a\0\0"
+    unknown = b"\x42\x80\x0c\0" + bytes(range(8))
+    everyone = Sid(sid)
+    entries = [
+        WholeEntry(0, 0, 0x1F01FF, None, None, everyone, b""),
+        WholeEntry(5, 2, 0x10, uuid.UUID(CLASSES[0]), None, everyone, b""),
+        WholeEntry(9, 0x10, 0x20, None, None, everyone, conditional[20:]),
+        WholeEntry(0x42, 0x80, 0, None, None, None, bytes(range(8))),
+    ]
+    forms = allow, of_class, conditional, unknown
+    gives("an empty list", listed(2), lambda: bytes(NONE.with_entries([])))
+    gives("entries of each kind", listed(4, *forms), lambda: bytes(NONE.with_entries(iter(entries), 4)))
+    gives("in another order", listed(2, unknown, allow), lambda: bytes(NONE.with_entries([entries[3], entries[0]])))
+    gives("they come back", tuple(entries), lambda: NONE.with_entries(entries).dacl)
+    gives("instead of others", listed(2, allow), lambda: bytes(NONE.with_entries(entries, 4).with_entries(entries[:1])))
+    system = str(WHOLE).replace(ENTRIES[3], "(OA;CI;0x10;" + CLASSES[0] + ";;WD)")
+    gives("a SACL", system, lambda: str(WHOLE.with_entries(entries[1:2], 4, True)))
+    gives("a SACL where there was none", "S:(A;;FA;;;WD)", lambda: str(NONE.with_entries(entries[:1], sacl=True)))
+    both = WHOLE.with_entries((), 2).with_entries((), 4, True)
+    gives("their revisions", [4, 2, 2, 4], lambda: [*revisions(WHOLE), *revisions(both)])
+    gives("no revisions", [None, None], lambda: revisions(NONE))
+    gives("a null DACL has none", None, lambda: WholeDescriptor.from_sddl("D:NO_ACCESS_CONTROL").dacl_revision)
+    longest = [WholeEntry(0x42, 0, 0, None, None, None, bytes(65_520))]
+    gives("the longest list", 65_552, lambda: len(bytes(NONE.with_entries(longest))))
+    faults: List[Tuple[int, str, List[Any], int]] = [
+        (7, "AclRevision", entries, 3),
+        (7, "AclRevision", [], 0x102),
+        (8, "AclSize", 2 * longest, 2),
+        (9, "EntrySize", [entries[3]._replace(data=b"123")], 2),
+        (6, "BadSid", [WholeEntry(0, 0, 0, None, None, None, bytes(16))], 2),
+    ]
+    for fault, name, given, revision in faults:
+        gives(name, ("wire", fault, name, 0, None), lambda: refused(lambda: NONE.with_entries(given, revision)))
+    def other(at: int, **fields: Any) -> WholeEntry:
+        return entries[at]._replace(**fields)
+
+    wrong: List[Tuple[Any, Any]] = [
+        (TypeError, ["(A;;FA;;;WD)"]),
+        (TypeError, [allow]),
+        (TypeError, entries[0]),
+        (TypeError, READERS.entries),
+        (TypeError, [other(0, sid=sid)]),
+        (TypeError, [other(1, object_type=CLASSES[0])]),
+        (TypeError, [other(0, flags=True)]),
+        (TypeError, [other(0, data="")]),
+        (ValueError, [other(0, type=0x100)]),
+        (ValueError, [other(0, flags=-1)]),
+        (ValueError, [other(0, mask=1 << 32)]),
+        (ValueError, [other(0, data=bytes(65_516))]),
+        (ValueError, [other(0, object_type=uuid.UUID(CLASSES[0]))]),
+        (ValueError, [other(3, inherited_object_type=uuid.UUID(CLASSES[0]))]),
+        (ValueError, [other(3, mask=1)]),
+    ]
+    for kind, given in wrong:
+        raises(f"the entries {given!r}"[:100], kind, lambda: NONE.with_entries(given))
+    numbers: List[Tuple[Any, Any]] = [(-1, ValueError), (1 << 32, ValueError), (True, TypeError), ("2", TypeError)]
+    for number, kind in numbers:
+        raises(f"the revision {number!r}", kind, lambda: NONE.with_entries([], number))
+    lists: List[Any] = [0, 1, None, "DACL"]
+    for one in lists:
+        raises(f"the list {one!r}", TypeError, lambda: NONE.with_entries([], 2, one))
 
 
 def wholes_refusals() -> None:
