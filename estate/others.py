@@ -2,8 +2,6 @@
 are kept beside it, and a write puts them back."""
 
 import contextlib
-import struct
-from collections.abc import Sequence
 from dataclasses import dataclass
 
 from hudarin import FLAGS, OF_DACL, OF_GROUP, OF_OWNER, Descriptor, Refused, WholeDescriptor, WholeEntry
@@ -15,9 +13,6 @@ _DENY, _DENIES = 0x01, (0x06, 0x0A, 0x0C)
 #: The flags of an entry that was inherited, and of one that children inherit.
 INHERITED, FOR_CHILDREN = FLAGS["ID"], FLAGS["OI"] | FLAGS["CI"]
 
-#: AclRevision, a zero, AclSize, AceCount, zeros (2.4.5); where a header has the DACL's offset (2.4.6).
-_LIST, _OFFSET, _OFFSET_AT = struct.Struct("<BBHHH"), struct.Struct("<I"), 16
-_MOST_BYTES = 65_535
 _NOTHING = WholeDescriptor.from_sddl("D:")
 
 
@@ -40,7 +35,7 @@ def kept_of(whole: WholeDescriptor) -> Kept:
     except Refused as refused:
         if refused.status != "not plain":
             raise
-        plain, left_out = _listed(whole, [each for each in whole.dacl or () if not _is_other(each)], whole).plain()
+        plain, left_out = whole.with_entries(each for each in whole.dacl or () if not _is_other(each)).plain()
         return Kept(str(plain), bool(left_out & 1), whole_text(whole), str(refused))
     return Kept(str(plain), bool(left_out & 1))
 
@@ -71,7 +66,8 @@ def put_back(has: WholeDescriptor, before: str, after: str) -> WholeDescriptor:
     new, old = WholeDescriptor(Descriptor.from_sddl(after)), list(has.dacl or ())
     if parts_of(before).inherits and not parts_of(after).inherits:
         old = [each for each in old if not (_is_other(each) and each.flags & INHERITED)]
-    if not any(map(_is_other, old)):
+    revision = has.dacl_revision
+    if revision is None or not any(map(_is_other, old)):
         return new
     if new.dacl is None:
         raise ValueError("a null DACL has no entries of other types")
@@ -79,7 +75,12 @@ def put_back(has: WholeDescriptor, before: str, after: str) -> WholeDescriptor:
     for flag in (0, INHERITED):
         mine, plain = ([each for each in part if each.flags & INHERITED == flag] for part in (old, new.dacl))
         entries += _joined(mine, plain)
-    return _listed(new, entries, has)
+    try:
+        return new.with_entries(entries, revision)
+    except Refused as refused:
+        if refused.name != "AclSize":
+            raise
+        raise ValueError("its DACL would have more than 65,535 bytes") from refused
 
 
 def _joined(old: list[WholeEntry], plain: list[WholeEntry]) -> list[WholeEntry]:
@@ -95,18 +96,3 @@ def _joined(old: list[WholeEntry], plain: list[WholeEntry]) -> list[WholeEntry]:
 
 def _is_other(entry: WholeEntry) -> bool:
     return entry.type > _DENY
-
-
-def _listed(whole: WholeDescriptor, entries: Sequence[WholeEntry], like: WholeDescriptor) -> WholeDescriptor:
-    """The descriptor with these entries in its DACL, a list, which is the last part of its bytes; with the AclRevision
-    that another one has."""
-    data, body = bytes(whole), b"".join(map(bytes, entries))
-    size = _LIST.size + len(body)
-    if size > _MOST_BYTES:
-        raise ValueError(f"its DACL would have {size:,} bytes, and {_MOST_BYTES:,} fit")
-    header = _LIST.pack(bytes(like)[_place_of_dacl(like)], 0, size, len(entries), 0)
-    return WholeDescriptor(data[: _place_of_dacl(whole)] + header + body)
-
-
-def _place_of_dacl(whole: WholeDescriptor) -> int:
-    return int(_OFFSET.unpack_from(bytes(whole), _OFFSET_AT)[0])

@@ -63,6 +63,17 @@ class Replaced(unittest.TestCase):
     def test_nothing(self) -> None:
         self.assertEqual(control_of(self.replaced(TEXT)), control_of(self.blob))
 
+    def test_a_list_that_is_too_large(self) -> None:
+        """Beside an entry of a reserved type: its list keeps its AclRevision, and has 65,535 bytes at most."""
+        reserved = struct.pack("<BBH", 16, 0, 65_000) + bytes(64_996)
+        blob = form(OWNER, GROUP, acl_bytes([DACL[8:], reserved], 4), PRESENT | AI)
+        few, many = ("".join(f"(A;;FR;;;S-1-5-21-1-2-3-{at})" for at in range(count)) for count in (14, 15))
+        made = forms.replaced(forms.Attribute.NTFS, blob, TEXT, f"O:SYG:BAD:AI{few}")
+        (at,) = struct.unpack_from("<I", made, 16)
+        self.assertEqual(struct.unpack_from("<BBHHH", made, at), (4, 0, 8 + 65_000 + 14 * 36, 15, 0))
+        with self.assertRaisesRegex(ValueError, "^its DACL would have more than 65,535 bytes$"):
+            forms.replaced(forms.Attribute.NTFS, blob, TEXT, f"O:SYG:BAD:AI{many}")
+
     def test_a_list_that_is_not_plain(self) -> None:
         """It is kept without the other entries, of which the first is named, and whole: here it has no text."""
         entries = entry_bytes(Entry("A", 0, 0x1, EVERYONE)), struct.pack("<BBHI", 9, 0, 20, 1) + sid_bytes(EVERYONE)
