@@ -6,9 +6,10 @@ use Rattle.std.specs.Str.{bytes_eq}
 use lib.Pointwise.{bytes_decides}
 use Rattle.sd_sid.specs.Sid.{SidValue}
 use Rattle.sd_accounts.specs.Fault.{AreNoTwoSids, IsNoOneSid, IsNoRow, IsNoSidAndName, incomplete, no_disabled, no_group, no_keyword, no_member, no_primary, no_user}
-use Rattle.sd_accounts.specs.Groups.{IsIn, directly, further}
-use Rattle.sd_accounts.specs.Laws.{OrderDoesNotMatter, RowsHaveNoFault}
+use Rattle.sd_accounts.specs.Groups.{Belongs, IsIn, directly, further}
+use Rattle.sd_accounts.specs.Laws.{BelongsByAWay, OrderDoesNotMatter, RowsHaveNoFault}
 use Rattle.sd_accounts.specs.Row.{AccountRow, AreRows, AreTwoSids, IsOneSid, IsRow, IsSidAndName, SaysNothing, User, Group, Member, Primary, Disabled, first_word, nothing, row}
+use Rattle.sd_accounts.specs.Way.{IsWay, by_way, straight}
 use Rattle.sd_accounts.specs.declared.fault.AccountsFault.{AccountsFault}
 use Rattle.sd_accounts.specs.declared.fault.AccountsFault.TheVariants.{Keyword, Sid, Name, Surplus, Incomplete}
 
@@ -19,6 +20,21 @@ pub order_holds : OrderDoesNotMatter
 order_holds rows others starts _ all (directly start group at in') = directly start group at (in_others rows others start group all in')
 order_holds rows others starts _ all (further between group belongs in') =
     further between group (order_holds rows others starts between all belongs) (in_others rows others between group all in')
+
+-- ---- a way to each group to which one belongs
+
+way_of : (rows : List AccountRow) (starts : List SidValue) (group : SidValue) → Belongs rows starts group → (way : List SidValue) × IsWay rows starts group way
+way_of rows starts _ (directly start group at in') = (group ∷ [], straight start group at in')
+way_of rows starts _ (further between group belongs in') =
+    let way = way_of rows starts between belongs in
+    (way.0 ++ group ∷ [], by_way between group way.0 way.1 in')
+
+of_way : (rows : List AccountRow) (starts : List SidValue) (group : SidValue) (way : List SidValue) → IsWay rows starts group way → Belongs rows starts group
+of_way rows starts _ _ (straight start group at in') = directly start group at in'
+of_way rows starts _ _ (by_way between group way is in') = further between group (of_way rows starts between way is) in'
+
+pub way_holds : BelongsByAWay
+way_holds rows starts group = (way_of rows starts group, λ way. of_way rows starts group way.0 way.1)
 
 -- ---- a line that is a row has no fault
 

@@ -2,6 +2,7 @@ pub mod Sids
 pub mod Indexed
 pub mod Direct
 pub mod Walked
+pub mod Ways
 pub mod Lines
 pub mod Faults
 pub mod Rows

@@ -1,8 +1,9 @@
 -- The walk over the groups: each SID that is found is visited once, and its groups are added.
-use Rattle.std.proofs.Common.{◌≡◌, ◌++◌, ◌∙◌, ◌+◌, ◌<◌, ◌≤◌, ◌⊎◌, ℕ, inl, inr, List, [], ◌∷◌, Bool, true, false, length, take, get_or, refl, ap, sym, subst, arith}
+use Rattle.std.proofs.Common.{◌≡◌, ◌++◌, ◌∙◌, ◌+◌, ◌-◌, ◌<◌, ◌≤◌, ◌⊎◌, ℕ, inl, inr, List, [], ◌∷◌, Bool, true, false, length, drop, take, get_or, refl, ap, sym, subst, arith}
 use Rattle.std.proofs.lemmas.Bool.{cases_lt}
-use Rattle.std.proofs.lemmas.List.{append-nil, append_assoc, length-append, get_or_append_left, take_all, take_more}
-use Rattle.std.proofs.lemmas.List.Elements.{Contains-append_left, Contains-push, Contains-push_cases}
+use Rattle.std.proofs.Math.Seq.{take-append-add}
+use Rattle.std.proofs.lemmas.List.{append-nil, append_assoc, length-append, get_or_append_left, take-append-drop, take-append-le, take_all, take_more}
+use Rattle.std.proofs.lemmas.List.Elements.{Contains-append_left, Contains-get_or, Contains-push, Contains-push_cases}
 use Rattle.std.proofs.lemmas.Option.{get_or_from_slice_get, slice_get_cases, slice_get_read, slice_get_within}
 use Rattle.std.proofs.lemmas.Map.Keys.{IsDistinct-from_apart, apart_from_distinct}
 use Rattle.std.proofs.lemmas.Map.Views.{Contains-from_any}
@@ -15,7 +16,7 @@ use Rattle.sd_sid.specs.Sid.{SidValue, same_sid}
 use Rattle.sd_accounts.specs.Groups.{AreGroupsOf, Belongs, IsIn, directly, further}
 use Rattle.sd_accounts.specs.Index.{direct_groups}
 use Rattle.sd_accounts.specs.Row.{AccountRow}
-use Rattle.sd_accounts.specs.Walk.{Adds, Extends, HasStarts, IsStart, IsWalked}
+use Rattle.sd_accounts.specs.Walk.{Adds, AreReached, Extends, HasStarts, IsReached, IsStart, IsWalked}
 use Rattle.sd_accounts.proofs.Direct.{direct_in, in_direct, nothing_in}
 use Rattle.sd_accounts.proofs.Sids.{sid_eq, sid_eq-true, sid_eq-same}
 
@@ -98,13 +99,53 @@ start_more rows starts old mid new i one low is before added =
       | inr same ↦ inr (subst (λ s. IsIn rows s sid) (sym (is ∙ same)) in')
     ]
 
+-- ---- a front of a list
+
+pub of_take : {A : Type 0} (xs : List A) (n : ℕ) (x : A) → Contains (take n xs) x → Contains xs x
+of_take xs n x at = subst (λ l. Contains l x) (take-append-drop n xs) (Contains-append_left (take n xs) (drop n xs) x at)
+
+in_take : {A : Type 0} (xs ys : List A) (n : ℕ) (x : A) → length xs ≤ n → Contains xs x → Contains (take n (xs ++ ys)) x
+in_take xs ys n x over at =
+    let whole : length xs + (n - length xs) ≡ n = omega arith in
+    let front = subst (λ l. Contains l x) (sym (take-append-add xs ys (n - length xs))) (Contains-append_left xs (take (n - length xs) ys) x at) in
+    subst (λ k. Contains (take k (xs ++ ys)) x) whole front
+
 -- ---- the walk
 
 module _ (rows : List AccountRow) (starts : List SidValue) where
+  starts_reached : (keys : List SidValue) → HasStarts rows starts keys → AreReached rows starts keys
+  starts_reached keys has k d low = elim (has.sound (get_or keys k d) (Contains-get_or keys k d low)) [ inl none ↦ absurd (nothing_in _ none) | inr start ↦ inl start ]
+
+  -- the SIDs that a visited one adds are reached by it
+  more_reached : (keys new : List SidValue) (member : SidValue) → Contains keys member → Adds rows member keys new → AreReached rows starts keys → AreReached rows starts new
+  more_reached keys new member here added reached k d low = elim (cases_lt k (length keys)) [ inl before ↦ old before | inr past ↦ newer past ]
+    where
+      old : k < length keys → IsReached rows starts (take k new) (get_or new k d)
+      old before =
+          subst (λ l. IsReached rows starts (take k l) (get_or l k d)) (sym added.front)
+          (subst (λ l. IsReached rows starts l (get_or (keys ++ added.further) k d)) (sym (take-append-le k keys added.further (omega arith)))
+          (subst (IsReached rows starts (take k keys)) (sym (get_or_append_left keys added.further d k before)) (reached k d before)))
+
+      in_front : (sid : SidValue) → length keys ≤ k → Contains keys sid → Contains (take k new) sid
+      in_front sid past at = subst (λ l. Contains (take k l) sid) (sym added.front) (in_take keys added.further k sid past at)
+
+      again : (sid : SidValue) → length keys ≤ k → Contains keys sid → IsReached rows starts (take k new) sid
+      again sid past at = elim (subst (IsReached rows starts (take at.0 keys)) at.2 (reached at.0 sid at.1)) [
+        | inl start ↦ inl start
+        | inr found ↦ inr (found.0, in_front found.0 past (of_take keys at.0 found.0 found.1), found.2)
+      ]
+
+      newer : length keys ≤ k → IsReached rows starts (take k new) (get_or new k d)
+      newer past = elim (added.sound (get_or new k d) (Contains-get_or new k d low)) [
+        | inl at ↦ again (get_or new k d) past at
+        | inr in' ↦ inr (member, in_front member past here, in')
+      ]
+
   pub walk_begins : (keys : List SidValue) → HasStarts rows starts keys → IsWalked rows starts keys 0
   walk_begins keys has = record {
     within = omega arith;
     sound = λ sid at. elim (has.sound sid at) [ inl none ↦ absurd (nothing_in sid none) | inr (start, there, in') ↦ directly start sid there in' ];
+    reached = starts_reached keys has;
     begun = has.all;
     closed = λ k d low group in'. absurd (omega arith);
   }
@@ -117,6 +158,7 @@ module _ (rows : List AccountRow) (starts : List SidValue) where
       | inl before ↦ walked.sound sid before
       | inr in' ↦ further member sid (walked.sound member (place, low, sym is)) in'
     ];
+    reached = more_reached keys new member (place, low, sym is) added walked.reached;
     begun = λ sid start. still_in added sid (walked.begun sid start);
     closed = closed;
   }
@@ -166,11 +208,11 @@ no_groups rows member old none = unchanged (IsIn rows member) old (λ sid in'. n
 pub found_at : (keys : List SidValue) (i : ℕ) (one : SidValue) → slice_get keys i ≡ Some one → (i < length keys) × (one ≡ get_or keys i one)
 found_at keys i one at = (slice_get_within keys i one at, sym (get_or_from_slice_get keys i one one at))
 
--- a copy of the groups
-pub copies : (rows : List AccountRow) (starts keys : List SidValue) (copy : Result (Vec SidValue) AllocError) → IfOk copy (λ c. c.items ≡ keys)
-    → AreGroupsOf rows starts keys → IfOk copy (λ groups. AreGroupsOf rows starts groups.items)
-copies rows starts keys (Ok copy) same are = subst (AreGroupsOf rows starts) (sym same) are
-copies rows starts keys (Err e) same are = tt
+-- a copy of those found
+pub copies : (P : List SidValue → Type 0) (keys : List SidValue) (copy : Result (Vec SidValue) AllocError) → IfOk copy (λ c. c.items ≡ keys)
+    → P keys → IfOk copy (λ groups. P groups.items)
+copies P keys (Ok copy) same are = subst P (sym same) are
+copies P keys (Err e) same are = tt
 
 pub none_at : (keys : List SidValue) (i : ℕ) → slice_get keys i ≡ None → length keys ≤ i
 none_at keys i none = elim (slice_get_cases keys i).1 [ inl some ↦ (let is = some.2 in cc) | inr past ↦ past.0 ]

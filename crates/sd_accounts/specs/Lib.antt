@@ -6,6 +6,7 @@ pub mod Kept
 pub mod Accounts
 pub mod Index
 pub mod Walk
+pub mod Way
 pub mod Lines
 pub mod Found
 pub mod Laws

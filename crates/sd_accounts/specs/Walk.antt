@@ -1,5 +1,6 @@
 -- The walk over the groups: what is found so far.
-use Rattle.std.specs.Prelude.{◌≡◌, ◌<◌, ◌≤◌, ◌⊎◌, ◌++◌, ℕ, List, [], Contains, length, slice_index_or}
+use Rattle.std.specs.Prelude.{◌≡◌, ◌<◌, ◌≤◌, ◌⊎◌, ◌++◌, ℕ, List, [], Contains, length}
+use Rattle.std.specs.Prelude.{slice_index_or, take}
 use Rattle.sd_sid.specs.Sid.{SidValue}
 use Rattle.sd_accounts.specs.Groups.{Belongs, IsIn}
 use Rattle.sd_accounts.specs.Row.{AccountRow}
@@ -24,11 +25,21 @@ IsStart rows starts group = (start : SidValue) × Contains starts start × IsIn 
 abbrev pub HasStarts : List AccountRow → List SidValue → List SidValue → Type 0
 HasStarts rows starts = Extends (IsStart rows starts) []
 
--- the walk has visited the first so many SIDs of those that it has found: one belongs to each of these, and the groups
--- in which a start or a visited SID directly is are among them
+-- a start, or one of those found before, is directly in the group
+abbrev pub IsReached : List AccountRow → List SidValue → List SidValue → SidValue → Type 0
+IsReached rows starts before group = IsStart rows starts group ⊎ IsStart rows before group
+
+-- a start, or one found before it, is directly in each SID that was found
+abbrev pub AreReached : List AccountRow → List SidValue → List SidValue → Type 0
+AreReached rows starts found =
+    (k : ℕ) (d : SidValue) → k < length found → IsReached rows starts (take k found) (slice_index_or found k d)
+
+-- the walk has visited the first so many SIDs of those that it has found: one belongs to each of these, each is reached
+-- from a start or one before it, and the groups in which a start or a visited SID directly is are among them
 pub record IsWalked (rows : List AccountRow) (starts found : List SidValue) (visited : ℕ) : Type 0 where
   pub within : visited ≤ length found
   pub sound : (sid : SidValue) → Contains found sid → Belongs rows starts sid
+  pub reached : AreReached rows starts found
   pub begun : (sid : SidValue) → IsStart rows starts sid → Contains found sid
   pub closed : (k : ℕ) (d : SidValue) → k < visited → (group : SidValue) → IsIn rows (slice_index_or found k d) group
       → Contains found group

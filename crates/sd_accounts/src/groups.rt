@@ -5,7 +5,7 @@ ghost use Rattle.std.specs.List.{IsDistinct};
 ghost use Rattle.sd_sid.specs.Sid.{same_sid};
 ghost use Rattle.sd_accounts.specs.Accounts.{rows_of};
 ghost use Rattle.sd_accounts.specs.Groups.{AreGroupsOf};
-ghost use Rattle.sd_accounts.specs.Walk.{Adds, HasStarts};
+ghost use Rattle.sd_accounts.specs.Walk.{Adds, AreReached, HasStarts};
 
 use crate::accounts::Accounts;
 use indexmap::IndexSet;
@@ -17,6 +17,19 @@ impl Accounts {
     /// are among them only if one belongs to them ([MS-DTYP] 2.4.2). The only error is out of memory.
     pub fn groups_of(&self, alloc: Global, starts: &[Sid]) -> Result<Vec<Sid>, AllocError>
         ensures { IfOk result (λ groups. AreGroupsOf (rows_of self.now) starts.now groups.items) }
+    {
+        self.groups_in_order(alloc, starts)
+    }
+
+    /// The groups of `groups_of` in the order in which the walk finds them: one of the SIDs, or a group before it, is
+    /// directly in each. The only error is out of memory.
+    pub(crate) fn groups_in_order(
+        &self,
+        alloc: Global,
+        starts: &[Sid],
+    ) -> Result<Vec<Sid>, AllocError>
+        ensures groups { IfOk result (λ groups. AreGroupsOf (rows_of self.now) starts.now groups.items) }
+        ensures order { IfOk result (λ groups. AreReached (rows_of self.now) starts.now groups.items) }
     {
         let mut found = self.direct_groups(alloc, starts)?;
         // (each SID that is found is visited once, in order; the last one ends the walk)

@@ -2,12 +2,13 @@
 //!
 //! An accounts file has a row a line. Its rows give users and groups names, say who is a member of which group, which
 //! group is a user's primary group, and which account is disabled. It is parsed once; the questions are then answered
-//! from memory, the groups of a user by a walk over an index of the direct memberships.
+//! from memory, the groups of a user and the way to one of them by a walk over an index of the direct memberships.
 //!
 //! ```text
 //! let accounts = Accounts::read(alloc, text)?;
 //! let user = accounts.sid_named("anna")?;
 //! let groups = accounts.groups_of(alloc, &[user])?; // those of its groups too
+//! let way = accounts.way_to(alloc, &[user], &groups[0])?; // by which groups
 //! ```
 #![tactic(auto)]
 
@@ -24,9 +25,10 @@ mod row;
 #[cfg(test)]
 mod tests;
 mod users;
+mod way;
 mod words;
 
 pub use accounts::Accounts;
 pub use fault::{AccountsError, AccountsFault};
-pub use laws::{order_of_rows_does_not_matter, rows_have_no_fault};
+pub use laws::{one_belongs_by_a_way, order_of_rows_does_not_matter, rows_have_no_fault};
 pub use names::NameError;

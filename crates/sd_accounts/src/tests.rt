@@ -3,7 +3,7 @@
 use super::*;
 use sd_sid::Sid;
 use sd_text::read_sid_text;
-use std::alloc::Global;
+use std::alloc::{AllocError, Global};
 use std::process::Abort;
 use std::test::Fail;
 
@@ -97,5 +97,71 @@ fn users_that_may_log_on_are_listed_once(rt: HostRuntime) -> Result<(), Fail> {
         assert_eq!(rt; users[place].0, sid(&rt, account));
         assert_eq!(rt; users[place].1, name);
     }
+    Ok(())
+}
+
+/// Anna is in the guests, these are in the power users, and these in the backup operators, which are in the guests. The
+/// account operators and the replicators have themselves as members.
+const WAYS: &str = "member BG S-1-5-21-1-2-3-1001
+primary S-1-5-21-1-2-3-1001 S-1-5-21-1-2-3-513
+member PU BG
+member BO PU
+member BG BO
+member BA BO
+member BA PU
+member AO AO
+member AO S-1-5-21-1-2-3-1001
+member RE RE
+";
+
+fn sids(rt: &impl Abort, alloc: Global, texts: &str) -> Result<Vec<Sid>, AllocError> {
+    let mut sids = Vec::new(alloc);
+    for text in texts.split(' ') {
+        sids.push(sid(rt, text))?;
+    }
+    Ok(sids)
+}
+
+#[test]
+fn a_way_to_a_group_is_a_shortest_one(rt: HostRuntime) -> Result<(), Fail> {
+    let accounts = accounts(&rt, rt.alloc(), WAYS);
+    for (starts, group, way) in [
+        ("S-1-5-21-1-2-3-1001", "BG", "BG"),
+        (
+            "S-1-5-21-1-2-3-1001",
+            "S-1-5-21-1-2-3-513",
+            "S-1-5-21-1-2-3-513",
+        ),
+        ("S-1-5-21-1-2-3-1001", "BO", "BG PU BO"),
+        ("S-1-5-21-1-2-3-1001", "BA", "BG PU BA"),
+        ("S-1-5-21-1-2-3-1001", "AO", "AO"),
+        ("S-1-5-21-1-2-3-1001 BO", "BA", "BA"),
+        ("BG", "BG", "PU BO BG"),
+        ("RE", "RE", "RE"),
+    ] {
+        let starts = sids(&rt, rt.alloc(), starts)?;
+        let found = accounts.way_to(rt.alloc(), &starts, &sid(&rt, group))?;
+        let found = found.expect(&rt, "a way");
+        assert_eq!(rt; found, sids(&rt, rt.alloc(), way)?);
+    }
+    Ok(())
+}
+
+#[test]
+fn no_way_leads_to_a_group_of_others(rt: HostRuntime) -> Result<(), Fail> {
+    let accounts = accounts(&rt, rt.alloc(), WAYS);
+    for (starts, group) in [
+        ("S-1-5-21-1-2-3-1001", "RE"),
+        ("S-1-5-21-1-2-3-1001", "S-1-5-21-1-2-3-1001"),
+        ("S-1-5-21-1-2-3-1002", "BG"),
+        ("BA", "PU"),
+        ("RE AO", "BG"),
+    ] {
+        let starts = sids(&rt, rt.alloc(), starts)?;
+        let found = accounts.way_to(rt.alloc(), &starts, &sid(&rt, group))?;
+        assert!(rt; found.is_none(), "{group}");
+    }
+    let found = accounts.way_to(rt.alloc(), &[], &sid(&rt, "BG"))?;
+    assert!(rt; found.is_none());
     Ok(())
 }

@@ -1,7 +1,7 @@
 -- The walk so far.
 use Rattle.sd_accounts.specs.Accounts.{rows_of}
 use Rattle.sd_accounts.specs.Walk.{IsWalked}
-use Rattle.sd_accounts.proofs.accounts.Accounts.groups_of.Given as goal
+use Rattle.sd_accounts.proofs.accounts.Accounts.groups_in_order.Given as goal
 
 abbrev pub invariant-loop-place : goal.invariant-loop-place
 invariant-loop-place l = IsWalked (rows_of l.self) l.starts l.found.keys l.place
