@@ -2,10 +2,12 @@
 
 import re
 from collections.abc import Callable, Iterator
-from itertools import chain
+from itertools import chain, islice
 
 from account_csv import read_csv
+from account_hive import is_hive, read_hive
 from account_ldif import read_ldif
+from account_samba import is_groupmap, is_pdbedit, read_groupmap, read_pdbedit
 from csv_rows import columns_of
 from directory import Account, Directory, Kind
 from errors import Invalid
@@ -24,16 +26,25 @@ def read_sources(names: list[str]) -> Directory:
     """What files of these names say. Invalid if one can't be understood, or if two contradict each other."""
     directory = Directory()
     for name in names:
-        lines = lines_of(name, encoding_in(name))
-        before: list[Line] = []
-        for line in lines:
-            before.append(line)
-            if _shows_format(line[1]):
-                break
+        if is_hive(name):
+            read_hive(directory, name)
         else:
-            raise Invalid(f"{name}: it has no line with an account")
-        _reader_of(name, before[-1])(directory, name, chain(before, lines))
+            _read_lines(directory, name)
     return directory
+
+
+def _read_lines(directory: Directory, name: str) -> None:
+    lines = lines_of(name, encoding_in(name))
+    before: list[Line] = []
+    for line in lines:
+        before.append(line)
+        if _shows_format(line[1]):
+            break
+    else:
+        raise Invalid(f"{name}: it has no line with an account")
+    after = list(islice(lines, 1))
+    reader = read_groupmap if after and is_groupmap(after[0][1]) else _reader_of(name, line)
+    reader(directory, name, chain(before, after, lines))
 
 
 def _shows_format(line: str) -> bool:
@@ -43,6 +54,8 @@ def _shows_format(line: str) -> bool:
 
 def _reader_of(name: str, line: Line) -> Callable[[Directory, str, Iterator[Line]], None]:
     number, text = line
+    if is_pdbedit(text):
+        return read_pdbedit
     if _LDIF.match(text):
         return read_ldif
     if named_sid(text) or getent_line(text):
@@ -50,8 +63,8 @@ def _reader_of(name: str, line: Line) -> Callable[[Directory, str, Iterator[Line
     if text.startswith("#TYPE") or {"sid", "objectsid"}.intersection(columns_of(text)):
         return read_csv
     raise Invalid(
-        f"{name}: line {number}: LDIF, a CSV with a column SID, or what getent or wbinfo prints is expected, "
-        f"and not {text[:40]!a}"
+        f"{name}: line {number}: LDIF, a CSV with a column SID, a hive, or what getent, wbinfo, pdbedit or net prints "
+        f"is expected, and not {text[:40]!a}"
     )
 
 

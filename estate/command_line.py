@@ -183,7 +183,10 @@ def _add_journal(parser: argparse.ArgumentParser) -> None:
 
 def _add_accounts(accounts: argparse.ArgumentParser) -> None:
     accounts.add_argument(
-        "sources", metavar="SOURCE", nargs="+", help="LDIF, a CSV of PowerShell, or what getent or wbinfo prints"
+        "sources",
+        metavar="SOURCE",
+        nargs="+",
+        help="LDIF, a CSV of PowerShell, a hive SAM, or what getent, wbinfo, pdbedit or net prints",
     )
     accounts.add_argument("file", metavar="FILE", help="the file to write")
     accounts.add_argument("--domain", metavar="NAME", help="the domain's NetBIOS name: that of the LDIF unless given")

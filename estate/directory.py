@@ -92,6 +92,16 @@ class Directory:
         self.places: dict[Key, str] = {}
         #: Of an attribute that came in ranges: the first and the last of each, of which the last may be '*'.
         self.ranges: dict[tuple[Key, str], list[tuple[int, str]]] = {}
+        #: Users of a Samba server by their Unix names: their SIDs.
+        self.unix_users: dict[str, str] = {}
+        #: Names of machines, by the SIDs before those of their accounts.
+        self.machines: dict[str, str] = {}
+        #: Each a group, or what groups there may be, and what of its members no source says.
+        self.missing: list[tuple[str, str]] = []
+        #: Whether a source has a server's own accounts; and whether one says which groups Unix groups are there.
+        self.is_of_server = self.has_mapping = False
+        #: The one source that is a hive.
+        self.hive: str | None = None
         self._keys: dict[str, Key] = {}
 
     def by_dn(self, text: str, place: str) -> Key:

@@ -6,10 +6,9 @@ from dataclasses import dataclass, field
 from directory import Account, Directory, Key, Kind, fault_of_name
 from dn import first_value, foreign_in, is_in
 from errors import Invalid
-from sids import domain_of, sid_of_text
+from server import settle_server
+from sids import BUILTIN, UNIX, domain_of, sid_of_text
 from table import Cell, Table
-
-_BUILTIN, _UNIX = "S-1-5-32-", "S-1-22-"
 
 
 @dataclass(slots=True)
@@ -66,6 +65,7 @@ class Joining:
         self._made = Joined()
 
     def run(self) -> Joined:
+        settle_server(self._directory)
         self._join_by_sid()
         for sid in [sid for sid, account in self._by_sid.items() if account.kind in (Kind.USER, Kind.GROUP)]:
             self._add(sid, self._by_sid[sid])
@@ -73,6 +73,8 @@ class Joining:
         for group, member in self._directory.edges:
             self._add_member(group, member)
         self._find_missing_ranges()
+        for missing in self._directory.missing:
+            self._row("unknown", group=missing[0], member=missing[1])
         for what, cells in sorted(self._rows):
             self._table.row(what, dict(cells))
         self._made.left_out_members = len(self._left_out)
@@ -150,13 +152,14 @@ class Joining:
 
     def _find_names(self, prefixes: dict[str, str]) -> None:
         """By which names other lines of the sources may mean an account, in the order of the sources."""
+        self._unix_users.update(self._directory.unix_users)
         for sid, account in self._by_sid.items():
-            if account.kind is Kind.GROUP and not sid.startswith(_UNIX):
+            if account.kind is Kind.GROUP and not sid.startswith(UNIX):
                 prefix = prefixes.get(domain_of(sid) or "")
                 full = [f"{prefix}\\{name}" for name in account.names if prefix]
                 for name in [*account.names, *account.full_names, *full]:
                     self._named_groups.setdefault(name.lower(), set()).add(sid)
-            elif account.kind is Kind.USER and sid.startswith(_UNIX):
+            elif account.kind is Kind.USER and sid.startswith(UNIX):
                 for name in account.names:
                     self._unix_users.setdefault(name, sid)
 
@@ -164,7 +167,7 @@ class Joining:
         """The names in their order, each once in any case."""
         account = self._by_sid[sid]
         names: dict[str, str] = {}
-        prefix = "BUILTIN" if sid.startswith(_BUILTIN) else prefix
+        prefix = "BUILTIN" if sid.startswith(BUILTIN) else prefix
         local = [f"{prefix}\\{name}" if prefix else name for name in sorted(account.names)]
         for name in [*local, *sorted(account.principal_names), *sorted(account.full_names)]:
             why = fault_of_name(name)
@@ -181,7 +184,8 @@ class Joining:
         for key, account in self._directory.accounts.items():
             domain = domain_of(account.sid or "") if account.kind in (Kind.USER, Kind.GROUP) else None
             if domain is not None and domain not in domains:
-                name = self._domain or (self._netbios(key[1]) if key[0] == "dn" else None)
+                of_directory = self._domain or (self._netbios(key[1]) if key[0] == "dn" else None)
+                name = self._directory.machines.get(domain, of_directory)
                 if name is not None:
                     domains[domain], place = name, account.place
         for name, count in Counter(domains.values()).items():

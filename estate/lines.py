@@ -32,15 +32,20 @@ def encoding_of(start: bytes) -> Encoding:
     return Encoding("utf-8", b"")
 
 
-def encoding_in(name: str) -> Encoding:
-    """The encoding of the file of this name, or Failed: also of a pipe, whose start can't be read twice."""
+def start_of(name: str, count: int) -> bytes:
+    """The first bytes of the file of this name, or Failed: also of a pipe, whose start can't be read twice."""
     try:
         if not stat.S_ISREG(os.stat(name).st_mode):
             raise Failed(f"{name}: it is no regular file")
         with open(name, "rb") as file:
-            return encoding_of(file.read(4))
+            return file.read(count)
     except OSError as error:
         raise Failed(f"{name}: {error.strerror}") from error
+
+
+def encoding_in(name: str) -> Encoding:
+    """The encoding of the file of this name, or Failed as `start_of` says."""
+    return encoding_of(start_of(name, 4))
 
 
 def lines_of(name: str, encoding: Encoding) -> Iterator[Line]:

@@ -6,6 +6,9 @@ the library, whose texts are aliases where a SID has one."""
 import re
 import struct
 
+#: How SIDs of groups of BUILTIN begin, of what Samba calls Unix users and groups, and of both.
+BUILTIN, UNIX_USER, UNIX_GROUP, UNIX = "S-1-5-32-", "S-1-22-1-", "S-1-22-2-", "S-1-22-"
+
 _TEXT = re.compile(r"S-1-(\d{1,15}|0x[0-9A-F]{12})((?:-\d{1,10}){1,15})", re.ASCII | re.IGNORECASE)
 #: [MS-DTYP] 2.4.2.1: a larger authority is hexadecimal.
 _MOST_DECIMAL = 0xFFFFFFFF

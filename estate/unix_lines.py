@@ -3,6 +3,8 @@
 import re
 from typing import NamedTuple
 
+from sids import UNIX_GROUP, UNIX_USER
+
 _NAMED = re.compile(r"(S-1(?:-\d+)+)\s+(?:->\s+)?(\S(?:.*\S)?)")
 #: What `wbinfo --lookup-sids` writes after a name: the kind of the account.
 _KIND = re.compile(r"(.*\S)\s+(\d+)")
@@ -46,9 +48,9 @@ def getent_line(line: str) -> PasswdLine | GroupLine | None:
     if len(cells) not in (4, 7) or not cells[0] or not _is_number(cells[2]):
         return None
     if len(cells) == 7:
-        group = f"S-1-22-2-{int(cells[3])}" if _is_number(cells[3]) else None
-        return PasswdLine(cells[0], f"S-1-22-1-{int(cells[2])}", group)
-    return GroupLine(cells[0], f"S-1-22-2-{int(cells[2])}", tuple(filter(None, cells[3].split(","))))
+        group = f"{UNIX_GROUP}{int(cells[3])}" if _is_number(cells[3]) else None
+        return PasswdLine(cells[0], f"{UNIX_USER}{int(cells[2])}", group)
+    return GroupLine(cells[0], f"{UNIX_GROUP}{int(cells[2])}", tuple(filter(None, cells[3].split(","))))
 
 
 def _is_number(text: str) -> bool:

@@ -14,7 +14,8 @@ from pathlib import Path
 HERE = Path(__file__).resolve().parent
 TOP = HERE.parents[1]
 TOOL = TOP / "estate"
-sys.path += [str(TOP / "tests/second"), str(TOOL), str(TOP / "bindings/python")]
+# (before the folder tests, which has a module forms too)
+sys.path[1:1] = [str(TOP / "tests/second"), str(TOOL), str(TOP / "bindings/python")]
 
 import attributes  # noqa: E402 (it is in one of these folders)
 import second  # noqa: E402
@@ -33,9 +34,19 @@ Names = tuple[str, ...]
 PATIENCE = 3000
 
 
-def estate(*words: str | Path, room: Path, by: Path = TOOL) -> "subprocess.CompletedProcess[str]":
+def python_with(module: str) -> str | None:
+    """A Python that has a module of Debian's, which may be one of the system's Python alone."""
+    for python in (sys.executable, "/usr/bin/python3"):
+        if subprocess.run([python, "-c", f"import {module}"], capture_output=True).returncode == 0:
+            return python
+    return None
+
+
+def estate(
+    *words: str | Path, room: Path, by: Path = TOOL, python: str = sys.executable
+) -> "subprocess.CompletedProcess[str]":
     """Runs the tool in a folder."""
-    command = [sys.executable, *map(str, (by, *words))]
+    command = [python, *map(str, (by, *words))]
     return subprocess.run(command, cwd=room, capture_output=True, text=True, timeout=PATIENCE)
 
 
@@ -208,6 +219,8 @@ class Case(unittest.TestCase):
     """A test with a folder of its own."""
 
     room: Path
+    #: The Python that runs the tool.
+    python = sys.executable
 
     def setUp(self) -> None:
         made = tempfile.TemporaryDirectory(prefix="estate.")
@@ -217,7 +230,7 @@ class Case(unittest.TestCase):
     def runs(self, status: int, *words: str | Path, says: str = "") -> list[str]:
         """Runs estate, whose status has to be this one and whose messages have to hold this text, and returns the lines
         of its standard output."""
-        ran = estate(*words, room=self.room)
+        ran = estate(*words, room=self.room, python=self.python)
         self.assertEqual(ran.returncode, status, f"{words}: {ran.stdout[-2000:]}{ran.stderr[-2000:]}")
         self.assertIn(says, ran.stderr)
         self.assertNotIn("Traceback", ran.stderr)

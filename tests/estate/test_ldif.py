@@ -179,7 +179,7 @@ class Ldif(Accounts):
         self.refuses(
             ("", "source: it has no line with an account"),
             ("# nothing\n\n", "source: it has no line with an account"),
-            ("hello\n", "line 1: LDIF, a CSV with a column SID, or what getent or wbinfo prints is expected"),
+            ("hello\n", "line 1: LDIF, a CSV with a column SID, a hive, or what getent, wbinfo, pdbedit or net prints"),
             (good + "cn: x\n", "line 6: 'dn: ..' is expected, and not 'cn'"),
             (good.rstrip() + "\n" + good, "line 5: a blank line is expected before the next entry"),
             (good.rstrip() + "\n-\n", "line 5: 'attribute: value' is expected, and not '-'"),

@@ -2,21 +2,14 @@
 
 import os
 import subprocess
-import sys
 
-from rig import HERE, Case, Names, node_form, read_form
+from rig import HERE, Case, Names, node_form, python_with, read_form
 from test_volumes import imports, spelled, wanted_after
 from trees import SY, Planted, allow, planted
 
-#: Samba's module is one of the system's Python.
-PYTHONS = (sys.executable, "/usr/bin/python3")
-
 
 def python_with_samba() -> str | None:
-    for python in PYTHONS:
-        if subprocess.run([python, "-c", "import samba.dcerpc.xattr"], capture_output=True).returncode == 0:
-            return python
-    return None
+    return python_with("samba.dcerpc.xattr")
 
 
 class Samba(Case):
