@@ -7,7 +7,6 @@ from sids import BUILTIN, UNIX_GROUP, UNIX_USER
 def settle_server(directory: Directory) -> None:
     if directory.is_of_server:
         _leave_out_builtin(directory)
-    if directory.unix_users:
         _join_unix_users(directory)
         _find_missing(directory)
 
@@ -39,8 +38,9 @@ def _join_unix_users(directory: Directory) -> None:
 
 def _find_missing(directory: Directory) -> None:
     """What no source says of the groups of Samba's users."""
-    everybody = "the users of pdbedit"
-    if not any((account.sid or "").startswith(UNIX_GROUP) for account in directory.accounts.values()):
+    everybody, has_users = "users of the server", bool(directory.unix_users)
+    has_groups = any((account.sid or "").startswith(UNIX_GROUP) for account in directory.accounts.values())
+    if (has_users or directory.has_mapping) and not has_groups:
         directory.missing.append(("Unix groups, which 'getent group' prints", everybody))
-    if not directory.has_mapping:
+    if has_users and not directory.has_mapping:
         directory.missing.append(("mapped groups, which 'net groupmap list verbose' prints", everybody))

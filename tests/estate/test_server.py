@@ -1,10 +1,15 @@
 """`estate accounts`: the accounts of a Samba server, as pdbedit and net of Samba 4.17 print them."""
 
+import os
+import pwd
+import shutil
+import subprocess
+
 from sources import BASE, Accounts, entry
 
 MACHINE = "S-1-5-21-1-2-3"
 ALICE, BOB = f"{MACHINE}-1000", f"{MACHINE}-1001"
-EVERYBODY = "the users of pdbedit"
+EVERYBODY = "users of the server"
 
 
 def pdbedit(unix_name: str, sid: str, flags: str = "[U          ]", name: str = "", domain: str = "FILES") -> str:
@@ -44,6 +49,33 @@ class Server(Accounts):
         self.assertEqual(self.accounts(*sources, says="3 users, 4 groups, 7 members, 1 disabled"), lines)
         self.assertEqual(self.accounts(*reversed(sources)), lines)
 
+    def test_what_samba_prints(self) -> None:
+        """Of a server with one user, who is disabled, and one group, by Samba's own tools."""
+        if os.geteuid() != 0 or not (shutil.which("pdbedit") and shutil.which("net")):
+            self.skipTest("root and the package samba are required")
+        folders = ("private dir", "lock directory", "state directory", "cache directory", "pid directory")
+        lines = ["netbios name = FILES", "passdb backend = tdbsam", *(f"{name} = {self.room}" for name in folders)]
+        config = self.write("smb.conf", "[global]\n" + "".join(f"{line}\n" for line in lines))
+
+        def prints(*words: str, given: str = "") -> str:
+            command = [words[0], "-s", str(config), *words[1:]]
+            return subprocess.run(command, input=given, capture_output=True, text=True, check=True).stdout
+
+        prints("pdbedit", "-a", "-t", "-u", "daemon", given="word\nword\n")
+        prints("pdbedit", "-r", "-u", "daemon", "-c", "[D]")
+        prints("net", "groupmap", "add", "ntgroup=All of us", f"sid={MACHINE}-1003", "unixgroup=daemon", "type=domain")
+        own, groups = prints("pdbedit", "-L", "-v"), prints("net", "groupmap", "list", "verbose")
+        user = pwd.getpwnam("daemon")
+        passwd, group = f"daemon:x:{user.pw_uid}:{user.pw_gid}::/:\n", f"daemon:x:{user.pw_gid}:\n"
+        lines = self.accounts(own, groups, passwd, group)
+        sid = lines[0].split(" ")[1]
+        self.assertEqual(lines[0], f"user {sid} FILES\\daemon")
+        self.assertIn(f"member {MACHINE}-1003 S-1-22-2-{user.pw_gid}", lines)
+        self.assertIn(f"member S-1-22-2-{user.pw_gid} {sid}", lines)
+        self.assertIn(f"member S-1-22-1-{user.pw_uid} {sid}", lines)
+        self.assertIn(f"group {MACHINE}-1003 All of us", lines)
+        self.assertEqual(lines[-2:], [f"primary {sid} {sid.rpartition('-')[0]}-513", f"disabled {sid}"])
+
     def test_what_no_source_says(self) -> None:
         lines = self.accounts(USERS, status=1, says="2 users, 0 groups, 0 members, 1 disabled; left out: 4 unknown")
         self.assertEqual(lines[:2], [f"user {ALICE} FILES\\alice", f"user {BOB} FILES\\Bob B."])
@@ -57,6 +89,8 @@ class Server(Accounts):
                 f"{unix}\t{BOB}",
             ],
         )
+        self.accounts(MAPPED, PASSWD, status=1)
+        self.assertEqual(self.rows, [f"unknown\tUnix groups, which 'getent group' prints\t{EVERYBODY}"])
         local = mapped("Local", f"{MACHINE}-1005", 50, "Local Group") + mapped("X", f"{MACHINE}-1006", 50, "User")
         self.accounts(USERS, local, PASSWD, GROUP, status=1)
         self.assertEqual(
