@@ -173,7 +173,7 @@ class _Words:
 
     def _check(self, paths: Sequence[str], user: str, mask: str, groups: Sequence[str]) -> _Talk[List[Verdict]]:
         given = [_spelled(path) for path in paths]
-        lines = yield from self._asked("checks", "0", str(len(given)), *given, user, mask, *groups)
+        lines = yield from self._asked("checks", "0", str(len(given)), *given, _spelled(user), mask, *groups)
         _, seen, said = lines[0].split(" ", 2)
         return [_verdict(each, int(seen)) for each in said.split(", ")] if given else []
 
@@ -195,7 +195,7 @@ class _Words:
         return int(said.split(" ")[1])
 
     def _why(self, path: str, user: str, mask: str, groups: Sequence[str]) -> _Talk[Tuple[Verdict, List[str]]]:
-        lines = yield from self._asked("why", "0", _spelled(path), user, mask, *groups)
+        lines = yield from self._asked("why", "0", _spelled(path), _spelled(user), mask, *groups)
         _, seen, said = lines[0].split(" ", 2)
         return _verdict(said, int(seen)), lines[1:]
 
@@ -204,7 +204,7 @@ class _Words:
         return said[3] if said[2] == "shown" else None
 
     def _find(self, path: str, user: str, mask: str, groups: Sequence[str]) -> _Talk[Optional[List[str]]]:
-        lines = yield from self._asked("find", "0", _spelled(path), user, mask, *groups)
+        lines = yield from self._asked("find", "0", _spelled(path), _spelled(user), mask, *groups)
         return None if lines[0].endswith(" nonode") else [unquote(line) for line in lines[1:]]
 
     def _of_node(self, command: str, path: str, *words: str) -> _Talk[Optional[List[str]]]:
@@ -221,6 +221,7 @@ def _word(word: str) -> str:
 
 
 def _spelled(path: str) -> str:
+    """A path, or the name of a user, as one word."""
     return quote_from_bytes(path.encode(), safe=_SAFE)
 
 
@@ -252,7 +253,8 @@ class Client(_Words):
         self._socket, self._rest = None, b""
 
     def check(self, path: str, user: str, mask: str, groups: Sequence[str] = ()) -> Verdict:
-        """Whether the user with these groups, privileges and restricting SIDs is granted the mask at the path."""
+        """Whether the user with these groups, privileges and restricting SIDs is granted the mask at the path. The user
+        is a SID; or, of a service with accounts, which takes no groups, the name of an account."""
         return self.checks([path], user, mask, groups)[0]
 
     def checks(self, paths: Sequence[str], user: str, mask: str, groups: Sequence[str] = ()) -> List[Verdict]:
