@@ -56,9 +56,14 @@ def _groups(request: Request) -> list[str]:
 
 
 def _token(request: Request) -> tuple[str, list[str]]:
-    """The user and the other words of a token."""
-    words = _groups(request)
-    return request.given.text("user"), words
+    """The user and the other words of a token. The name of an account may have blanks."""
+    words, given = _groups(request), request.given
+    return given.text("user") if request.service.questions.tokens.accounts is None else given.path("user"), words
+
+
+def _size(request: Request, user: str, words: list[str]) -> int:
+    """How many words a token has beside its user, though the client doesn't send them."""
+    return request.service.questions.tokens.size((user, *words)) - 1
 
 
 def _given(request: Request, *names: str) -> Given:
@@ -120,7 +125,8 @@ def _check(request: Request) -> None:
                 answers[at] = verdict
         return {"answers": answers}
 
-    is_long = len(words) > FEW_WORDS or len(words) * len(asked) > _WORDS_IN_LOOP
+    size = _size(request, user, words)
+    is_long = size > FEW_WORDS or size * len(asked) > _WORDS_IN_LOOP
     _ask(request, lines, is_long or restrict_long(words, len(checks)), made)
 
 
@@ -128,7 +134,7 @@ def _why(request: Request) -> None:
     given = _given(request, "user", "groups", "path", "mask")
     user, words = _token(request)
     line = ["why", "0", given.path("path"), user, given.text("mask"), *words]
-    _ask(request, [line], len(words) > FEW_WORDS, lambda said: dict(said[0]))
+    _ask(request, [line], _size(request, user, words) > FEW_WORDS, lambda said: dict(said[0]))
 
 
 def _show(request: Request) -> None:

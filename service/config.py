@@ -100,6 +100,8 @@ class Config:
     limits: Limits = Limits()
     #: Whether each check that isn't granted has a record in the log.
     logs_denials: bool = False
+    #: The file that says which groups a user has. Without one clients say so.
+    accounts: Path | None = None
 
 
 def read_config(file: Path) -> Config:
@@ -117,7 +119,7 @@ def read_config(file: Path) -> Config:
 
 
 def _config(given: dict[str, Any]) -> Config:
-    _know(given, {"folder", "listen", "leader", "redis", "limits", "log"}, "")
+    _know(given, {"folder", "listen", "accounts", "leader", "redis", "limits", "log"}, "")
     log = _typed(given, "log", dict, {})
     _know(log, {"denials"}, "log: ")
     listen = tuple(_listen(each) for each in _typed(given, "listen", list))
@@ -126,7 +128,18 @@ def _config(given: dict[str, Any]) -> Config:
         raise ValueError("listen: at least one is required, and each at a place of its own")
     limits = _limits(_typed(given, "limits", dict, {}))
     denials = _typed(log, "denials", bool, False)
-    return Config(Path(_typed(given, "folder", str)), listen, _source(given), limits, denials)
+    return Config(Path(_typed(given, "folder", str)), listen, _source(given), limits, denials, _accounts(given))
+
+
+def _accounts(config: dict[str, Any]) -> Path | None:
+    if "accounts" not in config:
+        return None
+    given = _typed(config, "accounts", dict)
+    _know(given, {"file"}, "accounts: ")
+    file = _typed(given, "file", str, "")
+    if not file:
+        raise ValueError("accounts: file: a path is required")
+    return Path(file)
 
 
 def _source(config: dict[str, Any]) -> Source | None:

@@ -6,7 +6,7 @@ from collections.abc import Iterator, Sequence
 from answers import Answer
 from connection import Connection, Place
 from errors import Fault
-from script import FEW_WORDS, LONG, OF_LINES, OF_WRITER, Reader
+from script import LONG, OF_LINES, OF_WRITER, Reader
 from service import Service
 from task import Task
 
@@ -67,7 +67,7 @@ class LineConnection(Connection):
                 return self._submit(words, tag)
             if self.in_progress:
                 return False
-            if words[0] in LONG or len(words) > FEW_WORDS and self.service.takes_long(words):
+            if words[0] in LONG or self.service.takes_long(words, self.caller):
                 self._start_long(words, tag)
                 return True
             answer = self.service.answer(words, self.caller, self._reader)

@@ -12,6 +12,7 @@ _BOUNDS = (0.000_025, 0.000_1, 0.000_5, 0.001, 0.005, 0.02, 0.1, 0.5, 2.5)
 
 
 _HELP = {
+    "accounts_age_seconds": "How long ago the accounts were read that users have their groups by.",
     "checks_total": "Checks by verdict.",
     "edits_total": "Edits by answer: ok, the name of a refusal, fault or unavailable.",
     "rejected_total": "Connections that were closed or not admitted, by reason.",

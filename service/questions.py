@@ -8,6 +8,7 @@ from collections.abc import Sequence
 import hudarin
 from hudarin import Group, KeptDescriptor, Refused, Sid, Token
 
+from accounts import Accounts
 from analysis import checked, descriptor_in
 from answers import Checked, CheckedAll, Described, Explained, Result
 from deadline import Deadline
@@ -30,43 +31,77 @@ _PRIVILEGES = {"+security": hudarin.SECURITY, "+take": hudarin.TAKE_OWNERSHIP}
 
 
 class Tokens:
-    """Tokens and masks by the words that spell them; the last used tokens are kept."""
+    """Tokens and masks by the words that spell them; the last used tokens are kept. With accounts a user has the groups
+    that these say, and no words."""
 
-    def __init__(self) -> None:
-        self._kept: OrderedDict[tuple[str, ...], Token] = OrderedDict()
+    def __init__(self, accounts: Accounts | None = None) -> None:
+        self.accounts = accounts
+        #: Each with its size.
+        self._kept: OrderedDict[tuple[str, ...], tuple[Token, int]] = OrderedDict()
         self._masks: dict[str, int] = {}
-        #: The words of all that are kept.
+        #: The sizes of all that are kept.
         self._count = 0
 
     def kept(self, mask: str, words: tuple[str, ...]) -> tuple[Token, int] | None:
         """The token of a user and words, and the mask, if both are kept."""
-        token, bits = self._kept.get(words), self._masks.get(mask)
-        if token is None or bits is None:
+        found, bits = self._kept.get(words), self._masks.get(mask)
+        if found is None or bits is None:
             return None
         self._kept.move_to_end(words)
-        return token, bits
+        return found[0], bits
 
     def parsed(self, mask: str, words: tuple[str, ...]) -> tuple[Token, int]:
         """The same, kept or not. Fault: the first that is none, from the user over the mask to the other words."""
         kept = self.kept(mask, words)
         if kept is not None:
             return kept
-        user, bits = sid_of(words[0]), self._mask(mask)
-        token = self._kept.get(words)
-        if token is None:
-            token = self._keep(words, _token(user, words[1:]))
-        self._kept.move_to_end(words)
-        return token, bits
+        sids, bits = self._sids(words), self._mask(mask)
+        return self._made(sids, words)[0], bits
+
+    def size(self, words: tuple[str, ...]) -> int:
+        """How many words spell the token, or how many SIDs the accounts give it: 0 if they give none."""
+        if self.accounts is None:
+            return len(words)
+        try:
+            return self._made(self._sids(words), words)[1]
+        except (Fault, MemoryError):
+            return 0
 
     def has(self, words: tuple[str, ...]) -> bool:
         """Whether the token is kept."""
         return words in self._kept
 
     def adopt(self, other: "Tokens") -> None:
-        """Keeps what the other one does, which isn't used any more."""
-        for words, token in other._kept.items():
+        """Keeps what the other one does, which isn't used any more; but nothing that is by other accounts."""
+        if other.accounts is not self.accounts:
+            return
+        for words, (token, size) in other._kept.items():
             if words not in self._kept:
-                self._keep(words, token)
+                self._keep(words, token, size)
+
+    def _sids(self, words: tuple[str, ...]) -> Sequence[Sid]:
+        """The user, and the groups that accounts give it; nothing where the token is kept."""
+        if words in self._kept:
+            return ()
+        return (sid_of(words[0]),) if self.accounts is None else self.accounts.sids(words[0])
+
+    def _made(self, sids: Sequence[Sid], words: tuple[str, ...]) -> tuple[Token, int]:
+        """The token, kept or of these SIDs, and its size."""
+        found = self._kept.get(words)
+        if found is None:
+            found = self._keep(words, *self._token(sids, words[1:]))
+        self._kept.move_to_end(words)
+        return found
+
+    def _token(self, sids: Sequence[Sid], words: Sequence[str]) -> tuple[Token, int]:
+        if self.accounts is None:
+            return _token(sids[0], words), len(words) + 1
+        # Here alone it is decided that what a client says of a user doesn't count.
+        if words:
+            raise Fault.of("groups")
+        if len(sids) > MOST_WORDS + 1:
+            raise Fault.of("token")
+        return Token(sids[0], sids[1:]), len(sids)
 
     def _mask(self, word: str) -> int:
         bits = mask_of(word)
@@ -76,14 +111,14 @@ class Tokens:
             self._masks[word] = bits
         return bits
 
-    def _keep(self, words: tuple[str, ...], token: Token) -> Token:
-        self._kept[words] = token
-        self._count += len(words)
+    def _keep(self, words: tuple[str, ...], token: Token, size: int) -> tuple[Token, int]:
+        self._kept[words] = token, size
+        self._count += size
         while self._count > _KEPT_WORDS:
-            old, stale = self._kept.popitem(last=False)
-            self._count -= len(old)
+            _, (stale, count) = self._kept.popitem(last=False)
+            self._count -= count
             stale.close()
-        return token
+        return token, size
 
 
 def mask_of(word: str) -> int:
@@ -133,15 +168,26 @@ def _token(user: Sid, words: Sequence[str]) -> Token:
 class Questions:
     """Answers by what readers see. Each raises a Fault for the first fault of its words, arguments from the left."""
 
-    def __init__(self, shown: Shown, store: str, mapping: Mapping, deadline: Deadline | None = None) -> None:
+    def __init__(
+        self, shown: Shown, store: str, mapping: Mapping, deadline: Deadline | None = None,
+        accounts: Accounts | None = None,
+    ) -> None:
         self.shown, self.store = shown, store
-        self.tokens, self.mapping = Tokens(), mapping
+        self.tokens, self.mapping = Tokens(accounts), mapping
         self._deadline = deadline
+
+    def take(self, accounts: Accounts) -> None:
+        """All questions from here on are answered by these accounts. The tokens that are kept were by those before."""
+        self.tokens = Tokens(accounts)
+
+    def gauges(self) -> dict[str, float]:
+        accounts = self.tokens.accounts
+        return {} if accounts is None else {"accounts_age_seconds": accounts.age}
 
     def beside(self, deadline: Deadline) -> "Questions":
         """The same, by a view of its own that is closed by itself: for a thread, up to the deadline."""
         shown = self.shown._replace(view=self.shown.view.share())
-        return Questions(shown, self.store, self.mapping, deadline)
+        return Questions(shown, self.store, self.mapping, deadline, self.tokens.accounts)
 
     def _token(self, mask: str, words: tuple[str, ...], paths: Sequence[str]) -> tuple[Token, int]:
         """The token of the words, a user first, and the mask, that aren't kept. The paths come before them."""
@@ -186,7 +232,8 @@ class Questions:
             if self._deadline is None:
                 verdicts = shown.view.check_all(paths, token, bits)
             else:
-                verdicts = list(checked(shown.view, paths, token, len(words), bits, self._deadline))
+                size = self.tokens.size(words)
+                verdicts = list(checked(shown.view, paths, token, size, bits, self._deadline))
         except Refused as refused:
             raise Fault(fault_of(refused)) from None
         return CheckedAll(shown.length, verdicts)

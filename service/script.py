@@ -32,6 +32,8 @@ MOST_PATHS = 1_000
 FEW_WORDS = 256
 #: So many paths of `checks` times restricting SIDs are answered in the loop.
 _SOUGHT_IN_LOOP = 4_096
+#: The questions that take long for a user of many groups; `check` and `delete` don't.
+_OF_GROUPS = frozenset({"checks", "why"})
 _A = TypeVar("_A")
 
 
@@ -80,13 +82,18 @@ def restrict_long(words: Sequence[str], paths: int) -> bool:
 
 def takes_long(words: Sequence[str], questions: Questions) -> bool:
     """Whether a question about a token is answered by another thread: the token has many words, and isn't just checked
-    at one path after it was parsed before."""
+    at one path after it was parsed before. With accounts a user of many groups has none."""
+    tokens = questions.tokens
+    if tokens.accounts is None and len(words) <= FEW_WORDS:
+        return False
+    is_several = words[0] == "checks" and len(words) > 2 and words[2].isascii() and words[2].isdigit()
+    paths = int(words[2]) if is_several and len(words[2]) < 5 else 0
+    if tokens.accounts is not None:
+        user = tuple(words[paths + 3 : paths + 4])
+        return words[0] in _OF_GROUPS and user != () and tokens.size(user) > FEW_WORDS + 1
     if words[0] == "checks":
-        is_several = len(words) > 2 and words[2].isascii() and words[2].isdigit() and len(words[2]) < 5
-        paths = int(words[2]) if is_several else 0
         return len(words) - paths > FEW_WORDS or restrict_long(words[paths + 3 :], paths)
-    is_kept = words[0] == "check" and questions.tokens.has((words[3], *words[5:]))
-    return len(words) > FEW_WORDS and not is_kept
+    return not (words[0] == "check" and tokens.has((words[3], *words[5:])))
 
 
 def reviewed_path(words: Sequence[str], questions: Questions) -> str:
@@ -178,9 +185,10 @@ def _status(words: Sequence[str], questions: Questions, reader: Reader) -> Answe
 def _find(words: Sequence[str], questions: Questions, reader: Reader, deadline: Deadline) -> Iterator[Answer]:
     number = number_of(words[1])
     shown, path = questions.shown, _path(words[2], questions)
-    token, bits = questions.tokens.parsed(words[4], (words[3], *words[5:]))
-    seen = _by_reader(number, shown.length, questions, reader)
-    return analysis.found(shown.view.share(), seen, path, token.share(), len(words) - 4, bits, deadline)
+    spelled = (words[3], *words[5:])
+    token, bits = questions.tokens.parsed(words[4], spelled)
+    seen, size = _by_reader(number, shown.length, questions, reader), questions.tokens.size(spelled)
+    return analysis.found(shown.view.share(), seen, path, token.share(), size, bits, deadline)
 
 
 def _list(words: Sequence[str], questions: Questions, reader: Reader, deadline: Deadline) -> Iterator[Answer]:

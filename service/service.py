@@ -16,6 +16,7 @@ import analysis
 import clock
 import leading
 import script
+from accounts import Accounts
 from answers import NO_MEMORY, NO_ROLE, Answer, Checked, CheckedAll, Result, Text, kind_of
 from caller import Caller
 from config import Config
@@ -56,7 +57,7 @@ _WARNING_SECONDS = 1.0
 class Service:
     """All calls but those that say otherwise are made in the event loop's thread."""
 
-    def __init__(self, config: Config, journal: Journal, state: Loaded, log: Log) -> None:
+    def __init__(self, config: Config, journal: Journal, state: Loaded, log: Log, accounts: Accounts | None) -> None:
         self.limits, self.log, self.metrics = config.limits, log, Metrics()
         self._logs_denials = config.logs_denials
         self._loop, self._thread = asyncio.get_running_loop(), threading.get_ident()
@@ -69,7 +70,7 @@ class Service:
             fresh_until=math.inf if source is None else -math.inf,
             stream=stream_of(source, name) if source is not None and source.stream else None,
         )
-        self._questions = Questions(self._writer.shown, journal.store, MAPPINGS[journal.mapping])
+        self.questions = Questions(self._writer.shown, journal.store, MAPPINGS[journal.mapping], accounts=accounts)
         self._long_answers = LongAnswers(config.limits.long_answers, config.limits.long_seconds)
         self.slots, self.held = Slots(config.limits), Held(config.limits.held_bytes)
         self._turns: weakref.WeakValueDictionary[str, Turn] = weakref.WeakValueDictionary()
@@ -85,11 +86,11 @@ class Service:
 
     @property
     def shown(self) -> Shown:
-        return self._questions.shown
+        return self.questions.shown
 
     @property
     def store(self) -> str:
-        return self._questions.store
+        return self.questions.store
 
     @property
     def is_ready(self) -> bool:
@@ -118,10 +119,10 @@ class Service:
         began = time.perf_counter()
         caller.require("check")
         # (to ask whether a replica is late takes longer than to see that a leader never is)
-        if self._questions.shown.fresh_until != math.inf:
+        if self.questions.shown.fresh_until != math.inf:
             self.require_fresh()
         try:
-            said = script.answer(words, self._questions, reader)
+            said = script.answer(words, self.questions, reader)
         except MemoryError:
             raise Fault(NO_MEMORY) from None
         if not self._is_counted(words, said, caller, began):
@@ -136,9 +137,9 @@ class Service:
                 return self.log.event("denial", who=caller.who, asked=" ".join(words), answer=said.line())
         return True
 
-    def takes_long(self, words: Sequence[str]) -> bool:
+    def takes_long(self, words: Sequence[str], caller: Caller) -> bool:
         """Whether a question that isn't about many nodes is answered by `long_checks`."""
-        return script.takes_long(words, self._questions)
+        return caller.may("check") and script.takes_long(words, self.questions)
 
     async def long_answer(
         self, words: Sequence[str], caller: Caller, reader: script.Reader, form: Form, hold: Hold
@@ -169,11 +170,11 @@ class Service:
 
         async def prepare(deadline: Deadline) -> Work:
             self._require_reads(caller)
-            return functools.partial(_answer_beside, lines, self._questions.beside(deadline), reader, found)
+            return functools.partial(_answer_beside, lines, self.questions.beside(deadline), reader, found)
 
         await self._made("edit" if caller.role == "edit" else "check", caller.who, prepare, hold)
         [(questions, answers)] = found
-        self._questions.tokens.adopt(questions.tokens)
+        self.questions.tokens.adopt(questions.tokens)
         if not all([self._is_counted(words, said, caller, began) for words, said in zip(lines, answers)]):
             raise Fault(NO_RECORD)
         return questions.shown, answers
@@ -205,13 +206,13 @@ class Service:
         self._require_reads(caller)
         if words[0] == script.REVIEW:
             return await self._review(words, deadline)
-        return _lines_beside(words, self._questions.beside(deadline), reader, deadline)
+        return _lines_beside(words, self.questions.beside(deadline), reader, deadline)
 
     async def _review(self, words: Sequence[str], deadline: Deadline) -> Iterator[Answer]:
-        path = script.reviewed_path(words, self._questions)
+        path = script.reviewed_path(words, self.questions)
         pending, between = await asyncio.wrap_future(self._writer.look())
         lines = leading.made_between(self._journal.file, *between)
-        return analysis.reviewed(pending, lines, path, self._questions.mapping, deadline)
+        return analysis.reviewed(pending, lines, path, self.questions.mapping, deadline)
 
     def _require_reads(self, caller: Caller) -> None:
         """Fault: the client may not ask, or a replica knows too little."""
@@ -321,7 +322,7 @@ class Service:
         """Readers see it from here on, unless they see what was committed later."""
         old = self.shown
         if commits > self._shown_commits:
-            self._shown_commits, self._questions.shown = commits, shown
+            self._shown_commits, self.questions.shown = commits, shown
             if old.view is not shown.view:
                 self._writer.retired.append(old.view)
 
@@ -367,7 +368,7 @@ class Service:
     def metrics_text(self) -> str:
         shown = self.shown
         following = {} if self._following is None else self._following.gauges()
-        return self.metrics.text(following | {
+        return self.metrics.text(following | self.questions.gauges() | {
             "published_length": shown.length,
             "published_line": shown.place.number,
             "epoch": shown.epoch,

@@ -12,6 +12,7 @@ from pathlib import Path
 from typing import Any
 
 import formats
+from accounts import Accounts, FileReader, read_accounts
 from config import Config, read_config
 from errors import Failed, Invalid, Mismatch, ServiceError
 from following import make_replica
@@ -44,6 +45,10 @@ def serve(file: Path) -> int:
 def _serve_with(file: Path, config: Config, log: Log) -> int:
     _raise_limit(config.limits.connections + len(config.listen) * config.limits.handshakes + _OTHER_FILES)
     sys.setswitchinterval(_SWITCH_SECONDS)
+    accounts = None
+    if config.accounts is not None:
+        accounts = read_accounts(config.accounts)
+        log.event("accounts", file=str(config.accounts))
     began = time.monotonic()
     if config.source is not None and not (config.folder / DATABASE).exists():
         make_replica(config.source, config.folder)
@@ -53,21 +58,24 @@ def _serve_with(file: Path, config: Config, log: Log) -> int:
         seconds = round(time.monotonic() - began, 3)
         place = {"epoch": state.epoch, "line": state.last.number, "length": state.tree.length}
         log.event("loaded", store=journal.store, **place, seconds=seconds)
-        failure = asyncio.run(_serve(file, config, journal, state, log))
+        failure = asyncio.run(_serve(file, config, journal, state, log, accounts))
         if failure is not None:
             raise failure
     return 0
 
 
-async def _serve(file: Path, config: Config, journal: Journal, state: Loaded, log: Log) -> Mismatch | None:
+async def _serve(
+    file: Path, config: Config, journal: Journal, state: Loaded, log: Log, accounts: Accounts | None
+) -> Mismatch | None:
     """Serves until a signal, or until a replica has a failure, which is returned."""
     asyncio.get_running_loop().set_exception_handler(lambda _, what: log.event("error", text=_text(what)))
-    service = Service(config, journal, state, log)
+    service = Service(config, journal, state, log, accounts)
+    reader = None if accounts is None else FileReader(service.questions.take, log)
     listeners: list[Listener] = []
     try:
         for listen in config.listen:
             listeners.append(Listener(listen, service))
-        stop = _on_signals(file, listeners, log)
+        stop = _on_signals(file, listeners, reader, log)
         _notify("READY=1")
         log.event("ready", listen=[each.name for each in listeners])
         while not stop.is_set() and service.failure is None:
@@ -91,26 +99,33 @@ def _text(what: dict[str, Any]) -> str:
     return f"{what.get('message')}: {what.get('exception')!r}"
 
 
-def _on_signals(file: Path, listeners: list[Listener], log: Log) -> asyncio.Event:
+def _on_signals(file: Path, listeners: list[Listener], reader: FileReader | None, log: Log) -> asyncio.Event:
     """An event that SIGTERM and SIGINT set; SIGHUP reads the configuration again."""
     stop, loop = asyncio.Event(), asyncio.get_running_loop()
     for each in (signal.SIGTERM, signal.SIGINT):
         loop.add_signal_handler(each, stop.set)
-    loop.add_signal_handler(signal.SIGHUP, lambda: _reload(file, listeners, log))
+    loop.add_signal_handler(signal.SIGHUP, lambda: _reload(file, listeners, reader, log))
     return stop
 
 
-def _reload(file: Path, listeners: list[Listener], log: Log) -> None:
-    """Takes certificates and lists from the file. If something in it is invalid all stays as it is."""
+def _reload(file: Path, listeners: list[Listener], reader: FileReader | None, log: Log) -> None:
+    """Takes certificates and lists from the file, and accounts from the one that it names. If something in the former
+    is invalid all stays as it is."""
     try:
-        found = {each.name: each for each in read_config(file).listen}
+        config = read_config(file)
+        found = {each.name: each for each in config.listen}
         made = [each.configured(found[each.listen.name]) for each in listeners]
+        if (config.accounts is None) != (reader is None):
+            # (whom it trusts is nothing that a service changes while it answers)
+            raise Invalid("accounts: a table is added, or removed, by a restart")
     except (ServiceError, KeyError) as error:
         log.event("warning", text=f"the configuration isn't taken: {error}")
         return
     for listener, configured in zip(listeners, made):
         listener.configure(configured)
     log.event("reloaded")
+    if reader is not None and config.accounts is not None:
+        reader.read(config.accounts)
 
 
 async def _drain(listeners: list[Listener]) -> None:

@@ -39,10 +39,19 @@ def path_of(word: str) -> str:
         return word
     if "%2f" in word.lower():
         raise Fault.of("path")
+    return _decoded(word, "path")
+
+
+def name_of(word: str) -> str:
+    """The name of an account that a word spells, or the SID. Fault: it isn't UTF-8."""
+    return _decoded(word, "user")
+
+
+def _decoded(word: str, what: str) -> str:
     try:
         return unquote_to_bytes(word).decode()
     except UnicodeDecodeError:
-        raise Fault.of("path") from None
+        raise Fault.of(what) from None
 
 
 def descriptor_of(word: str) -> Descriptor:

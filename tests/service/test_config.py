@@ -16,6 +16,11 @@ REJECTED = (
     ("[limits]\nconnections = 0", "connections: a whole number of at least 1"),
     ("[limits]\nconnections = true", "connections: a whole number of at least 1"),
     ("[log]\ndenials = 1", "denials: a value of the type bool"),
+    ("[accounts]", "accounts: file: a path is required"),
+    ('[accounts]\nfile = ""', "accounts: file: a path is required"),
+    ("[accounts]\nfile = true", "file: a value of the type str"),
+    ('[accounts]\nfile = "a"\ngroups = "b"', "accounts: 'groups' is unknown"),
+    ('[[accounts]]\nfile = "a"', "accounts: a value of the type dict"),
     (LISTEN, "each at a place of its own"),
     ('[leader]\nunix = "a\\u0000b"', "unix: a text without NUL"),
     (f'[[listen]]\nunix = "{"x" * 108}"\nprotocol = "http"', f"listen: unix: '{'x' * 108}' has more than 107 bytes"),
@@ -54,9 +59,11 @@ class Configs(rig.Case):
         """As it stands, and with what it has as comments."""
         sample = (rig.SERVICE / "sdstored.toml").read_text()
         self.config.write_text(sample)
-        self.assertEqual((len(read_config(self.config).listen), read_config(self.config).source), (3, None))
+        found = read_config(self.config)
+        self.assertEqual((len(found.listen), found.source, found.accounts), (3, None, None))
         self.config.write_text(re.sub(r"^# (?=\[|\w+ = )", "", sample, flags=re.MULTILINE))
         self.assertEqual(read_config(self.config).listen[3].name, "0.0.0.0:7391")
+        self.assertEqual(str(read_config(self.config).accounts), "/etc/sdstored/accounts")
         self.assertEqual(read_config(self.config).source, Source("/run/redis/redis-server.sock", stream="sdstored"))
 
     def test_sources(self) -> None:

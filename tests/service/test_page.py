@@ -150,7 +150,7 @@ class Page(rig.Case):
         groups = asked("rules")["groups"]
         self.wait_until(lambda: all(each["health"] == "ok" for each in asked("rules")["groups"][0]["rules"]))
         self.assertEqual([each["name"] for each in groups[0]["rules"]],
-                         ["SdstoredIsDown", "SdstoredTakesNoEdits", "SdstoredReplicaIsLate"])
+                         ["SdstoredIsDown", "SdstoredTakesNoEdits", "SdstoredReplicaIsLate", "SdstoredHasOldAccounts"])
         self.assertEqual(asked("alerts")["alerts"], [])
 
 

@@ -289,8 +289,8 @@ class Replicas(rig.Case):
     def test_a_suspended_machine(self) -> None:
         """The time in which it was suspended counts, as CLOCK_MONOTONIC doesn't."""
         service = Service.__new__(Service)
-        service._questions = mock.Mock()
-        service._questions.shown.fresh_until = time.clock_gettime(time.CLOCK_BOOTTIME) + 10
+        service.questions = mock.Mock()
+        service.questions.shown.fresh_until = time.clock_gettime(time.CLOCK_BOOTTIME) + 10
         service.require_fresh()
         clock = time.clock_gettime
         with mock.patch("time.clock_gettime", lambda which: clock(which) + 60 * (which == time.CLOCK_BOOTTIME)):
