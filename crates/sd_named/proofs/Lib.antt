@@ -1,1 +1,2 @@
 pub mod Trustees
+mod Once

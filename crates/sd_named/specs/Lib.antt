@@ -1,3 +1,5 @@
 pub mod Trustee
 pub mod Word
 pub mod Arguments
+pub mod File
+pub mod Sids

@@ -81,7 +81,8 @@ pub(crate) fn added_texts(
     Ok(named)
 }
 
-fn added(
+/// The groups that are added: those of which no word speaks, and that aren't among the others.
+pub(crate) fn added(
     alloc: Global,
     role: Role,
     ones: &[NamedWord],

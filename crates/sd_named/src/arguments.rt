@@ -133,7 +133,7 @@ impl Naming<'_> {
     }
 
     /// The user whom the text means, with an account that isn't disabled.
-    fn user(&self, text: &str) -> Result<Sid, NamedError>
+    pub(crate) fn user(&self, text: &str) -> Result<Sid, NamedError>
         ensures user { IfOk result (λ sid. Means (rows_of self.now.accounts.now) self.now.known text.now sid
             × MayLogOn (rows_of self.now.accounts.now) sid) }
         ensures none { (words : List (Bor (List ℕ))) → IfErr result

@@ -1,4 +1,5 @@
-//! Names in the words of a command line: SIDs in the place of the names of accounts, and the groups that a user has.
+//! Names in the words of a command line: SIDs in the place of the names of accounts, and the groups that a user has;
+//! also the accounts of a file's text, and the SIDs of a user's token.
 //!
 //! ```text
 //! let naming = Naming { alloc, accounts: &accounts, known };
@@ -9,13 +10,16 @@
 
 mod added;
 mod arguments;
+mod file;
 mod lending;
 mod logon;
+mod sids;
 mod trustee;
 mod well_known;
 mod word;
 
 pub use arguments::{NamedError, NamedWords, Naming};
+pub use file::{FileError, accounts_of};
 pub use lending::lent;
 pub use trustee::trustee_of;
 pub use well_known::WELL_KNOWN;
