@@ -113,7 +113,12 @@ typedef enum hudarin_status {
     HUDARIN_TYPES = 24,
     /* A whole descriptor can't be decided for the question: the fault is HUDARIN_UNDECIDED_.. Of an entry of the DACL it
      * is of the first such one, whose index is `place`. */
-    HUDARIN_UNDECIDED = 25
+    HUDARIN_UNDECIDED = 25,
+    /* A line of an accounts file is no row: the fault is HUDARIN_ROW_.., of the first such line, whose number, from 1, is
+     * `place`. */
+    HUDARIN_ROW = 26,
+    /* A text means no user that may log on: the fault is HUDARIN_ACCOUNT_... */
+    HUDARIN_ACCOUNT = 27
 } hudarin_status;
 
 /* ---- Faults of a text (HUDARIN_TEXT) */
@@ -234,6 +239,34 @@ typedef enum hudarin_undecided_fault {
      * an unknown type, or a label that can't be read. */
     HUDARIN_UNDECIDED_MAY_BE_DENIED = 7
 } hudarin_undecided_fault;
+
+/* ---- Why a line of an accounts file is no row (HUDARIN_ROW) */
+
+typedef enum hudarin_row_fault {
+    /* It begins with none of user, group, member, primary, disabled and #. */
+    HUDARIN_ROW_KEYWORD = 1,
+    /* A SID is missing, or a word is none. */
+    HUDARIN_ROW_SID = 2,
+    /* The name is missing, or has a control character. */
+    HUDARIN_ROW_NAME = 3,
+    /* Something follows the last SID. */
+    HUDARIN_ROW_SURPLUS = 4,
+    /* It says that rows are missing. */
+    HUDARIN_ROW_INCOMPLETE = 5
+} hudarin_row_fault;
+
+/* ---- Why a text means no user that may log on (HUDARIN_ACCOUNT) */
+
+typedef enum hudarin_account_fault {
+    /* It is no SID, and the name of no account. */
+    HUDARIN_ACCOUNT_UNKNOWN = 1,
+    /* It may mean two accounts. */
+    HUDARIN_ACCOUNT_AMBIGUOUS = 2,
+    /* The SID that it means is no user's. */
+    HUDARIN_ACCOUNT_NO_USER = 3,
+    /* The user's account is disabled. */
+    HUDARIN_ACCOUNT_DISABLED = 4
+} hudarin_account_fault;
 
 /* ---- Arguments of a check: the number of the invalid one, in an answer's `argument` */
 
@@ -504,7 +537,7 @@ typedef struct hudarin_written {
     uint32_t status;
     uint32_t fault;  /* HUDARIN_TEXT_.., HUDARIN_WIRE_.. or another of the status, else 0 */
     uint64_t place;  /* of HUDARIN_TEXT the fault's byte offset, of HUDARIN_UTF8 the number of valid bytes, of
-                        HUDARIN_NO_TEXT and HUDARIN_NOT_PLAIN an entry's index, else 0 */
+                        HUDARIN_NO_TEXT and HUDARIN_NOT_PLAIN an entry's index, of HUDARIN_ROW the line, else 0 */
     uint64_t length; /* with HUDARIN_OK as the call says, with HUDARIN_ROOM the bytes required, else 0 */
 } hudarin_written;
 
@@ -660,6 +693,11 @@ typedef struct hudarin_token {
 typedef struct hudarin_client {
     hudarin_kept kept;
 } hudarin_client;
+
+/* Keeps the accounts of a file: who has which name, and who is in which group. */
+typedef struct hudarin_accounts {
+    hudarin_kept kept;
+} hudarin_accounts;
 
 /* Keeps a store. */
 typedef struct hudarin_store {
@@ -987,9 +1025,36 @@ HUDARIN_ANSWERS hudarin_explanation hudarin_explain_whole(const void *descriptor
                                                           size_t self_length, hudarin_mapping mapping, uint32_t asked)
     HUDARIN_NONNULL(3);
 
+/*
+ * Keeps the accounts of an accounts file's text, which is UTF-8, and those that Windows has everywhere: what sdstore's
+ * option --accounts takes. A line is "user SID NAME", "group SID NAME", "member GROUP MEMBER", "primary USER GROUP" or
+ * "disabled USER"; empty, or a comment after "#". With HUDARIN_ROW, of a line "incomplete" too, `place` is the number of
+ * the first line that is none, from 1. The handle is tested first. The answer's `length` is 0.
+ */
+HUDARIN_ANSWERS hudarin_written hudarin_keep_accounts(const char *text, size_t text_length, hudarin_accounts *accounts)
+    HUDARIN_NONNULL(3);
+
+/*
+ * The bytes of the SIDs in the token of a user that logged on, concatenated: first the user's own, then those of the
+ * groups that it really has, directly and by other groups, with Everyone (S-1-1-0) and Authenticated Users (S-1-5-11)
+ * and theirs, each once. A guest isn't an authenticated user, and who is anonymous is neither. `user` is UTF-8: the name
+ * of an account, as "EXAMPLE\alice", or a SID, which may have the aliases of the domain whose SID is at the front of
+ * `domain`. If `domain_length` is 0 there is no domain. The handle is tested first; then the arguments are parsed in
+ * their order. HUDARIN_ACCOUNT if that is no user, or one that may not log on: nobody is given a token by mistake.
+ */
+HUDARIN_ANSWERS hudarin_written hudarin_account_sids(hudarin_accounts *accounts, const void *domain,
+                                                     size_t domain_length, const char *user, size_t user_length,
+                                                     void *room, size_t room_length)
+    HUDARIN_NONNULL(1);
+
+/* The users that may log on, in the file's order and after them those that Windows has everywhere: a line for each, its
+ * SID in full, a blank, its name, and a newline. No name has a control character. */
+HUDARIN_ANSWERS hudarin_written hudarin_account_users(hudarin_accounts *accounts, char *room, size_t room_length)
+    HUDARIN_NONNULL(1);
+
 /* Makes `other` another handle of what `handle` keeps, as for another thread: nothing is copied, and the object is
  * freed with its last handle. HUDARIN_HANDLE if `handle` keeps nothing, a store or lines, or `other` is in use. The
- * answer's `length` is 0. The four below do the same for each other kind. */
+ * answer's `length` is 0. The five below do the same for each other kind. */
 HUDARIN_ANSWERS hudarin_written hudarin_share(hudarin_kept *handle, hudarin_kept *other)
     HUDARIN_NONNULL(1, 2);
 
@@ -1008,6 +1073,12 @@ static inline HUDARIN_ANSWERS hudarin_written hudarin_token_share(hudarin_token 
 
 /* Another handle of a client. */
 static inline HUDARIN_ANSWERS hudarin_written hudarin_client_share(hudarin_client *handle, hudarin_client *other)
+{
+    return hudarin_share(&handle->kept, &other->kept);
+}
+
+/* Another handle of accounts. */
+static inline HUDARIN_ANSWERS hudarin_written hudarin_accounts_share(hudarin_accounts *handle, hudarin_accounts *other)
 {
     return hudarin_share(&handle->kept, &other->kept);
 }

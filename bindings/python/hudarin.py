@@ -7,8 +7,8 @@
     (True, 'granted 0x120089')
 
 A ``Sid``, a ``Descriptor`` and a ``WholeDescriptor`` are values: they never change, and are compared, copied and
-pickled by their bytes. A ``Token``, a ``Client``, a ``KeptDescriptor``, a ``Store`` and a ``View`` hold memory of the
-library until they are closed, and can't be copied. Any number of threads may use this module.
+pickled by their bytes. A ``Token``, a ``Client``, ``Accounts``, a ``KeptDescriptor``, a ``Store`` and a ``View`` hold
+memory of the library until they are closed, and can't be copied. Any number of threads may use this module.
 
 A value of the wrong type is a TypeError. A number out of range is a ValueError. What the library rejects is a
 ``Refused``, which is a ValueError too. Out of memory is a MemoryError.
@@ -33,6 +33,7 @@ __version__ = "0.2.0"
 __all__ = [
     "ARGUMENTS",
     "Access",
+    "Accounts",
     "CAUSES",
     "Change",
     "Client",
@@ -110,6 +111,8 @@ STATUSES = {
     23: "unended",
     24: "types",
     25: "undecided",
+    26: "row",
+    27: "account",
 }
 VERDICTS = {1: "granted", 2: "denied", 3: "reserved", 4: "empty"}
 ARGUMENTS = {
@@ -165,8 +168,8 @@ PROCESSES = (0x20410, 0x20BEA, 0x121001, 0x1FFFFF)
 OF_OWNER, OF_GROUP, OF_DACL, OF_SACL = 0x1, 0x2, 0x4, 0x8
 
 _MAXIMUM_ALLOWED = 0x02000000
-_MEMORY, _ROOM, _TEXT, _HANDLE, _NO_NODE, _NO_PART = 1, 2, 4, 11, 16, 18
-_WITH_FAULTS = (_TEXT, 5, 6, 13, 15, 19, 20, 21, 25)
+_MEMORY, _ROOM, _TEXT, _SID, _HANDLE, _NO_NODE, _DOMAIN, _NO_PART = 1, 2, 4, 6, 11, 16, 17, 18
+_WITH_FAULTS = (_TEXT, 5, 6, 13, 15, 19, 20, 21, 25, 26, 27)
 _CONTAINER = 1
 _LIST, _ALLOW, _PROTECTED = 3, 1, 0x1000
 _LISTS = {1: "DACL", 2: "SACL"}
@@ -352,6 +355,9 @@ def _load() -> ctypes.CDLL:
         "keep_bytes": (given + [kept], _Written),
         "keep_token": (token + [kept], _Verdict),
         "keep_client": (given * 3 + [kept], _Verdict),
+        "keep_accounts": (given + [kept], _Written),
+        "account_sids": ([kept] + given * 2 + buffer, _Written),
+        "account_users": ([kept] + buffer, _Written),
         "descriptor_owner": ([kept] + buffer, _Written),
         "descriptor_group": ([kept] + buffer, _Written),
         "descriptor_dacl": ([kept], _Dacl),
@@ -419,7 +425,8 @@ def _fault_names(status: int) -> Iterator[str]:
 
 #: The names of faults, by status and in the order of their numbers, which count from 1: of a text (SDDL, a SID or a
 #: mask), of a descriptor's bytes, of a SID's bytes, of a path, of an edit that the tree refuses, of the limits of a
-#: store, of what has no text, of an entry that isn't plain, and of a DACL that can't be decided.
+#: store, of what has no text, of an entry that isn't plain, of a DACL that can't be decided, of a line of accounts, and
+#: of a text that means no user.
 FAULTS = {STATUSES[status]: tuple(_fault_names(status)) for status in _WITH_FAULTS}
 
 
@@ -432,10 +439,11 @@ class Refused(ValueError):
     fault: int
     #: The fault's name in ``FAULTS``, or None.
     name: Optional[str]
-    #: Of a text the offset of the fault in bytes, of groups, restricting SIDs, words and entries the index; otherwise 0.
+    #: Of a text the offset of the fault in bytes, of groups, restricting SIDs, words and entries the index, of accounts
+    #: the number of the line, from 1; otherwise 0.
     place: int
-    #: The name of the argument in ``ARGUMENTS``, or None. Of what has no text or isn't plain its list, "DACL" or
-    #: "SACL".
+    #: The name of the argument in ``ARGUMENTS``, or "accounts", or None. Of what has no text or isn't plain its list,
+    #: "DACL" or "SACL".
     argument: Optional[str]
 
     def __init__(
@@ -850,6 +858,70 @@ class Client(_Held):
 
     def share(self) -> "Client":
         """Another client of the same user and words, which is closed by itself."""
+        return self._share()
+
+
+def _joined(data: bytes) -> Iterator[Sid]:
+    """The SIDs whose bytes are concatenated."""
+    at = 0
+    while at < len(data):
+        end = at + 8 + 4 * data[at + 1]
+        yield Sid._of(data[at:end])
+        at = end
+
+
+def _of_accounts(answer: Any) -> str:
+    """The argument of a call over accounts that the answer rejects."""
+    return {_SID: "domain", _DOMAIN: "domain", _HANDLE: "accounts"}.get(answer.status, "user")
+
+
+class Accounts(_Held):
+    """Who has which name, and who is in which group: the accounts of a file's text, which ``sdstore --accounts`` takes
+    too, and those that Windows has everywhere. It is used in a ``with``, or until ``close``. A line that is no row, or
+    that says that rows are missing, is ``Refused`` as "row", with its number, from 1, as the ``place``. Threads take
+    turns at it, or use a ``share`` each."""
+
+    __slots__ = ()
+
+    _argument = "accounts"
+    _uncopied = "share makes another"
+
+    def __init__(self, text: str) -> None:
+        given = _text(text)
+        with self._turn:
+            _checked(_library.hudarin_keep_accounts(given, len(given), self._kept), argument=self._argument)
+
+    def sids(self, user: str, domain: Optional[Sid] = None) -> Tuple[Sid, ...]:
+        """The SIDs in the token of a user that logged on, each once: first the user's own, then Everyone, Authenticated
+        Users, and the groups that the user really has. The user is the name of an account, with its domain or without,
+        or a SID's text; with a ``domain`` the aliases of that domain's accounts, as "LA", are SIDs of it. Who may not
+        log on is ``Refused`` as "account": "Unknown", "Ambiguous", "NoUser" or "Disabled"."""
+        given, sid = _text(user), b"" if domain is None else bytes(_of_type(domain, Sid, "domain"))
+        call = _library.hudarin_account_sids
+        with self._turn:
+            joined = _filled(
+                lambda *buffer: call(self._kept, sid, len(sid), given, len(given), *buffer), argument=_of_accounts
+            )
+        return tuple(_joined(joined[0]))
+
+    def token(
+        self, user: str, domain: Optional[Sid] = None, privileges: int = 0, restricting: Iterable[Sid] = ()
+    ) -> Token:
+        """The ``Token`` of these SIDs, with all groups enabled, until it is closed."""
+        own, *groups = self.sids(user, domain)
+        return Token(own, groups, privileges, restricting)
+
+    def users(self) -> Tuple[Tuple[Sid, str], ...]:
+        """The users that may log on, in the file's order and after them those that Windows has everywhere, each with a
+        name."""
+        with self._turn:
+            call = _library.hudarin_account_users
+            text = _filled(lambda *buffer: call(self._kept, *buffer), argument=_of_accounts)[0].decode()
+        lines = (line.partition(" ") for line in text.split("\n")[:-1])
+        return tuple((Sid.from_text(sid), name) for sid, _, name in lines)
+
+    def share(self) -> "Accounts":
+        """Another object that holds the same accounts, which is closed by itself."""
         return self._share()
 
 

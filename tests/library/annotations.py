@@ -11,6 +11,7 @@ from hudarin import (
     OF_OWNER,
     OF_SACL,
     Access,
+    Accounts,
     Change,
     Client,
     Comparison,
@@ -66,6 +67,10 @@ data: Tuple[bytes, ...] = tuple(entry.data + bytes(entry) for entry in audits or
 trustees: Tuple[Optional[Sid], ...] = (whole.owner, whole.group)
 with Client(user, ["BU", "level=low"], domain=user) as client:
     whole_verdict: Verdict = whole.check(client.share(), "FR", [UUID(int=0), ""], principal_self=user, mapping=FILES)
+with Accounts("") as accounts, accounts.share() as same:
+    known: Tuple[Sid, ...] = accounts.sids("SYSTEM", domain=user)
+    named: Tuple[Tuple[Sid, str], ...] = same.users()
+    logged_on: Token = accounts.token("SYSTEM", user, privileges=1, restricting=[user])
 copied: Descriptor = Descriptor(descriptor)
 small: Store = Store(descriptor, FILES, nodes=2, edits=3)
 
@@ -110,6 +115,9 @@ whole.with_entries(descriptor.entries or ())  # type: ignore
 whole.with_entries((), "2")  # type: ignore
 number: int = whole.dacl_revision  # type: ignore
 Client(user, [user])  # type: ignore
+Accounts(b"")  # type: ignore
+accounts.sids(user)  # type: ignore
+accounts.token("SYSTEM", "S-1-5-21-1-2-3")  # type: ignore
 whole.check(token)  # type: ignore
 whole.check(client, types=[b""])  # type: ignore
 whole.sacl[0].text.lower()  # type: ignore

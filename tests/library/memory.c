@@ -8,8 +8,8 @@
 /* The three before CHECK keep lines; it and those after it check, or keep something by which a check is made. */
 enum call {
     TO_BYTES, TO_SDDL, CANONICAL, LENGTH, WHOLE_BYTES, WHOLE_TEXT, WHOLE_AT, PLAIN, JOINED, LISTED, TRUSTEE, ACE, SID_BYTES, SID_TEXT,
-    FULL_TEXT, MASK_TEXT, OWNER, ENTRY, SUBJECT, LINE, OBJECT, VALUE, WHO, LINT, COMPARE, CHECK, CHECK_WHOLE, KEEP_SDDL, KEEP_BYTES, KEEP_TOKEN,
-    KEEP_CLIENT, SHARE
+    FULL_TEXT, MASK_TEXT, OWNER, ENTRY, SUBJECT, LINE, OBJECT, VALUE, KEEP_ACCOUNTS, ACCOUNT_SIDS, ACCOUNT_USERS, WHO, LINT, COMPARE, CHECK,
+    CHECK_WHOLE, KEEP_SDDL, KEEP_BYTES, KEEP_TOKEN, KEEP_CLIENT, SHARE
 };
 
 /* A call, what it is given, and what it answers: what it writes, NULL where that isn't looked at, and how much; a fault of a
@@ -33,6 +33,13 @@ typedef struct row {
 
 /* Its second entry does nothing. */
 #define DOUBLED "D:(A;;FR;;;BU)(A;;FR;;;BU)"
+
+/* alice is in BUILTIN\Users. */
+#define ACCOUNTS "user S-1-5-21-1-2-3-1001 A\\alice\nmember S-1-5-32-545 S-1-5-21-1-2-3-1001\n"
+#define ALICE "010500000000000515000000010000000200000003000000e9030000"
+#define USERS                                                                                                      \
+    "S-1-5-21-1-2-3-1001 A\\alice\nS-1-5-7 NT AUTHORITY\\ANONYMOUS LOGON\nS-1-5-18 NT AUTHORITY\\SYSTEM\n"     \
+    "S-1-5-19 NT AUTHORITY\\LOCAL SERVICE\nS-1-5-20 NT AUTHORITY\\NETWORK SERVICE\n"
 
 static const char row_1[] = "010004801400000024000000000000003000000001020000000000052000000020020000010100000000000512000000"
                             "02001c000100000000001400ff011f00010100000000000100000000";
@@ -80,6 +87,9 @@ static const row rows[] = {
     { OBJECT, CHECKED, "{\"answer\":\"who\",\"mask\":\"0x2\",\"to\":\"S-1-5-21-1-2-3-1001\"}\n", 57, 0, 0 },
     { VALUE, "to", "0105000000000005150000000100000002000000" "03000000e9030000", 28, 0, 0 },
     { VALUE, "answer", "77686f", 3, 0, 0 },
+    { KEEP_ACCOUNTS, ACCOUNTS, NULL, 0, 0, 0 },
+    { ACCOUNT_SIDS, "alice", ALICE "010100000000000100000000" "01010000000000050b000000" "01020000000000052000000021020000", 68, 0, 0 },
+    { ACCOUNT_USERS, ACCOUNTS, USERS, sizeof USERS - 1, 0, 0 },
     { WHO, CHECKED, "0x1 to nobody\n0x2 to S-1-5-21-1-2-3-1001\n", 41, 0, 0 },
     { LINT, DOUBLED, "entry 2 (A;;FR;;;BU) repeats entry 1\nentry 2 (A;;FR;;;BU) has no effect\n", 72, 0, 0 },
     { COMPARE, CHECKED, "lost 0x2 by S-1-5-21-1-2-3-1001\n", 32, 0, 0 },
@@ -106,6 +116,7 @@ static loan lent;
 static hudarin_descriptor descriptor, changed, doubled;
 static hudarin_token token;
 static hudarin_client client;
+static hudarin_accounts accounts;
 static hudarin_lines lines;
 /* What the call keeps, of one kind or another. */
 static union {
@@ -113,6 +124,7 @@ static union {
     hudarin_descriptor descriptor;
     hudarin_token token;
     hudarin_client client;
+    hudarin_accounts accounts;
     hudarin_lines lines;
 } held;
 
@@ -173,7 +185,7 @@ static hudarin_verdict compare(hudarin_lines *handle)
 /* Writes the text of all lines that are kept, or checks by what else is. */
 static void used(const row *row, outcome *it)
 {
-    uint64_t index, count = row->call < CHECK ? hudarin_lines_count(&held.lines).length : 0;
+    uint64_t index, count = row->call >= WHO && row->call <= COMPARE ? hudarin_lines_count(&held.lines).length : 0;
     for (index = 0; index < count; index++) {
         char *room = (char *)it->room + it->length;
         it->length += hudarin_line_print(&held.lines, index, 0, room, sizeof it->room - (size_t)it->length).length;
@@ -224,6 +236,9 @@ static void made(const row *row, outcome *it)
     case LINE: written(it, hudarin_line_print(&lines, 1, 0, chars, room)); break;
     case OBJECT: written(it, hudarin_line_print(&lines, 1, 1, chars, room)); break;
     case VALUE: written(it, hudarin_line_value(&lines, 1, row->text, text, 0, it->room, room).written); break;
+    case KEEP_ACCOUNTS: written(it, hudarin_keep_accounts(row->text, text, &held.accounts)); break;
+    case ACCOUNT_SIDS: written(it, hudarin_account_sids(&accounts, NULL, 0, row->text, text, it->room, room)); break;
+    case ACCOUNT_USERS: written(it, hudarin_account_users(&accounts, chars, room)); break;
     case WHO: judged(it, who(&held.lines)); break;
     case LINT: judged(it, lint(&held.lines)); break;
     case COMPARE: judged(it, compare(&held.lines)); break;
@@ -275,7 +290,7 @@ static size_t bytes_of(const char *digits, unsigned char *bytes)
 static int writes_text(enum call call)
 {
     return call == TO_SDDL || call == WHOLE_TEXT || call == CANONICAL || call == SID_TEXT || call == FULL_TEXT || call == MASK_TEXT ||
-           call == LINE || call == OBJECT || (call >= WHO && call <= COMPARE);
+           call == LINE || call == OBJECT || call == ACCOUNT_USERS || (call >= WHO && call <= COMPARE);
 }
 
 /* Whether the row's text or bytes were written. */
@@ -381,6 +396,7 @@ int main(void)
     HOLDS(hudarin_keep_sddl(DOUBLED, sizeof DOUBLED - 1, &doubled).status == HUDARIN_OK);
     HOLDS(keep_token(&token).status == HUDARIN_OK && keep_client(&client).status == HUDARIN_OK && who(&lines).status == HUDARIN_OK);
     HOLDS(descriptor.kept.is_there && token.kept.is_there);
+    HOLDS(hudarin_keep_accounts(ACCOUNTS, sizeof ACCOUNTS - 1, &accounts).status == HUDARIN_OK);
     for (at = 0; at < sizeof rows / sizeof rows[0]; at++) {
         static outcome due;
         lend(&rows[at]);
@@ -396,6 +412,7 @@ int main(void)
     hudarin_free(&doubled.kept);
     hudarin_free(&token.kept);
     hudarin_free(&client.kept);
+    hudarin_free(&accounts.kept);
     hudarin_free(&lines.kept);
     HOLDS(taken == 0 && refusals > 0);
     printf("%ld requests for memory were refused\n", refusals);

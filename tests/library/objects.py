@@ -28,6 +28,7 @@ from hudarin import (  # noqa: E402
     OF_OWNER,
     OF_SACL,
     Access,
+    Accounts,
     Change,
     Client,
     Comparison,
@@ -112,7 +113,7 @@ def copies() -> None:
     broken = pickle.dumps(USER, 4).replace(bytes(USER)[:2], b"\x01\x0f")
     gives("the bytes of a pickle", "sid", lambda: (refused(lambda: pickle.loads(broken)) or ("loaded",))[0])
     with Token(USER, [USERS]) as token, KeptDescriptor(READERS) as kept, Store(ROOT) as store, store.publish() as view:
-        for held in (token, Client(USER), kept, store, view):
+        for held in (token, Client(USER), Accounts(""), kept, store, view):
             name = type(held).__name__
             raises(f"{name}, copied", TypeError, lambda: copy.copy(held))
             raises(f"{name}, deeply", TypeError, lambda: copy.deepcopy(held))

@@ -10,3 +10,4 @@ mod Unasked
 mod Reviewing
 mod Words
 mod EntriesLoop
+mod Joined

@@ -3,6 +3,8 @@ use Rattle.std.specs.Prelude.{◌≡◌, ◌⊎◌, ℕ, ◌<◌, ◌==◌, Bool
 use Rattle.std.specs.Prelude.{Ok, Err}
 use Rattle.std.specs.Prelude.{if◌then◌else◌}
 use Rattle.std.specs.Arc.{arc_value}
+use Rattle.sd_accounts.specs.Accounts.{rows_of}
+use Rattle.sd_accounts.specs.Row.{AccountRow}
 use Rattle.sd_acl.specs.Descriptor.{DescriptorValue, descriptor_of}
 use Rattle.sd_check.specs.Token.{TokenValue}
 use Rattle.sd_client.specs.Client.{ClientValue}
@@ -55,6 +57,11 @@ view_in _ = None
 abbrev pub lines_in : Kept → Option (List LineOf)
 lines_in (kinds.Lines ls) = Some ls.items
 lines_in _ = None
+
+-- the rows of accounts
+abbrev pub accounts_in : Kept → Option (List AccountRow)
+accounts_in (kinds.Accounts a) = Some (rows_of (arc_value a))
+accounts_in _ = None
 
 -- the request of a kept descriptor and a kept token
 unfoldable pub asked_of : Kept → Kept → Mapping → Result RequestValue NotRead
@@ -136,7 +143,7 @@ has_one_handle _ = false
 abbrev pub IsSame : Kept → Kept → Type 0
 IsSame kept other =
     (descriptor_in other ≡ descriptor_in kept) × (token_in other ≡ token_in kept) × (client_in other ≡ client_in kept)
-    × (store_in other ≡ store_in kept) × (view_in other ≡ view_in kept)
+    × (store_in other ≡ store_in kept) × (view_in other ≡ view_in kept) × (accounts_in other ≡ accounts_in kept)
 
 -- the second handle keeps the same as the first, or is unchanged: out of memory, or one of the handles is refused
 abbrev pub IsShared : Handle → Handle → Handle → Written → Type 0

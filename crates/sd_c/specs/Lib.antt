@@ -25,3 +25,4 @@ pub mod Client
 pub mod WholeCheck
 pub mod Analysis
 pub mod Review
+pub mod Accounts

@@ -24,6 +24,10 @@ use Rattle.sd_specialize.specs.Specialize.{fault_name as specialize_fault_name, 
 use Rattle.sd_specialize.specs.declared.fault.SpecializeFault.{SpecializeFault}
 use Rattle.sd_whole_text.specs.NoText.{no_text_name, no_text_number}
 use Rattle.sd_whole_text.specs.declared.no_text.NoText.{NoText}
+use Rattle.sd_accounts.specs.declared.fault.AccountsFault.TheVariants as rows
+use Rattle.sd_accounts.specs.declared.names.NameError.TheVariants as names
+use Rattle.sd_named.specs.declared.arguments.NamedError.TheVariants as named
+use Rattle.sd_c.specs.Accounts.{no_user, row_number}
 
 -- what a status means; nothing of a number that is no status
 abbrev pub status_text : ℕ → List ℕ
@@ -54,6 +58,8 @@ status_text n =
     else if n == 23 then codes "the last word has no zero byte after it"
     else if n == 24 then codes "the object types are more than five, or not of 16 bytes"
     else if n == 25 then codes "the descriptor can't be decided for the question"
+    else if n == 26 then codes "a line of the accounts is no row"
+    else if n == 27 then codes "the text means no user that may log on"
     else []
 
 -- ---- the fault with a number
@@ -156,6 +162,23 @@ undecided_fault_name n =
     else if n == 7 then codes "MayBeDenied"
     else name_or_nothing odd_name (odd_kind n)
 
+abbrev pub row_fault_name : ℕ → List ℕ
+row_fault_name n =
+    if n == 1 then codes "Keyword"
+    else if n == 2 then codes "Sid"
+    else if n == 3 then codes "Name"
+    else if n == 4 then codes "Surplus"
+    else if n == 5 then codes "Incomplete"
+    else []
+
+abbrev pub account_fault_name : ℕ → List ℕ
+account_fault_name n =
+    if n == 1 then codes "Unknown"
+    else if n == 2 then codes "Ambiguous"
+    else if n == 3 then codes "NoUser"
+    else if n == 4 then codes "Disabled"
+    else []
+
 abbrev pub fault_name : ℕ → ℕ → List ℕ
 fault_name status n =
     if status == 4 then name_or_nothing text_fault_name (text_fault n)
@@ -167,6 +190,8 @@ fault_name status n =
     else if status == 20 then no_text_fault_name n
     else if status == 21 then name_or_nothing odd_name (odd_kind n)
     else if status == 25 then undecided_fault_name n
+    else if status == 26 then row_fault_name n
+    else if status == 27 then account_fault_name n
     else []
 
 -- each fault that a call answers has its name at its number. Bytes have no authority of 2^48, and want of memory is a
@@ -186,3 +211,12 @@ FaultsHaveNames =
     × ((why : NoText) → fault_name 20 (no_text_number why) ≡ no_text_name why)
     × ((k : OddKind) → fault_name 21 (odd_number k) ≡ odd_name k)
     × ((f : SpecializeFault) → fault_name 25 (specialize_fault_number f) ≡ specialize_fault_name f)
+    × (fault_name 26 (row_number rows.Keyword) ≡ codes "Keyword")
+    × (fault_name 26 (row_number rows.Sid) ≡ codes "Sid")
+    × (fault_name 26 (row_number rows.Name) ≡ codes "Name")
+    × (fault_name 26 (row_number rows.Surplus) ≡ codes "Surplus")
+    × (fault_name 26 (row_number rows.Incomplete) ≡ codes "Incomplete")
+    × (fault_name 27 (no_user (named.User names.Unknown)).fault ≡ codes "Unknown")
+    × (fault_name 27 (no_user (named.User names.Ambiguous)).fault ≡ codes "Ambiguous")
+    × (fault_name 27 (no_user named.NoUser).fault ≡ codes "NoUser")
+    × (fault_name 27 (no_user named.Disabled).fault ≡ codes "Disabled")

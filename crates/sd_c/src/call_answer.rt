@@ -65,6 +65,10 @@ pub const TYPES: u32 = 24;
 /// A descriptor can't be decided for a question; the fault is one of those of `SpecializeFault`, or that an entry of
 /// the SACL may deny what the DACL grants.
 pub const UNDECIDED: u32 = 25;
+/// A line of accounts is no row; the fault is one of those of `AccountsFault`.
+pub const ROW: u32 = 26;
+/// A text means no user that may log on; the fault says why.
+pub const ACCOUNT: u32 = 27;
 
 /// The answer of a check: a verdict and its mask, or which argument is invalid.
 #[repr(C)]

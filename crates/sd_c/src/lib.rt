@@ -9,6 +9,7 @@
 //! ```
 #![tactic(auto)]
 
+mod accounts;
 mod analysis;
 mod bytes;
 mod call_answer;
@@ -46,6 +47,9 @@ mod whole_parts;
 mod with_entries;
 mod with_parts;
 
+pub use accounts::{
+    NotAnswered, hudarin_account_sids, hudarin_account_users, hudarin_keep_accounts,
+};
 pub use analysis::{CompareAnswer, hudarin_compare, hudarin_lint, hudarin_who};
 pub use bytes::{hudarin_bytes_to_sddl, hudarin_sid_bytes_to_full_text, hudarin_sid_bytes_to_text};
 pub use call_answer::{CheckAnswer, MaskAnswer, Written};

@@ -3,13 +3,13 @@
 ghost use Rattle.std.specs.Prelude.{◌≡◌};
 ghost use Rattle.sd_c.specs.Meaning.{FaultsHaveNames, fault_name, limits_fault, no_text_fault_name, odd_kind};
 ghost use Rattle.sd_c.specs.Meaning.{path_fault_name, refusal_of, sid_fault, status_text, text_fault, wire_fault};
-ghost use Rattle.sd_c.specs.Meaning.{undecided_fault_name};
+ghost use Rattle.sd_c.specs.Meaning.{account_fault_name, row_fault_name, undecided_fault_name};
 ghost use Rattle.sd_c.specs.Written.{Writes};
 
 use crate::call_answer::{
-    BEHIND_GROUPS, DOMAIN, EDIT, HANDLE, LIMITS, MAPPING, MEMORY, NO_NODE, NO_PART, NO_TEXT,
-    NOT_PLAIN, OK, PARTS, PATH, PRIVILEGES, REFUSED, ROOM, SID, STATE, TEXT, TYPES, UNDECIDED,
-    UNENDED, UTF8, WIRE, WORD, Written, write,
+    ACCOUNT, BEHIND_GROUPS, DOMAIN, EDIT, HANDLE, LIMITS, MAPPING, MEMORY, NO_NODE, NO_PART,
+    NO_TEXT, NOT_PLAIN, OK, PARTS, PATH, PRIVILEGES, REFUSED, ROOM, ROW, SID, STATE, TEXT, TYPES,
+    UNDECIDED, UNENDED, UTF8, WIRE, WORD, Written, write,
 };
 use sd_sid::SidError;
 use sd_text::TextFault;
@@ -68,6 +68,8 @@ fn status_text(status: u32) -> &'static str
         UNENDED => "the last word has no zero byte after it",
         TYPES => "the object types are more than five, or not of 16 bytes",
         UNDECIDED => "the descriptor can't be decided for the question",
+        ROW => "a line of the accounts is no row",
+        ACCOUNT => "the text means no user that may log on",
         _ => "",
     }
 }
@@ -103,6 +105,8 @@ fn fault_name(status: u32, fault: u32) -> &'static str
             None => "",
         },
         UNDECIDED => undecided_fault_name(fault),
+        ROW => row_fault_name(fault),
+        ACCOUNT => account_fault_name(fault),
         _ => "",
     }
 }
@@ -201,6 +205,31 @@ fn undecided_fault_name(number: u32) -> &'static str
             Some(kind) => kind.name(),
             None => "",
         },
+    }
+}
+
+fn row_fault_name(number: u32) -> &'static str
+    ensures { result.now ≡ row_fault_name number }
+{
+    match number {
+        1 => "Keyword",
+        2 => "Sid",
+        3 => "Name",
+        4 => "Surplus",
+        5 => "Incomplete",
+        _ => "",
+    }
+}
+
+fn account_fault_name(number: u32) -> &'static str
+    ensures { result.now ≡ account_fault_name number }
+{
+    match number {
+        1 => "Unknown",
+        2 => "Ambiguous",
+        3 => "NoUser",
+        4 => "Disabled",
+        _ => "",
     }
 }
 

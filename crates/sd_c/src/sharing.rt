@@ -44,6 +44,7 @@ fn shared(alloc: Global, kept: &Kept) -> Result<Option<Box<Kept>>, AllocError>
         Kept::Token(token) => Kept::Token(Arc::try_clone(token)?),
         Kept::Client(client) => Kept::Client(Arc::try_clone(client)?),
         Kept::View(tree) => Kept::View(tree.share()?),
+        Kept::Accounts(accounts) => Kept::Accounts(Arc::try_clone(accounts)?),
         Kept::Store(_) | Kept::Lines(_) => return Ok(None),
     };
     may_cross(&second);

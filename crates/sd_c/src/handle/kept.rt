@@ -1,5 +1,6 @@
 //! What a handle keeps.
 
+use sd_accounts::Accounts;
 use sd_acl::Descriptor;
 use sd_check::Token;
 use sd_client::Client;
@@ -18,4 +19,5 @@ pub enum Kept {
     Store(Box<Versions>),
     View(Shared<Tree>),
     Lines(Vec<Line>),
+    Accounts(Arc<Accounts>),
 }
