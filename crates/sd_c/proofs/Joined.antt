@@ -1,5 +1,5 @@
 -- What each of a list gives, one after the other: by one more of them.
-use Rattle.std.proofs.Common.{List, [], ap, get_or, length, map, sym, take, ℕ, ◌+◌, ◌++◌, ◌<◌, ◌∙◌, ◌≡◌}
+use Rattle.std.proofs.Common.{List, [], ap, get_or, length, sym, take, ℕ, ◌+◌, ◌++◌, ◌<◌, ◌∙◌, ◌≡◌}
 use Rattle.std.proofs.lemmas.List.{flat_map_more, take_more}
 use Rattle.std.specs.List.{flat_map}
 

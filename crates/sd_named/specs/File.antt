@@ -1,5 +1,5 @@
 -- The accounts of a file's text, and those that need no file.
-use Rattle.std.specs.Prelude.{◌≡◌, ℕ, List, ◌++◌}
+use Rattle.std.specs.Prelude.{ℕ, List, ◌++◌}
 use Rattle.std.specs.Str.{IsUtf8, IsValidUpTo}
 use Rattle.sd_accounts.specs.Fault.{IsFirstNoRow}
 use Rattle.sd_accounts.specs.Row.{AccountRow, AreRows, lines_of}

@@ -1,5 +1,5 @@
 -- A domain that is parsed, and a text that isn't UTF-8, or means no user that may log on.
-use Rattle.std.proofs.Common.{Some, ap, inl, inr, refl, rules, subst, ◌≡◌}
+use Rattle.std.proofs.Common.{Some, inl, inr, refl, rules, subst, ◌≡◌}
 use Rattle.std.proofs.lemmas.Result.{IfErr-weaker}
 use Rattle.std.specs.Arc.{arc_value}
 use Rattle.std.specs.Str.{IsUtf8}
