@@ -6,6 +6,7 @@ ghost use Rattle.sd_acl.specs.Descriptor.{descriptor_of};
 ghost use Rattle.sd_line.specs.declared.line.Value.TheVariants as values;
 ghost use Rattle.sd_line.specs.Line.{form_of, is_of, line_of, line_with, part_of, part_says, parts_from, says};
 ghost use Rattle.sd_line.specs.Line.{text_line, value_says, with_head, with_tail, word_part};
+ghost use Rattle.sd_line.specs.Printed.{mark_text};
 
 use sd_acl::{Ace, Descriptor};
 use sd_sid::{Mask, Sid};
@@ -21,6 +22,19 @@ pub enum SidMark {
     Deny,
     /// A restricting SID, `=restrict`.
     Restrict,
+}
+
+impl SidMark {
+    /// What follows the SID in a text.
+    pub fn text(self) -> &'static str
+        ensures { result.now ≡ mark_text self }
+    {
+        match self {
+            SidMark::Plain => "",
+            SidMark::Deny => "=deny",
+            SidMark::Restrict => "=restrict",
+        }
+    }
 }
 
 /// A kind of line, and the words of its first part, in which each `{name}` stands for a value.
@@ -226,6 +240,14 @@ impl Part {
         self.form
     }
 
+    /// The words, and the values for which names stand in them.
+    pub fn into_values(self) -> (&'static str, Vec<Value>)
+        ensures form { result.0.now ≡ self.form }
+        ensures values { result.1.items ≡ self.values }
+    {
+        (self.form, self.values)
+    }
+
     /// Whether one of its words is this.
     fn says(&self, word: &str) -> bool
         ensures { result ≡ part_says word.now self.now }
@@ -233,7 +255,8 @@ impl Part {
         self.values.iter().any(|value| value.says(word))
     }
 
-    pub(crate) fn values(&self) -> &[Value]
+    /// The values for which names stand in the words.
+    pub fn values(&self) -> &[Value]
         ensures { result.now ≡ self.now.values }
     {
         &self.values
@@ -292,14 +315,7 @@ impl Line {
     pub fn with_head(self, head: Part) -> Result<Line, AllocError>
         ensures { IfOk result (λ line. line ≡ with_head head self) }
     {
-        let Line {
-            kind,
-            first,
-            mut rest,
-        } = self;
-        if let Some(part) = first {
-            rest.insert(0, part)?;
-        }
+        let (kind, rest) = self.into_parts()?;
         Ok(Line {
             kind,
             first: Some(head),
@@ -318,6 +334,21 @@ impl Line {
         } = self;
         rest.push(tail)?;
         Ok(Line { kind, first, rest })
+    }
+
+    /// What kind of line it is, and its parts. The only error is out of memory.
+    pub fn into_parts(self) -> Result<(&'static str, Vec<Part>), AllocError>
+        ensures { IfOk result (λ own. (own.0.now ≡ self.kind) × (own.1.items ≡ self.parts)) }
+    {
+        let Line {
+            kind,
+            first,
+            mut rest,
+        } = self;
+        if let Some(part) = first {
+            rest.insert(0, part)?;
+        }
+        Ok((kind, rest))
     }
 
     /// Whether the line is of this kind.
@@ -346,7 +377,7 @@ impl Line {
     }
 
     /// The first part, and those after it. Without a first one the others are all.
-    pub(crate) fn parts(&self) -> (Option<&Part>, &[Part])
+    pub fn parts(&self) -> (Option<&Part>, &[Part])
         ensures { parts_from (option_map (λ part. part.now) result.0) result.1.now ≡ self.now.parts }
     {
         (self.first.as_ref(), &self.rest)

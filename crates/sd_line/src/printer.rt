@@ -3,7 +3,7 @@
 ghost use Rattle.std.specs.Prelude.{◌≡◌, ◌++◌, IfOk, OnOk, flat_map, map, option_map, string_bytes};
 ghost use Rattle.sd_line.specs.Fields.{fields_in};
 ghost use Rattle.sd_line.specs.Printed.{coloured_part, coloured_text, coloured_words, colour_of, field_text, line_text};
-ghost use Rattle.sd_line.specs.Printed.{mark_text, marked_text, part_text, spaced, value_text};
+ghost use Rattle.sd_line.specs.Printed.{marked_text, part_text, spaced, value_text};
 
 use crate::fields::Fields;
 use crate::line::{Line, Part, SidMark, Text, Value};
@@ -169,7 +169,7 @@ impl Printer {
         ensures { IfOk result (λ text. string_bytes text ≡ marked_text one.now) }
     {
         let mut text = print_full_sid(self.alloc, &one.0)?;
-        text.push_str(mark_text(one.1))?;
+        text.push_str(one.1.text())?;
         Ok(text)
     }
 }
@@ -199,15 +199,5 @@ fn colour_of(kind: &[u8]) -> Option<&'static [u8]>
         Some(b"\x1b[31m")
     } else {
         None
-    }
-}
-
-fn mark_text(mark: SidMark) -> &'static str
-    ensures { result.now ≡ mark_text mark }
-{
-    match mark {
-        SidMark::Plain => "",
-        SidMark::Deny => "=deny",
-        SidMark::Restrict => "=restrict",
     }
 }
