@@ -1,3 +1,4 @@
+pub mod Sddl
 pub mod Trustee
 pub mod Word
 pub mod Arguments
