@@ -7,9 +7,9 @@ use Rattle.std.specs.Option.{option_and_then}
 use Rattle.std.specs.Borrow.{Bor}
 use Rattle.sd_text.specs.declared.alias.Aliases.{Aliases}
 use Rattle.sd_answer.specs.Word.{texts}
-use Rattle.sd_accounts.specs.Row.{AccountRow, AreRows, lines_of}
+use Rattle.sd_accounts.specs.Row.{AccountRow}
 use Rattle.sd_named.specs.Arguments.{AreOfUser, AreOfWords}
-use Rattle.sd_named.specs.declared.well_known.TheConstants.{WELL_KNOWN}
+use Rattle.sd_named.specs.File.{AreAccounts}
 use Rattle.sd_usage.specs.declared.row.DescriptorCommand.TheVariants as about
 use Rattle.sd_usage.specs.declared.row.TextCommand.{TextCommand}
 use Rattle.sd_usage.specs.declared.row.TextCommand.TheVariants.{Descriptor}
@@ -24,10 +24,6 @@ use Rattle.sd_line.specs.declared.print.Style.{Style}
 use Rattle.sd_commands.specs.Answer.{AnswerValue}
 use Rattle.sd_command_line.specs.Output.{AppendsAnswer}
 use Rattle.sd_command_line.specs.People.{AppendsPeople, IsOfPeople}
-
--- the accounts of a file's text: its rows, and those that need no file
-abbrev pub AreAccounts : List ℕ → List AccountRow → Type 0
-AreAccounts text rows = AreRows (lines_of (text ++ WELL_KNOWN.now)) rows
 
 -- the arguments USER MASK WORD.., with the groups of a logon that is given behind the words
 abbrev pub AreOfVerdict : List AccountRow → Aliases → Option Logon → List (List ℕ) → List (List ℕ) → Type 0

@@ -3,7 +3,8 @@ ghost use Rattle.std.specs.Prelude.{◌≡◌, ◌≢◌, ◌≤◌, List, IfOk,
 ghost use Rattle.sd_lines.specs.Watched.{inner_of};
 ghost use Rattle.sd_accounts.specs.Accounts.{rows_of};
 ghost use Rattle.sd_accounts.specs.Row.{AccountRow};
-ghost use Rattle.sd_command_line.specs.Names.{AnswersNamed, AreAccounts, AreNamedBy, AreNamedWords, without_accounts};
+ghost use Rattle.sd_named.specs.File.{AreAccounts};
+ghost use Rattle.sd_command_line.specs.Names.{AnswersNamed, AreNamedBy, AreNamedWords, without_accounts};
 ghost use Rattle.sd_command_line.specs.People.{AppendsPeople, IsOfPeople, people_of};
 ghost use Rattle.sd_command_line.specs.declared.driven_by_names.NamesFault.TheVariants.{Memory};
 
@@ -11,10 +12,10 @@ use crate::names::{asked_options, named_line, without_accounts};
 use crate::people::{People, people_asked};
 use crate::perform::print;
 use crate::program::{drive, error_line, tell};
-use sd_accounts::{Accounts, AccountsError, AccountsFault, NameError};
+use sd_accounts::{Accounts, AccountsFault, NameError};
 use sd_commands::{Answer, fault, told_line};
 use sd_lines::{RunError, Watched};
-use sd_named::{NamedError, WELL_KNOWN, lent};
+use sd_named::{FileError, NamedError, accounts_of, lent};
 use sd_questions::Ended;
 use std::alloc::{AllocError, Global};
 use std::io::{Read, Write};
@@ -137,15 +138,11 @@ fn named_and_people(alloc: Global, accounts: &Accounts, words: &[&str]) -> Resul
 fn accounts_in(alloc: Global, text: &[u8]) -> Result<Accounts, NamesFault>
     ensures { IfOk result (λ accounts. AreAccounts text.now (rows_of accounts)) }
 {
-    let Ok(text) = str::from_utf8(text) else {
-        return Err(NamesFault::Utf8);
-    };
-    let mut all = String::from_str(alloc, text)?;
-    all.push_str(WELL_KNOWN)?;
-    match Accounts::read(alloc, all.as_str()) {
+    match accounts_of(alloc, text) {
         Ok(accounts) => Ok(accounts),
-        Err(AccountsError::Fault { line, kind }) => Err(NamesFault::Row { line, kind }),
-        Err(AccountsError::Memory) => Err(NamesFault::Memory),
+        Err(FileError::Utf8 { .. }) => Err(NamesFault::Utf8),
+        Err(FileError::Row { line, kind }) => Err(NamesFault::Row { line, kind }),
+        Err(FileError::Memory) => Err(NamesFault::Memory),
     }
 }
 
