@@ -4,7 +4,7 @@ ghost use Rattle.std.specs.Borrow.{Bor};
 ghost use Rattle.sd_answer.specs.Word.{texts};
 ghost use Rattle.sd_accounts.specs.Accounts.{rows_of};
 ghost use Rattle.sd_named.specs.Arguments.{AreAdded, AreNamedWords, AreOfAccount, AreOfUser, AreOfWords};
-ghost use Rattle.sd_named.specs.Arguments.{IsUserError, IsWordsError, MayLogOn, sids_as, word_text};
+ghost use Rattle.sd_named.specs.Arguments.{IsUserError, IsWordsError, MayLogOn, sids_as, starts, word_text};
 ghost use Rattle.sd_accounts.specs.Groups.{AreGroupsOf};
 ghost use Rattle.sd_named.specs.Trustee.{Means};
 ghost use Rattle.sd_named.specs.declared.arguments.NamedError.TheVariants.{Memory};
@@ -118,6 +118,19 @@ impl Naming<'_> {
         named.append(&mut self.word_texts(&words.ones)?)?;
         named.append(&mut self.added_texts(has_logon, *user, &words.ones)?)?;
         Ok(named)
+    }
+
+    /// The SIDs by which a user is in groups ([MS-DTYP] 2.4.2.4): its own, those of its logon unless the words have
+    /// them, and the groups that the words give it. The only error is out of memory.
+    pub fn starts(
+        &self,
+        has_logon: bool,
+        user: &Sid,
+        words: &NamedWords,
+    ) -> Result<Vec<Sid>, AllocError>
+        ensures { IfOk result (λ all. all.items ≡ starts has_logon user.now words.now) }
+    {
+        starts(self.alloc, has_logon, *user, &words.ones)
     }
 
     /// Words that say which groups a token has, with SIDs in the place of names.
