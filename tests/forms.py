@@ -23,7 +23,7 @@ NAME = re.compile(r"\{(\w+)\}")
 #: array after a space, and an object has no array that is empty.
 NUMBERS = ("at behind byte entry floor from_entry length number published readers repeats second_entry seen type"
            " was_byte with_pending").split()
-ARRAYS = "control entries flags policy unless with".split()
+ARRAYS = "control entries flags names policy unless way with".split()
 
 #: The lines of several forms, part by part. Of parts with `|` between them a line has one, and with a `?` after them it may
 #: have none. A form of bits is three of these: that of its line, X; of one about what is made in a container, X_BELOW; and
@@ -33,8 +33,10 @@ SEEN? GRANTED|DENIED|RESERVED|EMPTY
 SEEN? NO_NODE
 SEEN FOUND|GRANTED_BY|DENIED_ALL|SHOWN
 OPENED DIFFERS?
-GRANTED BY_ENTRY|WITHOUT_A|TO_THE|BY PERSON?
-GRANTED BY_ENTRY SECOND_BY_ENTRY PERSON?
+GRANTED BY_ENTRY|WITHOUT_A|TO_THE|BY
+GRANTED BY_ENTRY|WITHOUT_A|TO_THE|BY BY_WAY_OF? PERSON
+GRANTED BY_ENTRY SECOND_BY_ENTRY
+GRANTED BY_ENTRY SECOND_BY_ENTRY BY_WAY_OF? PERSON
 DENIED BY_ENTRY|BY_NO|WITHOUT|BEYOND|AS|BY
 DENIED BY_ENTRY|BY_NO SECOND_BY_ENTRY|SECOND_BY_NO
 WHO AS_THE? WHO_LIST?
@@ -43,6 +45,8 @@ NEW|BELOW_NEW NOTHING_INHERITED
 PATH? GAINED GAINED_LIST?
 PATH? NEW|BELOW_NEW GAINED_BELOW GAINED_LIST?
 PATH? LOST LOST_LIST?
+GAINED_BY BY_PERSON
+LOST_BY BY_PERSON
 PATH? NEW|BELOW_NEW LOST_BELOW LOST_LIST?
 PATH? NO_LONGER_PROTECTED|NOW_PROTECTED
 NEW|BELOW_NEW RISKY_GRANT_BELOW
@@ -60,6 +64,8 @@ INHERITED_TYPE?
 CONDITION|UNKNOWN_CONDITION|CLAIM|DATA?
 FLAGS?
 """.split()
+#: The part that the object of each line may have, and that no text has: the names of its SIDs.
+NAMES = "NAMES"
 #: These two have one name. The program prints neither of a text: SDDL has no text for either.
 ALIKE = {"UNKNOWN_CONDITION": "DATA"}
 
@@ -121,7 +127,7 @@ def compositions() -> Iterator[tuple[str, tuple[str, ...]]]:
     used = set(itertools.chain(*laid))
     assert used | of_places <= set(FORMS), f"forms.rt has no {(used | of_places) - set(FORMS)}"
     laid += [(name,) for name, (kind, _) in FORMS.items() if kind and name not in used]
-    unused = set(FORMS) - set(itertools.chain(*laid)) - of_places
+    unused = set(FORMS) - set(itertools.chain(*laid)) - of_places - {NAMES}
     assert not unused, f"no layout has {unused}"
     for parts in laid:
         (kind,) = (part for part in parts if FORMS[part][0])
@@ -180,7 +186,7 @@ AFTER = read_parts()
 
 def check_names() -> None:
     """Each name that has a type is one of a line."""
-    found = {name for line in LINES for name in names(line.words)}
+    found = {name for line in LINES for name in names(line.words)} | set(names(FORMS[NAMES][1]))
     found |= {name for place in PARTS for words in place for name in names(words)}
     assert set(NUMBERS + ARRAYS) <= found, f"no line has {set(NUMBERS + ARRAYS) - found}"
 

@@ -35,6 +35,19 @@ def load(path):
 ROWS = load("tests/rows")
 
 
+def named(members):
+    """The members as a text has them: the names, each after its SID, stand in the places of SIDs but a user's."""
+    shown = dict(pair.split(" ", 1) for pair in members.pop("names", []))
+    spelled = {sid: f'"{name}"' if " " in name else name for sid, name in shown.items()}
+
+    def of(value):
+        sid, sign, state = value.partition("=")
+        return spelled.get(sid, sid) + sign + state
+
+    return {name: value if name == "user" or type(value) is int else [of(each) for each in value]
+            if type(value) is list else of(value) for name, value in members.items()}
+
+
 def lines_again(object_):
     """The lines that an object may have been made of: one, but for parts of entries that have the same names."""
     members = dict(object_)
@@ -42,6 +55,7 @@ def lines_again(object_):
     if "text" in members:
         assert list(members) == ["text"]
         return [tag + members["text"]]
+    members = named(members)
     kind = members.pop("answer")
     words = wordings(kind, tuple(members))
     assert words, "no line of this kind has these values"
@@ -86,7 +100,7 @@ def takes_json(arguments):
         return False
     words = iter(word.decode("utf-8", "replace") for word in arguments)
     for word in words:
-        if word in ("--domain", "--mapping", "--nodes", "--edits"):
+        if word in ("--accounts", "--domain", "--logon", "--mapping", "--nodes", "--edits"):
             next(words, None)
         elif word == "--json" or not word.startswith("--"):
             return word in COMMANDS

@@ -1,5 +1,5 @@
 pub mod Answer
 pub mod Output
-pub mod People
+pub mod ByName
 pub mod Names
 pub mod Scripts

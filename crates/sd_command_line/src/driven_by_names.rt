@@ -1,22 +1,36 @@
 //! The program over words that name accounts.
-ghost use Rattle.std.specs.Prelude.{◌≡◌, ◌≢◌, ◌≤◌, List, IfOk, map, option_map, string_bytes};
+ghost use Rattle.std.specs.Prelude.{◌≡◌, ◌≢◌, ◌≤◌, ℕ, List, IfNone, IfOk, IfSome, Err, option_map, string_bytes};
+ghost use Rattle.sd_lines.specs.Streams.{AppendsBeginning};
 ghost use Rattle.sd_lines.specs.Watched.{inner_of};
 ghost use Rattle.sd_accounts.specs.Accounts.{rows_of};
-ghost use Rattle.sd_accounts.specs.Row.{AccountRow};
 ghost use Rattle.sd_named.specs.File.{AreAccounts};
-ghost use Rattle.sd_command_line.specs.Names.{AnswersNamed, AreNamedBy, AreNamedWords, without_accounts};
-ghost use Rattle.sd_command_line.specs.People.{AppendsPeople, IsOfPeople, people_of};
+ghost use Rattle.sd_named.specs.declared.arguments.NamedError.{NamedError};
+ghost use Rattle.sd_named_questions.specs.Answer.{AnswersNamed};
+ghost use Rattle.sd_named_questions.specs.declared.answer.NamedRunError.TheVariants.{Named, Run};
+ghost use Rattle.sd_commands.specs.Answer.{answer_of, outcome_status};
+ghost use Rattle.sd_arguments.specs.CommandLine.{command_line_of, request_of};
+ghost use Rattle.sd_arguments.specs.Options.{has, options_of};
+ghost use Rattle.sd_questions.specs.Output.{AppendsWhole};
+ghost use Rattle.sd_command_line.specs.Answer.{IsPrinted};
+ghost use Rattle.sd_command_line.specs.ByName.{AppendsByName, AppendsFault, EndsByName, IsFaultAlone};
+ghost use Rattle.sd_command_line.specs.Names.{request_in};
+ghost use Rattle.sd_command_line.specs.Output.{tells_faults};
 ghost use Rattle.sd_command_line.specs.declared.driven_by_names.NamesFault.TheVariants.{Memory};
 
-use crate::names::{asked_options, named_line, without_accounts};
-use crate::people::{People, people_asked};
+use crate::names::{asked_options, without_accounts};
 use crate::perform::print;
-use crate::program::{drive, error_line, tell};
+use crate::program::{drive, error_line, status_of, tell};
 use sd_accounts::{Accounts, AccountsFault, NameError};
+use sd_arguments::{
+    CommandLine, Invocation, Options, ProgramRequest, TextRequest, read_command_line,
+};
 use sd_commands::{Answer, fault, told_line};
+use sd_line::Style;
 use sd_lines::{RunError, Watched};
-use sd_named::{FileError, NamedError, accounts_of, lent};
+use sd_named::{FileError, NamedError, accounts_of};
+use sd_named_questions::{NamedRunError, answer_each_named, answer_named};
 use sd_questions::Ended;
+use sd_usage::OptionName;
 use std::alloc::{AllocError, Global};
 use std::io::{Read, Write};
 use std::sync::Wait;
@@ -43,9 +57,8 @@ impl From<AllocError> for NamesFault {
 }
 
 /// Does what `drive` does with words that name accounts of this text of an accounts file: with SIDs in the place of the
-/// names, and with the groups that a user has. After an answer to `who` of a text that is what was asked for comes what
-/// each user is granted. Where a line of the text is no row, or a name isn't one account's, that fault is the answer,
-/// with its status.
+/// names, and with the groups that a user has. The answer to a question about a text is told by people. Where a line of
+/// the file is no row, or a name isn't one account's, that fault is the answer, with its status.
 pub fn drive_named<T: Threads + Wait + Sync, R: Read, W: Write, E: Write>(
     rt: &T,
     alloc: Global,
@@ -56,82 +69,117 @@ pub fn drive_named<T: Threads + Wait + Sync, R: Read, W: Write, E: Write>(
     errors: &mut Watched<E>,
 ) -> u8
     ensures statuses { result ≤ 4 }
-    ensures done { result ≡ 0 → AnswersNamed text.now words.now (R.remaining (inner_of reader.old))
-        (W.contents (inner_of writer.old)) (W.contents (inner_of writer.new)) }
+    ensures answered { result ≤ 1 → (told : List ℕ)
+        × EndsByName text.now words.now (R.remaining (inner_of reader.old))
+        (W.contents (inner_of writer.old)) (W.contents (inner_of writer.new)) told result
+        × AppendsBeginning (E.contents (inner_of errors.old)) (E.contents (inner_of errors.new)) told }
+    ensures faulty { result ≡ 4 → (told : List ℕ)
+        × EndsByName text.now words.now (R.remaining (inner_of reader.old))
+        (W.contents (inner_of writer.old)) (W.contents (inner_of writer.new)) told result
+        × AppendsBeginning (E.contents (inner_of errors.old)) (E.contents (inner_of errors.new)) told }
 {
-    match named_by(alloc, words, text) {
-        Ok((named, people)) => match lent(alloc, &named) {
-            Ok(lent) => {
-                let status = drive(rt, alloc, &lent, reader, writer, errors);
-                tell_people(alloc, status, people, writer, errors)
-            }
-            Err(_) => failed(errors, RunError::Memory),
+    let accounts = match accounts_in(alloc, text) {
+        Ok(accounts) => accounts,
+        Err(names_fault) => {
+            return tell_fault(alloc, asked_options(words), names_fault, writer, errors);
+        }
+    };
+    let own = match without_accounts(alloc, words) {
+        Ok(own) => own,
+        Err(_) => return failed(errors, RunError::Memory),
+    };
+    match read_command_line(&own) {
+        Ok(line) => match perform_named(alloc, &accounts, line, reader, writer) {
+            Some(ran) => end_named(alloc, line, ran, writer, errors),
+            None => drive(rt, alloc, &own, reader, writer, errors),
         },
-        Err(NamesFault::Memory) => failed(errors, RunError::Memory),
-        Err(names_fault) => tell_fault(alloc, words, names_fault, writer, errors),
+        Err(_) => drive(rt, alloc, &own, reader, writer, errors),
     }
 }
 
-/// After an answer that ended so, prints what is answered about people if it is what was asked for; and how all ends.
-fn tell_people<W: Write, E: Write>(
+/// Carries out a command line about a text or about each line.
+fn perform_named<R: Read, W: Write>(
     alloc: Global,
-    status: u8,
-    people: Option<People>,
+    accounts: &Accounts,
+    line: CommandLine<'_>,
+    reader: &mut Watched<R>,
+    writer: &mut Watched<W>,
+) -> Option<Result<Ended, NamedRunError>>
+    ensures ok { IfSome result (λ ran. IfOk ran (λ ended.
+        AppendsByName (rows_of accounts.now) (command_line_of line.entry) (R.remaining (inner_of reader.old))
+        (W.contents (inner_of writer.old)) (W.contents (inner_of writer.new)) (string_bytes ended.told)
+        (outcome_status (tells_faults (command_line_of line.entry)) ended.outcome))) }
+    ensures unwritten { IfSome result (λ ran. (error : NamedError) → ran ≡ Err (Named error)
+        → writer.new ≡ writer.old) }
+    ensures none { IfNone result ((request_in (command_line_of line.entry) ≡ None)
+        × (reader.new ≡ reader.old) × (writer.new ≡ writer.old)) }
+{
+    let options = line.options;
+    match line.asked {
+        ProgramRequest::Runs(Invocation::Ask { text, request }) => {
+            Some(ask_named(alloc, accounts, options, text, request, reader, writer))
+        }
+        ProgramRequest::Runs(Invocation::Each { given, request }) => Some(answer_each_named(
+            alloc, accounts, options, given, request, reader, writer,
+        )),
+        _ => None,
+    }
+}
+
+/// Prints the answer by people to a question about a text.
+fn ask_named<R: Read, W: Write>(
+    alloc: Global,
+    accounts: &Accounts,
+    options: Options<'_>,
+    text: Option<&str>,
+    request: TextRequest<'_>,
+    reader: &mut Watched<R>,
+    writer: &mut Watched<W>,
+) -> Result<Ended, NamedRunError>
+    ensures ok { IfOk result (λ ended. AppendsWhole (has (options_of options.entry) OptionName.StrictStatus)
+        (IsPrinted (options_of options.entry) (AnswersNamed (rows_of accounts.now) (options_of options.entry)
+        (option_map (λ text. text.now) text.entry) (request_of request.entry) (R.remaining (inner_of reader.old))))
+        (W.contents (inner_of writer.old)) (W.contents (inner_of writer.new)) (string_bytes ended.told)
+        (outcome_status (has (options_of options.entry) OptionName.StrictStatus) ended.outcome)) }
+    ensures unwritten { (error : NamedError) → result ≡ Err (Named error) → writer.new ≡ writer.old }
+{
+    let answer = answer_named(alloc, accounts, options, text, request, reader)?;
+    Ok(print(alloc, options.style(), answer, writer)?)
+}
+
+/// How a command line that was carried out ends.
+fn end_named<W: Write, E: Write>(
+    alloc: Global,
+    line: CommandLine<'_>,
+    ran: Result<Ended, NamedRunError>,
     writer: &mut Watched<W>,
     errors: &mut Watched<E>,
 ) -> u8
-    ensures within { status ≤ 4 → result ≤ 4 }
-    ensures done { result ≡ 0 → (status ≡ 0) × AppendsPeople (option_map people_of people)
-        (W.contents (inner_of writer.old)) (W.contents (inner_of writer.new)) }
+    ensures within { result ≤ 4 }
+    ensures ok { IfOk ran (λ ended. (result ≡ outcome_status (tells_faults (command_line_of line.entry)) ended.outcome)
+        × (writer.new ≡ writer.old)
+        × AppendsBeginning (E.contents (inner_of errors.old)) (E.contents (inner_of errors.new))
+        (string_bytes ended.told)) }
+    ensures named { (error : NamedError) → ran ≡ Err (Named error) → result ≢ 3
+        → AppendsFault (W.contents (inner_of writer.old)) (W.contents (inner_of writer.new)) result
+        × ((told : List ℕ) × AppendsBeginning (E.contents (inner_of errors.old)) (E.contents (inner_of errors.new))
+        told) }
+    ensures failed { (error : RunError) → ran ≡ Err (Run error) → result ≡ 3 }
 {
-    if status != 0 {
-        return status;
-    }
-    let Some(
-        People {
-            answer,
-            style,
-            is_strict,
-        },
-    ) = people
-    else {
-        return 0;
-    };
-    let printed = print(alloc, style, answer, writer);
-    match printed {
+    match ran {
         Ok(Ended { told, outcome }) => {
             tell(errors, told.as_str());
-            outcome.status(is_strict)
+            status_of(line, outcome)
         }
-        Err(error) => failed(errors, error),
+        Err(NamedRunError::Named(error)) => {
+            let asked = (
+                line.options.style(),
+                line.options.has(OptionName::StrictStatus),
+            );
+            tell_fault(alloc, asked, NamesFault::Named(error), writer, errors)
+        }
+        Err(NamedRunError::Run(error)) => failed(errors, error),
     }
-}
-
-/// Words with SIDs in the place of names, and what is answered about people after their answer.
-type Named = (Vec<String>, Option<People>);
-
-fn named_by(alloc: Global, words: &[&str], text: &[u8]) -> Result<Named, NamesFault>
-    ensures { IfOk result (λ named. (rows : List AccountRow)
-        × AreNamedBy rows text.now words.now (map string_bytes named.0.items)
-        × IsOfPeople rows (without_accounts words.now) (option_map people_of named.1)) }
-{
-    let accounts = accounts_in(alloc, text)?;
-    match named_and_people(alloc, &accounts, words) {
-        Ok(named) => Ok(named),
-        Err(NamedError::Memory) => Err(NamesFault::Memory),
-        Err(error) => Err(NamesFault::Named(error)),
-    }
-}
-
-fn named_and_people(alloc: Global, accounts: &Accounts, words: &[&str]) -> Result<Named, NamedError>
-    ensures { IfOk result (λ named. AreNamedWords (rows_of accounts.now) (without_accounts words.now)
-        (map string_bytes named.0.items)
-        × IsOfPeople (rows_of accounts.now) (without_accounts words.now) (option_map people_of named.1)) }
-{
-    let own = without_accounts(alloc, words)?;
-    let words = named_line(alloc, accounts, &own)?;
-    let people = people_asked(alloc, accounts, &own)?;
-    Ok((words, people))
 }
 
 /// The accounts of a file's text, and those that need no file.
@@ -154,21 +202,24 @@ fn failed<E: Write>(errors: &mut Watched<E>, error: RunError) -> u8
     3
 }
 
-/// Prints a fault, and what standard error says of it; the status is that of one.
+/// Prints a fault in the style, and what standard error says of it; the status is that of one, which is one of its own
+/// where that is asked for.
 fn tell_fault<W: Write, E: Write>(
     alloc: Global,
-    words: &[&str],
+    asked: (Style, bool),
     names_fault: NamesFault,
     writer: &mut Watched<W>,
     errors: &mut Watched<E>,
 ) -> u8
     ensures within { result ≤ 4 }
-    ensures is { result ≢ 0 }
+    ensures fault { result ≢ 3 → AppendsFault (W.contents (inner_of writer.old)) (W.contents (inner_of writer.new))
+        result × ((told : List ℕ)
+        × AppendsBeginning (E.contents (inner_of errors.old)) (E.contents (inner_of errors.new)) told) }
 {
-    let (style, is_strict) = asked_options(words);
+    let (style, is_strict) = asked;
     let printed = match fault_answer(alloc, names_fault) {
         Ok(answer) => print(alloc, style, answer, writer),
-        Err(_) => Err(RunError::Memory),
+        Err(_) => return failed(errors, RunError::Memory),
     };
     match printed {
         Ok(Ended { told, .. }) => {
@@ -180,7 +231,9 @@ fn tell_fault<W: Write, E: Write>(
 }
 
 /// The answer that is this fault.
-fn fault_answer(alloc: Global, names_fault: NamesFault) -> Result<Answer, AllocError> {
+fn fault_answer(alloc: Global, names_fault: NamesFault) -> Result<Answer, AllocError>
+    ensures { IfOk result (λ answer. IsFaultAlone (answer_of answer)) }
+{
     match names_fault {
         NamesFault::Utf8 => accounts_fault(alloc, "not UTF-8"),
         NamesFault::Row { line, kind } => {
@@ -206,7 +259,9 @@ fn fault_answer(alloc: Global, names_fault: NamesFault) -> Result<Answer, AllocE
     }
 }
 
-fn accounts_fault(alloc: Global, reason: &str) -> Result<Answer, AllocError> {
+fn accounts_fault(alloc: Global, reason: &str) -> Result<Answer, AllocError>
+    ensures { IfOk result (λ answer. IsFaultAlone (answer_of answer)) }
+{
     fault(alloc, "accounts", told_line(alloc, "--accounts", reason)?)
 }
 

@@ -13,7 +13,6 @@
 
 mod driven_by_names;
 mod names;
-mod people;
 mod perform;
 mod program;
 mod scripts;

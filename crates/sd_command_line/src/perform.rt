@@ -125,7 +125,8 @@ pub(crate) fn print<W: Write>(
         (W.contents (inner_of writer.old)) (W.contents (inner_of writer.new)) (string_bytes ended.told)
         (outcome_status (tells_faults line) ended.outcome)) }
     ensures whole { IfOk result (λ ended. Appends (W.contents (inner_of writer.old)) (W.contents (inner_of writer.new))
-        (printed style None answer.lines.items) × (ended.outcome ≡ answer.outcome)) }
+        (printed style None answer.lines.items) × (string_bytes ended.told ≡ string_bytes answer.told)
+        × (ended.outcome ≡ answer.outcome)) }
     ensures err { (line : CommandLineValue) → (input left : Option (List ℕ))
         → Answers input line (printed_as style (answer_of answer))
         → IfErr result (LeavesAfter line input left

@@ -95,7 +95,7 @@ pub fn drive<T: Threads + Wait + Sync, R: Read, W: Write, E: Write>(
 }
 
 /// The status of what came of a command line: that of a fault is one of its own where that is asked for.
-fn status_of(line: CommandLine<'_>, outcome: Outcome) -> u8
+pub(crate) fn status_of(line: CommandLine<'_>, outcome: Outcome) -> u8
     ensures status { result ≡ outcome_status (tells_faults (command_line_of line.entry)) outcome }
     ensures within { (result ≤ 1) ⊎ (result ≡ 4) }
 {

@@ -1,1 +1,4 @@
+pub mod Alone
+pub mod Grants
+pub mod Kept
 pub mod Turns

@@ -4,25 +4,23 @@ use Rattle.std.proofs.lemmas.List.{length-map, map-append, take_more}
 use Rattle.std.proofs.lemmas.List.Elements.{Contains-get_or}
 use Rattle.std.specs.List.{Contains}
 use Rattle.sd_sid.specs.Sid.{SidValue}
-use Rattle.sd_line.specs.Line.{LineOf}
 use Rattle.sd_accounts.specs.Row.{AccountRow}
 use Rattle.sd_accounts.specs.Users.{named, named_user}
-use Rattle.sd_commands.specs.Answer.{AnswerValue}
-use Rattle.sd_commands.specs.declared.command_answer.Outcome.TheVariants.{Fault}
 use Rattle.sd_commands.specs.declared.settings.Settings.{Settings}
 use Rattle.sd_named.specs.declared.word.NamedWord.{NamedWord}
-use Rattle.sd_people.specs.People.{AreLines, IsWhy, further, leaves_out, lines_to}
+use Rattle.sd_people.specs.Asked.{EachAsked}
+use Rattle.sd_people.specs.Lines.{Told}
+use Rattle.sd_people.specs.People.{AreTold, IsOfUser, Said, further}
 
-module _ (rows : List AccountRow) (settings : Settings) (text mask : List ℕ) (words : List NamedWord) where
-  -- the lines of one user more
-  pub one_more : (users : List (SidValue × Bor (List ℕ))) (i : ℕ) (d : SidValue × Bor (List ℕ)) (lines new : List LineOf) (left : Bool)
-      (answer : AnswerValue) → i < length users → AreLines rows settings text mask words (named (take i users)) lines left
-      → IsWhy rows settings text mask words (named_user (get_or users i d)) answer → (answer.outcome ≡ Fault → ⊥)
-      → new ≡ lines ++ lines_to (named_user (get_or users i d)) answer.lines
-      → AreLines rows settings text mask words (named (take (i + 1) users)) new (left || leaves_out answer.lines)
-  one_more users i d lines new left answer low are is ok more =
+module _ (rows : List AccountRow) (settings : Settings) (words : List NamedWord) (each : EachAsked) where
+  -- what is said of one user more
+  pub one_more : (users : List (SidValue × Bor (List ℕ))) (i : ℕ) (d : SidValue × Bor (List ℕ)) (told more new : List Told) (left some : Bool)
+      → i < length users → AreTold rows settings words each (named (take i users)) told left
+      → IsOfUser rows settings words each (named_user (get_or users i d)) (Said more some) → new ≡ told ++ more
+      → AreTold rows settings words each (named (take (i + 1) users)) new (left || some)
+  one_more users i d told more new left some low are is whole =
       let taken = ap named (take_more users i d low) ∙ map-append named_user (take i users) (get_or users i d ∷ []) in
-      rw (more, taken) (further (named (take i users)) lines left (named_user (get_or users i d)) answer are is ok)
+      rw (whole, taken) (further (named (take i users)) told left (named_user (get_or users i d)) more some are is)
 
 place_named : (users : List (SidValue × Bor (List ℕ))) (i : ℕ) (user : SidValue × Bor (List ℕ))
     → get_or (named users) i (named_user user) ≡ named_user (get_or users i user)

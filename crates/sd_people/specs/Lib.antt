@@ -1,1 +1,7 @@
+pub mod Asked
+pub mod Change
+pub mod Lines
+pub mod Names
+pub mod Naming
 pub mod People
+pub mod Way

@@ -1,124 +1,188 @@
-//! What each user is granted.
-ghost use Rattle.std.specs.Prelude.{◌≡◌, ◌||◌, ℕ, List, IfOk};
+//! An answer by people.
+ghost use Rattle.std.specs.Prelude.{◌≡◌, ◌++◌, IfOk, OnOk, option_map};
 ghost use Rattle.sd_answer.specs.Word.{texts};
 ghost use Rattle.sd_accounts.specs.Accounts.{rows_of};
-ghost use Rattle.sd_accounts.specs.Users.{named};
 ghost use Rattle.sd_commands.specs.Answer.{answer_of};
-ghost use Rattle.sd_people.specs.People.{AnswersOfUsers, AnswersPeople, IsOfLines, IsWhy};
+ghost use Rattle.sd_people.specs.Asked.{asked_by, asked_of, asked_of_each, text_of, words_asked};
+ghost use Rattle.sd_people.specs.Lines.{left_out};
+ghost use Rattle.sd_people.specs.Names.{AreNames, names_in};
+ghost use Rattle.sd_people.specs.Naming.{sids_named};
+ghost use Rattle.sd_people.specs.People.{AnswersByPeople, AnswersWith, AreShown, IsOfPeople, Said, outcome_with};
+ghost use Rattle.sd_people.specs.People.{people_of};
 
-use crate::lines::{leaves_out, lines_to};
+use crate::granted::leaves_out;
+use crate::names::{Names, names_of};
+use crate::naming::{has_names, named_lines, named_people};
+use crate::people::{People, Told, people_asked};
+use crate::sids::{push_sids_of_lines, push_sids_of_people};
 use sd_accounts::Accounts;
 use sd_answer::LABEL_ALONE;
-use sd_commands::{Answer, Outcome, Settings, answer_question, words_for};
-use sd_line::Line;
-use sd_named::{NamedError, NamedWords, Naming, lent};
-use sd_sid::Sid;
+use sd_commands::{Answer, Outcome, Settings};
+use sd_line::{Line, Style};
+use sd_named::NamedError;
 use sd_usage::{DescriptorCommand, TextCommand};
 use std::alloc::{AllocError, Global};
 
-/// What is asked of each user.
+/// What is answered by people.
 #[derive(Clone, Copy)]
 pub struct PeopleQuestion<'a> {
     pub accounts: &'a Accounts,
     pub settings: &'a Settings,
-    /// The SDDL of a descriptor.
-    pub text: &'a str,
-    pub mask: &'a str,
-    /// What each token has beside the user's own groups, with names in the place of SIDs where accounts have them.
-    pub words: &'a [&'a str],
+    pub question: TextCommand,
+    /// The text of the descriptor, with SIDs in the place of names; none where it is read from the input.
+    pub text: Option<&'a str>,
+    /// The arguments after it, with SIDs in the place of names.
+    pub arguments: &'a [&'a str],
+    pub style: Style,
 }
 
-/// The lines of what each user is granted that may log on, in the file's order, as `granted 0x1 by entry 1
-/// (A;;0x1;;;BU) as S-1-5-32-545 to S-1-5-21-1-2-3-1104 alice`: those that `why` has for the user with the groups that
-/// it really has ([MS-DTYP] 2.5.3.2). Where that is a fault it is the answer. The errors are those of a word, and out
-/// of memory.
-pub fn people(alloc: Global, question: PeopleQuestion<'_>) -> Result<Answer, NamedError>
-    ensures { IfOk result (λ answer. AnswersPeople (rows_of question.entry.accounts.now) question.entry.settings.now
-        question.entry.text.now question.entry.mask.now (texts question.entry.words.now) (answer_of answer)) }
-{
-    let settings = question.settings;
-    let naming = Naming {
-        alloc,
-        accounts: question.accounts,
-        known: settings.aliases,
-    };
-    let words = words_for(alloc, settings.logon, question.words)?;
-    let words = naming.named_words(&words)?;
-    let users = question.accounts.users(alloc)?;
-    let asker = Asker {
-        naming,
-        settings,
-        text: question.text,
-        mask: question.mask,
-        words: &words,
-    };
-    Ok(asker.answer(&users)?)
-}
-
+/// What is asked of each user.
 #[derive(Clone, Copy)]
-struct Asker<'a> {
-    naming: Naming<'a>,
-    settings: &'a Settings,
-    text: &'a str,
-    mask: &'a str,
-    words: &'a NamedWords,
+pub(crate) enum OfEach<'a> {
+    /// What of a mask a descriptor grants it.
+    Granted { text: &'a str, mask: &'a str },
+    /// What it gains and loses where one descriptor takes the place of another.
+    Changed { old: &'a str, new: &'a str },
 }
 
-impl Asker<'_> {
-    /// The lines of the users in turn; or the first answer that is a fault.
-    fn answer(&self, users: &[(Sid, &str)]) -> Result<Answer, AllocError>
-        ensures { IfOk result (λ answer. AnswersOfUsers (rows_of self.now.naming.accounts.now) self.now.settings.now
-            self.now.text.now self.now.mask.now self.now.words.now (named users.now) (answer_of answer)) }
-    {
-        let alloc = self.naming.alloc;
-        let mut lines = Vec::new(alloc);
-        let mut left = false;
-        for user in users {
-            let answer = self.why(&user.0)?;
-            if matches!(answer.outcome, Outcome::Fault) {
-                return Ok(answer);
-            }
-            left = either(left, leaves_out(&answer.lines));
-            lines.append(&mut lines_to(alloc, &user.0, user.1, answer.lines)?)?;
+/// The answer, and after its lines those about each user that may log on, in the file's order, with names in the place
+/// of SIDs or beside them where the style has names. `who` of a text adds what each is granted, as `granted 0x1 by
+/// entry 1 (A;;0x1;;;BU) as S-1-5-32-545 by way of S-1-5-21-1-2-3-1200 to S-1-5-21-1-2-3-1104 alice`: the lines that
+/// `why` has for the user with the groups that it really has ([MS-DTYP] 2.5.3.2). `compare` of two texts adds what each
+/// gains and loses. An answer that is a fault stays as it is, and where that to `why` is one, it is the answer. The
+/// errors are those of a word, and out of memory.
+pub fn by_people(
+    alloc: Global,
+    question: PeopleQuestion<'_>,
+    plain: Answer,
+) -> Result<Answer, NamedError>
+    ensures { IfOk result (λ answer. AnswersByPeople (asked_of question.entry) (answer_of plain) (answer_of answer)) }
+{
+    if matches!(plain.outcome, Outcome::Fault) {
+        return Ok(plain);
+    }
+    match people_in(alloc, &question)? {
+        People::Fault(answer) => Ok(answer),
+        People::Told { told, left } => Ok(with_people(alloc, &question, plain, told, left)?),
+    }
+}
+
+/// What is said about people.
+fn people_in(alloc: Global, question: &PeopleQuestion<'_>) -> Result<People, NamedError>
+    ensures { IfOk result (λ people. IsOfPeople (rows_of question.now.accounts.now) question.now.settings.now
+        (asked_of_each (asked_of question.now)) (people_of people)) }
+{
+    match asked_by(question.text, question.arguments, question.question) {
+        Some((each, words)) => {
+            people_asked(alloc, question.accounts, question.settings, each, words)
         }
-        ended(alloc, lines, left)
-    }
-
-    /// The answer to `why` for the user of this SID.
-    fn why(&self, user: &Sid) -> Result<Answer, AllocError>
-        ensures { (name : List ℕ) → IfOk result (λ answer. IsWhy (rows_of self.now.naming.accounts.now)
-            self.now.settings.now self.now.text.now self.now.mask.now self.now.words.now (user.now, name)
-            (answer_of answer)) }
-    {
-        let alloc = self.naming.alloc;
-        let has_logon = self.settings.logon.is_some();
-        let named = self
-            .naming
-            .of_account(has_logon, user, self.mask, self.words)?;
-        let arguments = lent(alloc, &named)?;
-        let question = TextCommand::Descriptor(DescriptorCommand::Why);
-        answer_question(alloc, self.settings, question, self.text, &arguments)
+        None => Ok(People::Told {
+            told: Vec::new(alloc),
+            left: false,
+        }),
     }
 }
 
-fn either(one: bool, other: bool) -> bool
-    ensures { result ≡ (one || other) }
+/// What is asked of each user, and with which words beside its own groups; none where nobody is asked.
+fn asked_by<'a>(
+    text: Option<&'a str>,
+    arguments: &'a [&'a str],
+    question: TextCommand,
+) -> Option<(OfEach<'a>, &'a [&'a str])>
+    ensures { option_map words_asked result ≡ asked_by (text_of text.entry) (texts arguments.entry.now) question }
 {
-    one || other
+    let text = text?;
+    let [first, words @ ..] = arguments else {
+        return None;
+    };
+    match question {
+        TextCommand::Descriptor(DescriptorCommand::Who) => {
+            Some((OfEach::Granted { text, mask: first }, words))
+        }
+        TextCommand::Descriptor(DescriptorCommand::Compare) => {
+            let (old, new) = (text, *first);
+            Some((OfEach::Changed { old, new }, words))
+        }
+        _ => None,
+    }
 }
 
-/// The answer of these lines, and whether something was left out.
-fn ended(alloc: Global, mut lines: Vec<Line>, left: bool) -> Result<Answer, AllocError>
-    ensures { IfOk result (λ answer. IsOfLines lines.items left (answer_of answer)) }
+/// The answer with the lines about people, and with names.
+fn with_people(
+    alloc: Global,
+    question: &PeopleQuestion<'_>,
+    plain: Answer,
+    people: Vec<Told>,
+    left: bool,
+) -> Result<Answer, AllocError>
+    ensures { IfOk result (λ answer. AnswersWith (asked_of question.now) (answer_of plain) (Said people.items left)
+        (answer_of answer)) }
 {
-    let mut outcome = Outcome::Done;
-    if left {
-        lines.push(Line::new(alloc, LABEL_ALONE, Vec::new(alloc))?)?;
-        outcome = Outcome::Refused;
-    }
+    let Answer {
+        lines,
+        told,
+        outcome,
+    } = plain;
+    let says = left && !leaves_out(&lines);
+    let mut lines = shown(alloc, question, lines, people)?;
+    push_left_out(alloc, &mut lines, says)?;
+    let outcome = outcome_with(left, outcome);
     Ok(Answer {
         lines,
-        told: String::new(alloc),
+        told,
         outcome,
     })
+}
+
+fn push_left_out(alloc: Global, lines: &mut Vec<Line>, says: bool) -> Result<(), AllocError>
+    ensures { OnOk result (lines.new.items ≡ lines.old.items ++ left_out says) }
+{
+    if says {
+        lines.push(Line::new(alloc, LABEL_ALONE, Vec::new(alloc))?)?;
+    }
+    Ok(())
+}
+
+fn outcome_with(left: bool, outcome: Outcome) -> Outcome
+    ensures { result ≡ outcome_with left outcome }
+{
+    if left {
+        outcome.or_worse(Outcome::Refused)
+    } else {
+        outcome
+    }
+}
+
+/// The lines and those about people, with names.
+fn shown(
+    alloc: Global,
+    question: &PeopleQuestion<'_>,
+    lines: Vec<Line>,
+    people: Vec<Told>,
+) -> Result<Vec<Line>, AllocError>
+    ensures { IfOk result (λ all. AreShown (asked_of question.now) lines.items people.items all.items) }
+{
+    let names = names_for(alloc, question, &lines, &people)?;
+    let mut all = named_lines(alloc, question.style, &names, lines)?;
+    all.append(&mut named_people(alloc, question.style, &names, people)?)?;
+    Ok(all)
+}
+
+/// The names of the SIDs in the lines; none where the style has no names.
+fn names_for(
+    alloc: Global,
+    question: &PeopleQuestion<'_>,
+    lines: &[Line],
+    people: &[Told],
+) -> Result<Names, AllocError>
+    ensures { IfOk result (λ names. AreNames (rows_of question.now.accounts.now) question.now.settings.now.aliases
+        (names_in names) (sids_named question.now.style lines.now people.now)) }
+{
+    let mut sids = Vec::new(alloc);
+    if has_names(question.style.spelling) {
+        push_sids_of_lines(&mut sids, lines)?;
+        push_sids_of_people(&mut sids, people)?;
+    }
+    let known = question.settings.aliases;
+    names_of(alloc, question.accounts, known, &sids)
 }

@@ -1,0 +1,71 @@
+-- A question with SIDs in the place of the names of accounts, in which a user has the groups of its account.
+use Rattle.std.specs.Prelude.{◌≡◌, ℕ, Bool, true, false, MatchBool, List, ◌∷◌, Option, Some, None, is_some}
+use Rattle.sd_text.specs.declared.alias.Aliases.{Aliases}
+use Rattle.sd_answer.specs.Word.{texts}
+use Rattle.sd_accounts.specs.Row.{AccountRow}
+use Rattle.sd_named.specs.Arguments.{AreOfUser, AreOfWords}
+use Rattle.sd_named.specs.Sddl.{IsNamedSddl}
+use Rattle.sd_usage.specs.declared.row.DescriptorCommand.TheVariants as about
+use Rattle.sd_usage.specs.declared.row.TextCommand.{TextCommand}
+use Rattle.sd_usage.specs.declared.row.TextCommand.TheVariants.{Descriptor, Diff, Show}
+use Rattle.sd_commands.specs.Logon.{words_for}
+use Rattle.sd_commands.specs.declared.logon.Logon.{Logon}
+use Rattle.sd_commands.specs.declared.settings.Settings.{Settings}
+use Rattle.sd_arguments.specs.CommandLine.{RequestValue}
+
+-- ---- texts
+
+-- the command's text is a descriptor's
+abbrev pub has_sddl : TextCommand → Bool
+has_sddl (Descriptor question) = true
+has_sddl Show = true
+has_sddl Diff = true
+has_sddl question = false
+
+-- in a descriptor's text SIDs stand in the place of names; any other stands as it is
+abbrev pub IsText : List AccountRow → Aliases → (is_sddl : Bool) → List ℕ → List ℕ → Type 0
+IsText rows known true text own = IsNamedSddl rows known text own
+IsText rows known false text own = own ≡ text
+
+-- a command's text, if it has one
+abbrev pub IsGiven : List AccountRow → Aliases → TextCommand → Option (List ℕ) → Option (List ℕ) → Type 0
+IsGiven rows known question (Some text) (Some own) = IsText rows known (has_sddl question) text own
+IsGiven rows known question text own = own ≡ text
+
+-- ---- arguments
+
+-- the arguments USER MASK WORD.., with the groups of a logon that is given behind the words
+abbrev pub AreOfVerdict : List AccountRow → Aliases → Option Logon → List (List ℕ) → List (List ℕ) → Type 0
+AreOfVerdict rows known logon (user ∷ mask ∷ words) named =
+    AreOfUser rows known (is_some logon) user mask (words_for logon words) named
+AreOfVerdict rows known logon arguments named = named ≡ arguments
+
+-- one argument, which may be a descriptor's text, and words
+abbrev pub AreOfRest : List AccountRow → Aliases → (is_sddl : Bool) → List (List ℕ) → List (List ℕ) → Type 0
+AreOfRest rows known is_sddl (first ∷ words) named = (own : List ℕ) × (rest : List (List ℕ))
+    × IsText rows known is_sddl first own × AreOfWords rows known words rest × (named ≡ own ∷ rest)
+AreOfRest rows known is_sddl arguments named = named ≡ arguments
+
+-- a descriptor's text, and arguments that stand as they are
+abbrev pub AreBehind : List AccountRow → Aliases → List (List ℕ) → List (List ℕ) → Type 0
+AreBehind rows known (first ∷ words) named =
+    (own : List ℕ) × IsNamedSddl rows known first own × (named ≡ own ∷ words)
+AreBehind rows known arguments named = named ≡ arguments
+
+-- the arguments of a command after its text, with SIDs in the place of names
+abbrev pub AreNamed : List AccountRow → Aliases → Option Logon → TextCommand → List (List ℕ) → List (List ℕ) → Type 0
+AreNamed rows known logon (Descriptor about.Verdict) = AreOfVerdict rows known logon
+AreNamed rows known logon (Descriptor about.Why) = AreOfVerdict rows known logon
+AreNamed rows known logon (Descriptor about.Who) = AreOfRest rows known false
+AreNamed rows known logon (Descriptor about.Compare) = AreOfRest rows known true
+AreNamed rows known logon (Descriptor about.Lint) = AreOfWords rows known
+AreNamed rows known logon Diff = AreBehind rows known
+AreNamed rows known logon question = λ arguments named. named ≡ arguments
+
+-- the question of a text and of arguments with SIDs in the place of names
+pub record IsNamedRequest (rows : List AccountRow) (settings : Settings) (text : Option (List ℕ))
+    (request : RequestValue) (own_text : Option (List ℕ)) (own : RequestValue) : Type 0 where
+  pub question : own.question ≡ request.question
+  pub is_given : IsGiven rows settings.aliases request.question text own_text
+  pub are_named : AreNamed rows settings.aliases settings.logon request.question (texts request.arguments)
+      (texts own.arguments)

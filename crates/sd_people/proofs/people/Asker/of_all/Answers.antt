@@ -1,0 +1,31 @@
+-- One user more; and a fault.
+use Rattle.std.proofs.Common.{subst}
+use Rattle.sd_accounts.specs.Accounts.{rows_of}
+use Rattle.sd_accounts.specs.Users.{named_user}
+use Rattle.sd_people.specs.Asked.{each_of}
+use Rattle.sd_people.specs.People.{IsOfUser, Said, nobody, people_of}
+use Rattle.sd_people.proofs.Turns.{at_place, one_more}
+use Rattle.sd_people.proofs.people.Asker.of_all.Goals as goal
+
+pub loop-user-init : goal.loop-user-init
+loop-user-init c = rw c.new-told.ensures.items nobody
+
+pub returns-in-Fault : goal.returns-in-Fault
+returns-in-Fault c =
+    let asker = c.args.self.now in
+    let user = c.user-item.result in
+    let is = subst (λ p. IsOfUser (rows_of asker.naming.accounts.now) asker.settings.now asker.words.now (each_of c.args.each) (named_user user) (people_of p))
+    c.in-Fault.is c.in_ok-answer.ensures in
+    (named_user user, at_place c.args.users.now c.loop-user.user-index user c.loop-user-test.true c.user-item.is, is)
+
+pub loop-user-preserved : goal.loop-user-preserved
+loop-user-preserved c =
+    let asker = c.args.self.now in
+    let rows = rows_of asker.naming.accounts.now in
+    let each = each_of c.args.each in
+    let user = c.user-item.result in
+    let said = subst (λ p. IsOfUser rows asker.settings.now asker.words.now each (named_user user) (people_of p)) c.in-Told.is c.in_ok-answer.ensures in
+    let is = subst (λ u. IsOfUser rows asker.settings.now asker.words.now each (named_user u) (Said c.in-Told.more.items c.in-Told.some)) c.user-item.is said in
+    rw c.either-left.ensures
+    (one_more rows asker.settings.now asker.words.now each c.args.users.now c.loop-user.user-index user c.loop-user.told.items c.in-Told.more.items
+    c.append.new.self.items c.loop-user.left c.in-Told.some c.loop-user-test.true c.loop-user.invariant is c.in_ok-append-in-Told.ensures.items)

@@ -1,0 +1,176 @@
+//! What is said about each user.
+ghost use Rattle.std.specs.Prelude.{◌≡◌, ◌||◌, IfOk, Some};
+ghost use Rattle.sd_answer.specs.Word.{texts};
+ghost use Rattle.sd_accounts.specs.Accounts.{rows_of};
+ghost use Rattle.sd_accounts.specs.Users.{named};
+ghost use Rattle.sd_commands.specs.Answer.{answer_of};
+ghost use Rattle.sd_people.specs.Asked.{Changed, Granted, each_of};
+ghost use Rattle.sd_people.specs.People.{IsOfPeople, IsOfUser, IsOfUsers, IsWhy, SaysChange, people_of};
+
+use crate::asking::OfEach;
+use crate::change::{ALL_GRANTED, changes, granted_mask};
+use crate::granted::{grants_of, leaves_out};
+use sd_accounts::Accounts;
+use sd_commands::{Answer, Outcome, Settings, answer_question, words_for};
+use sd_line::{Line, Part};
+use sd_named::{NamedError, NamedWords, Naming, lent};
+use sd_sid::Sid;
+use sd_usage::{DescriptorCommand, TextCommand};
+use std::alloc::{AllocError, Global};
+
+/// A line, and the part about whom it is, which stands at its end.
+pub(crate) type Told = (Line, Part);
+
+/// What is said about people.
+#[derive(Drop)]
+pub(crate) enum People {
+    /// Lines, and whether something was left out.
+    Told { told: Vec<Told>, left: bool },
+    /// The answer to one of them is this, a fault.
+    Fault(Answer),
+}
+
+/// What is said of the users that may log on, who have these words beside their own groups.
+pub(crate) fn people_asked(
+    alloc: Global,
+    accounts: &Accounts,
+    settings: &Settings,
+    each: OfEach<'_>,
+    words: &[&str],
+) -> Result<People, NamedError>
+    ensures { IfOk result (λ people. IsOfPeople (rows_of accounts.now) settings.now
+        (Some (each_of each.entry, texts words.now)) (people_of people)) }
+{
+    let known = settings.aliases;
+    let naming = Naming {
+        alloc,
+        accounts,
+        known,
+    };
+    let all = words_for(alloc, settings.logon, words)?;
+    let words = naming.named_words(&all)?;
+    let users = accounts.users(alloc)?;
+    let asker = Asker {
+        naming,
+        settings,
+        words: &words,
+    };
+    Ok(asker.of_all(each, &users)?)
+}
+
+#[derive(Clone, Copy)]
+struct Asker<'a> {
+    naming: Naming<'a>,
+    settings: &'a Settings,
+    words: &'a NamedWords,
+}
+
+impl Asker<'_> {
+    /// What is said of the users in turn; or the first answer that is a fault.
+    fn of_all(&self, each: OfEach<'_>, users: &[(Sid, &str)]) -> Result<People, AllocError>
+        ensures { IfOk result (λ people. IsOfUsers (rows_of self.now.naming.accounts.now) self.now.settings.now
+            self.now.words.now (each_of each.entry) (named users.now) (people_of people)) }
+    {
+        let mut told = Vec::new(self.naming.alloc);
+        let mut left = false;
+        for user in users {
+            match self.of_user(each, &user.0, user.1)? {
+                People::Fault(answer) => return Ok(People::Fault(answer)),
+                People::Told {
+                    told: mut more,
+                    left: some,
+                } => {
+                    told.append(&mut more)?;
+                    left = either(left, some);
+                }
+            }
+        }
+        Ok(People::Told { told, left })
+    }
+
+    fn of_user(&self, each: OfEach<'_>, user: &Sid, name: &str) -> Result<People, AllocError>
+        ensures { IfOk result (λ people. IsOfUser (rows_of self.now.naming.accounts.now) self.now.settings.now
+            self.now.words.now (each_of each.entry) (user.now, name.now) (people_of people)) }
+    {
+        match each {
+            OfEach::Granted { text, mask } => self.granted(text, mask, user, name),
+            OfEach::Changed { old, new } => self.changed(old, new, user, name),
+        }
+    }
+
+    /// What the descriptor grants the user of the mask.
+    fn granted(&self, text: &str, mask: &str, user: &Sid, name: &str) -> Result<People, AllocError>
+        ensures { IfOk result (λ people. IsOfUser (rows_of self.now.naming.accounts.now) self.now.settings.now
+            self.now.words.now (Granted text.now mask.now) (user.now, name.now) (people_of people)) }
+    {
+        let alloc = self.naming.alloc;
+        let answer = self.why(text, mask, user)?;
+        if matches!(answer.outcome, Outcome::Fault) {
+            return Ok(People::Fault(answer));
+        }
+        let left = leaves_out(&answer.lines);
+        let has_logon = self.settings.logon.is_some();
+        let starts = self.naming.starts(has_logon, user, self.words)?;
+        let told = grants_of(
+            alloc,
+            self.naming.accounts,
+            &starts,
+            user,
+            name,
+            answer.lines,
+        )?;
+        Ok(People::Told { told, left })
+    }
+
+    /// What the user gains and loses where the new descriptor takes the place of the old one.
+    fn changed(&self, old: &str, new: &str, user: &Sid, name: &str) -> Result<People, AllocError>
+        ensures { IfOk result (λ people. IsOfUser (rows_of self.now.naming.accounts.now) self.now.settings.now
+            self.now.words.now (Changed old.now new.now) (user.now, name.now) (people_of people)) }
+    {
+        let old = self.why(old, ALL_GRANTED, user)?;
+        let new = self.why(new, ALL_GRANTED, user)?;
+        change_of(self.naming.alloc, user, name, old, new)
+    }
+
+    /// The answer to `why` for the user of this SID.
+    fn why(&self, text: &str, mask: &str, user: &Sid) -> Result<Answer, AllocError>
+        ensures { IfOk result (λ answer. IsWhy (rows_of self.now.naming.accounts.now) self.now.settings.now text.now
+            mask.now self.now.words.now user.now (answer_of answer)) }
+    {
+        let alloc = self.naming.alloc;
+        let has_logon = self.settings.logon.is_some();
+        let named = self.naming.of_account(has_logon, user, mask, self.words)?;
+        let arguments = lent(alloc, &named)?;
+        let question = TextCommand::Descriptor(DescriptorCommand::Why);
+        answer_question(alloc, self.settings, question, text, &arguments)
+    }
+}
+
+/// What the user gains and loses by the two answers; or the first of them that is a fault.
+fn change_of(
+    alloc: Global,
+    user: &Sid,
+    name: &str,
+    old: Answer,
+    new: Answer,
+) -> Result<People, AllocError>
+    ensures { IfOk result (λ people. SaysChange (user.now, name.now) (answer_of old) (answer_of new)
+        (people_of people)) }
+{
+    if matches!(old.outcome, Outcome::Fault) {
+        return Ok(People::Fault(old));
+    }
+    if matches!(new.outcome, Outcome::Fault) {
+        return Ok(People::Fault(new));
+    }
+    let left = either(leaves_out(&old.lines), leaves_out(&new.lines));
+    let (before, after) = (granted_mask(&old.lines), granted_mask(&new.lines));
+    let told = changes(alloc, user, name, before, after)?;
+    Ok(People::Told { told, left })
+}
+
+fn either(one: bool, other: bool) -> bool
+    ensures { result ≡ (one || other) }
+{
+    one || other
+}
