@@ -72,6 +72,8 @@ def _parser() -> argparse.ArgumentParser:
     report.add_argument("script", metavar="SCRIPT")
     report.add_argument("file", metavar="FILE", help="the HTML file to write")
     report.add_argument("--title", metavar="TEXT", help="SCRIPT unless given")
+    _add_people(report)
+    report.add_argument("--matrix", metavar="CSV", help="write a line for each user and node where its rights change")
     _add_accounts(command("accounts", commands.accounts, "write which groups users are in, for sdstore --accounts"))
     return parser
 
@@ -138,6 +140,13 @@ def _add_who(who: argparse.ArgumentParser) -> None:
     who.add_argument("mask", metavar="MASK", help="rights, as sdstore takes them: FR, 0x2")
     who.add_argument("words", metavar="ARG", nargs="*", help="groups that all users have, as sdstore who takes them")
     _add_only_given(who)
+    _add_people(who)
+
+
+def _add_people(parser: argparse.ArgumentParser) -> None:
+    parser.add_argument(
+        "--accounts", metavar="FILE", help="users of FILE, which estate accounts writes, have the groups that it says"
+    )
 
 
 def _add_only_given(parser: argparse.ArgumentParser) -> None:
@@ -146,10 +155,15 @@ def _add_only_given(parser: argparse.ArgumentParser) -> None:
     )
 
 
+def _add_user(parser: argparse.ArgumentParser) -> None:
+    parser.add_argument("user", metavar="USER", help="the user's SID, or with --accounts its name")
+    _add_people(parser)
+
+
 def _add_find(find: argparse.ArgumentParser) -> None:
     find.add_argument("script", metavar="SCRIPT")
     find.add_argument("path", metavar="PATH", help="a node, as SCRIPT spells it: it and all below it are searched")
-    find.add_argument("user", metavar="USER", help="the user's SID")
+    _add_user(find)
     find.add_argument("mask", metavar="MASK", help="rights, as sdstore takes them: FR, 0x2")
     find.add_argument("words", metavar="ARG", nargs="*", help="groups and privileges, as sdstore verdict takes them")
     _add_only_given(find)
@@ -158,7 +172,7 @@ def _add_find(find: argparse.ArgumentParser) -> None:
 def _add_why(why: argparse.ArgumentParser) -> None:
     why.add_argument("folder", metavar="FOLDER", help="the mounted folder")
     why.add_argument("path", metavar="PATH", help="a node of it, as a script spells it: /, /plans/a%%20b")
-    why.add_argument("user", metavar="USER", help="the user's SID")
+    _add_user(why)
     why.add_argument("mask", metavar="MASK", help="rights, as sdstore takes them: FR, 0x2")
     why.add_argument(
         "words", metavar="ARG", nargs="*", help="groups, claims and a level, as sdstore --whole why takes them"
@@ -171,6 +185,7 @@ def _add_review(review: argparse.ArgumentParser) -> None:
     review.add_argument("script", metavar="SCRIPT")
     review.add_argument("path", metavar="PATH", nargs="?", default="/", help="a node, with all below it")
     review.add_argument("words", metavar="ARG", nargs="*", help="groups that all users have, as sdstore who takes them")
+    _add_people(review)
 
 
 def _add_journal(parser: argparse.ArgumentParser) -> None:

@@ -4,18 +4,22 @@ import argparse
 import dataclasses
 import os
 from collections.abc import Callable, Iterable
+from contextlib import AbstractContextManager, nullcontext
 
 from hudarin import Descriptor, Refused, Sid
 
 import accounts as accounts_file
 import icacls as icacls_file
+import people as people_of
 import questions
 from errors import Invalid, Stopped
 from forms import Attribute
 from gaps import Gap, summed_up
 from journal import Journal, Step, locked_journal, write_journal
+from matrix import Matrix
 from names import read_names
 from paths import spelled
+from people import People, require_own_groups
 from planning import Leave, Plan
 from progress import Progress
 from report import Report
@@ -185,21 +189,51 @@ def lint(arguments: argparse.Namespace, table: Table) -> int:
 
 
 def who(arguments: argparse.Namespace, table: Table) -> int:
-    """Whom a node grants rights, of all possible users."""
-    with read_script(arguments.script) as script:
-        gaps = script.gaps_at(questions.node_of(script, arguments.path))
+    """Whom a node grants rights, of all possible users, and of those of a file of accounts."""
+    with read_script(arguments.script) as script, _people(arguments, arguments.words) as people:
+        path = questions.node_of(script, arguments.path)
         assumed = questions.assumed_groups(arguments.words, arguments.only_given, table)
         count = questions.who(script, arguments.path, [arguments.mask, *arguments.words, *assumed], table)
-    return _answered(table, "answered", plural(count, "line"), {"lines": count}, gaps)
+        users = None if people is None else people_of.who(script, path, arguments.mask, people, table)
+        gaps = script.gaps_at(path)
+    text = f"{plural(count, 'line')}{_of_users(users)}"
+    return _answered(table, "answered", text, _cells(users, lines=count), gaps)
+
+
+def _people(arguments: argparse.Namespace, words: list[str]) -> AbstractContextManager[People | None]:
+    """The users of the file of accounts, if there is one: no argument gives or takes groups of theirs then."""
+    if arguments.accounts is None:
+        return nullcontext()
+    require_own_groups(words, getattr(arguments, "only_given", False))
+    return People(arguments.accounts)
+
+
+def _of_users(count: int | None) -> str:
+    """How many users an answer is about, in words, if there is a file of accounts."""
+    return "" if count is None else f", {plural(count, 'user')} of the accounts"
+
+
+def _cells(users: int | None, **counts: Cell) -> dict[str, Cell]:
+    """The counts of an answer, and of its users if there is a file of accounts."""
+    return counts if users is None else {**counts, "users": users}
+
+
+def _asking(arguments: argparse.Namespace, table: Table) -> list[str]:
+    """The user, the rights, and what the user has: the groups of its account, or those that are assumed."""
+    user, words = arguments.user, arguments.words
+    with _people(arguments, words) as people:
+        if people is not None:
+            own, *groups = (sid.full for sid in people.sids(user))
+            return [own, arguments.mask, *groups, *words]
+    assumed = questions.assumed_groups([user, *words], arguments.only_given, table)
+    return [user, arguments.mask, *words, *assumed]
 
 
 def find(arguments: argparse.Namespace, table: Table) -> int:
     """The nodes that grant a user rights."""
     with read_script(arguments.script) as script:
         gaps = script.gaps_below(questions.node_of(script, arguments.path))
-        assumed = questions.assumed_groups([arguments.user, *arguments.words], arguments.only_given, table)
-        words = [arguments.user, arguments.mask, *arguments.words, *assumed]
-        count = questions.find(script, arguments.path, words, table)
+        count = questions.find(script, arguments.path, _asking(arguments, table), table)
     return _answered(table, "found", plural(count, "node"), {"nodes": count}, gaps)
 
 
@@ -207,28 +241,47 @@ def why(arguments: argparse.Namespace, table: Table) -> int:
     """Whether a node of a volume grants a user rights, by the descriptor that the disk has, and for which reasons."""
     with _volume(arguments.folder, arguments) as volume:
         text = questions.text_on(volume, arguments.path)
-    assumed = questions.assumed_groups([arguments.user, *arguments.words], arguments.only_given, table)
-    words = [arguments.user, arguments.mask, *arguments.words, *assumed]
-    is_granted = questions.why(text, arguments.path, words, table)
+    is_granted = questions.why(text, arguments.path, _asking(arguments, table), table)
     text = "granted" if is_granted else "denied"
     return _answered(table, "answered", text, {"granted": int(is_granted)}, [], 0 if is_granted else 1)
 
 
 def review(arguments: argparse.Namespace, table: Table) -> int:
-    """What a script's changes grant and take away, of all possible users."""
-    with read_script(arguments.script) as script:
-        gaps = script.gaps_of_changes(questions.node_of(script, arguments.path))
+    """What a script's changes grant and take away, of all possible users, and of those of a file of accounts."""
+    with read_script(arguments.script) as script, _people(arguments, arguments.words) as people:
+        path = questions.node_of(script, arguments.path)
+        gaps = script.gaps_of_changes(path)
         count = questions.review(script, arguments.path, arguments.words, table)
-    text = f"{plural(count, 'node')} where somebody gains or loses rights"
-    return _answered(table, "reviewed", text, {"nodes": count}, gaps, 1 if count else 0)
+        users = None if people is None else people_of.review(script, path, people, table)
+    text = f"{plural(count, 'node')} where somebody gains or loses rights{_of_users(users)}"
+    return _answered(table, "reviewed", text, _cells(users, nodes=count), gaps, 1 if count or users else 0)
 
 
 def report(arguments: argparse.Namespace, table: Table) -> int:
-    """The nodes of a script as a page."""
-    with read_script(arguments.script) as script:
-        count = Report(script, read_names(arguments.names)).write(arguments.file, arguments.title or arguments.script)
+    """The nodes of a script as a page, and what users of a file of accounts are granted as CSV."""
+    _check_files(arguments)
+    names, title = read_names(arguments.names), arguments.title or arguments.script
+    with read_script(arguments.script) as script, _people(arguments, []) as people:
+        matrix = None if people is None else Matrix(script, people)
         gaps = script.gaps_below(())
-    return _answered(table, "written", f"{plural(count, 'node')} in {arguments.file}", {"nodes": count}, gaps)
+        count = Report(script, names, matrix).write(arguments.file, title)
+        text, cells = f"{plural(count, 'node')} in {arguments.file}", _cells(None, nodes=count)
+        if matrix is not None and arguments.matrix is not None:
+            rows = matrix.write(arguments.matrix, gaps)
+            text, cells = f"{text}, {plural(rows, 'node')} in {arguments.matrix}", cells | {"rows": rows}
+    return _answered(table, "written", text, cells, gaps if matrix is None else gaps + matrix.cut)
+
+
+def _check_files(arguments: argparse.Namespace) -> None:
+    """Invalid if a file would replace another one of the command, or nothing says which users there are."""
+    if arguments.accounts is None:
+        if arguments.matrix is not None:
+            raise Invalid("--matrix: it is about the users of --accounts FILE, which is missing")
+        return
+    read = {os.path.realpath(each) for each in (arguments.script, arguments.accounts, *arguments.names)}
+    written = [os.path.realpath(each) for each in (arguments.file, arguments.matrix) if each is not None]
+    if len(read.union(written)) < len(read) + len(written):
+        raise Invalid("FILE and --matrix CSV are two files, and none that is read: name others")
 
 
 def accounts(arguments: argparse.Namespace, table: Table) -> int:

@@ -9,6 +9,15 @@ from table import Cell, plural, safe
 
 #: The columns of each row after its path, as docs/ESTATES.md has them.
 _COLUMNS = {"differs": ("why",), "skipped": ("why", "below"), "unlisted": ("why",), "files": ("count",)}
+#: Those of a row of which no comment is.
+_OTHERS = {"unknown": ("why",), "cut": ("why", "count")}
+#: What a node of the source is that an answer isn't about.
+_KINDS = {
+    "differs": "another list",
+    "skipped": "not read",
+    "unlisted": "not listed",
+    "unknown": "not known",
+}
 #: The comment after all others has their count: a script that lost one doesn't pass for one without.
 _END = "# rows\t"
 
@@ -16,7 +25,8 @@ _END = "# rows\t"
 @dataclass(frozen=True, slots=True)
 class Gap:
     """A node that the source has otherwise than the tree ("differs"), or has and the tree hasn't: one without a line
-    ("skipped"), what is in a folder ("unlisted"), files of a folder ("files"). Of "unknown" no comment is."""
+    ("skipped"), what is in a folder ("unlisted"), files of a folder ("files"). No comment is of "unknown", and of nodes
+    for which an answer has no room ("cut")."""
 
     what: str
     path: Path
@@ -30,7 +40,7 @@ class Gap:
     def cells(self) -> dict[str, Cell]:
         """The columns of its row."""
         columns: dict[str, Cell] = {"path": spelled(self.path)}
-        for name in _COLUMNS.get(self.what, ("why",)):
+        for name in (_COLUMNS | _OTHERS)[self.what]:
             columns[name] = self.why if name == "why" else self.count
         return columns
 
@@ -39,6 +49,14 @@ class Gap:
         """Its line in a script, in ASCII: the row, and what a write compares."""
         cells = (safe(str(cell)) for cell in (*self.cells.values(), *filter(None, (self.whole,))))
         return "\t".join([f"# {self.what}", *cells]).encode("ascii", "backslashreplace").decode()
+
+    @property
+    def text(self) -> str:
+        """What there is to say of it, but its path."""
+        if self.what == "files":
+            return f"{plural(self.count, 'file')} without a line"
+        below = f", and {plural(self.count, 'node')} below" if self.count else ""
+        return f"{_KINDS[self.what]}{below}: {self.why}"
 
     @property
     def nodes(self) -> int:
@@ -84,6 +102,7 @@ def summed_up(gaps: Iterable[Gap]) -> str:
         "skipped": f"{plural(counts.get('skipped', 0), 'node')} that couldn't be read",
         "unlisted": f"what is in {plural(counts.get('unlisted', 0), 'folder')}",
         "files": f"{plural(counts.get('files', 0), 'file')} without a line",
+        "cut": f"{plural(counts.get('cut', 0), 'node')} of the table of users",
         "unknown": "it isn't known which nodes",
     }
     return ", ".join(text for what, text in texts.items() if what in counts)

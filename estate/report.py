@@ -12,57 +12,19 @@ from typing import Any
 from hudarin import Sid, mask
 
 from gaps import Gap, summed_up
+from matrix import Matrix
+from numbering import Numbers
 from paths import Path, spelled
 from questions import Difference, Grant, findings_of, grants_of, reviewed
+from rights import NAMED, in_words
 from script import Script
 from sddl import Entry, Parts, parts_of
 from table import plural, safe
 from atomic_file import atomic_file
 
 _HERE = File(__file__).resolve().parent
-#: The masks of files that have a name in Windows' own editor.
-_RIGHTS = {
-    0x1F01FF: "full control",
-    0x1301BF: "modify",
-    0x1200A9: "read and execute",
-    0x120089: "read",
-    0x120116: "write",
-    0x10000000: "all (generic)",
-    0x80000000: "read (generic)",
-    0x40000000: "write (generic)",
-    0x20000000: "execute (generic)",
-}
-#: The rights that a file or a folder has names for, a bit each.
-_BITS = {
-    0x1: "read or list",
-    0x2: "write or add files",
-    0x4: "append or add folders",
-    0x8: "read extended attributes",
-    0x10: "write extended attributes",
-    0x20: "execute or traverse",
-    0x40: "delete children",
-    0x80: "read attributes",
-    0x100: "write attributes",
-    0x10000: "delete",
-    0x20000: "read permissions",
-    0x40000: "change permissions",
-    0x80000: "take ownership",
-    0x100000: "synchronize",
-}
-#: What a node of the source is that the report isn't about; "files" are a mark of their folder.
-_GAPS = {"differs": "another list", "skipped": "not read", "unlisted": "not listed", "unknown": "not known"}
 #: What is asked about each node, in the order in which the page shows it: read, write, change permissions.
 _ASKED = (0x1, 0x2, 0x40000)
-
-
-@dataclass(slots=True)
-class _Numbers:
-    """Values by the order in which they were first seen."""
-
-    numbers: dict[Any, int] = field(default_factory=dict)
-
-    def of(self, value: Any) -> int:
-        return self.numbers.setdefault(value, len(self.numbers))
 
 
 @dataclass(slots=True)
@@ -71,10 +33,12 @@ class Report:
 
     script: Script
     names: dict[str, str]
-    _sids: _Numbers = field(default_factory=_Numbers)
+    #: What users are granted where, if there is a file of accounts.
+    matrix: Matrix | None = None
+    _sids: Numbers = field(default_factory=Numbers)
     _lists: dict[str, int] = field(default_factory=dict)
     _made: list[list[Any]] = field(default_factory=list)
-    _accesses: _Numbers = field(default_factory=_Numbers)
+    _accesses: Numbers = field(default_factory=Numbers)
 
     def write(self, name: str, title: str) -> int:
         """Writes the report, and returns how many nodes it has."""
@@ -93,9 +57,11 @@ class Report:
             "changed": sum(1 for _ in self.script.changes()),
             "changes": changes,
             "leftOut": summed_up(gaps),
-            "gaps": [_gap(gap, numbers) for gap in gaps if gap.what in _GAPS],
+            "gaps": [_gap(gap, numbers) for gap in gaps if gap.what != "files"],
             "sids": self._named(),
         }
+        if self.matrix is not None:
+            data["people"] = self.matrix.page(numbers)
         self._put(name, title, data)
         return len(nodes)
 
@@ -148,11 +114,13 @@ class Report:
     def _entry(self, entry: Entry) -> list[Any]:
         rights, _, _, sid = entry.rest.split(";")
         bits = mask(rights)
-        named = _RIGHTS.get(bits, f"{rights} ({bits:#x})" if not rights.startswith("0x") else rights)
+        named = NAMED.get(bits, f"{rights} ({bits:#x})" if not rights.startswith("0x") else rights)
         return [int(entry.kind == "D"), named, _applies(entry), int(entry.is_inherited), self._sid(sid)]
 
     def _put(self, name: str, title: str, data: dict[str, Any]) -> None:
-        style, script, page = ((_HERE / f"report.{kind}").read_text("utf-8") for kind in ("css", "js", "html"))
+        parts = ("report",) if self.matrix is None else ("report", "matrix")
+        style, script = (_joined(parts, kind) for kind in ("css", "js"))
+        page = (_HERE / "report.html").read_text("utf-8")
         digest = base64.b64encode(hashlib.sha256(script.encode()).digest()).decode()
         # ('<' ends the element that has the data, wherever it is)
         inside = json.dumps(data, separators=(",", ":")).replace("<", "\\u003c")
@@ -164,19 +132,15 @@ class Report:
             file.write((before + inside + after).encode())
 
 
+def _joined(parts: tuple[str, ...], kind: str) -> str:
+    """The files of this kind, one after the other."""
+    return "".join((_HERE / f"{part}.{kind}").read_text("utf-8") for part in parts)
+
+
 def _gap(gap: Gap, numbers: dict[Path, int]) -> list[Any]:
-    """The number of its node, or -1 if the script has none, its path, and what there is to say of it."""
-    below = f", and {plural(gap.count, 'node')} below" if gap.count else ""
-    return [numbers.get(gap.path, -1), spelled(gap.path), f"{_GAPS[gap.what]}{below}: {gap.why}"]
-
-
-def in_words(rights: int) -> str:
-    """The rights by their names for files, and what no name has as a number."""
-    if rights in _RIGHTS:
-        return _RIGHTS[rights]
-    named = [name for bit, name in _BITS.items() if rights & bit]
-    rest = rights & ~sum(_BITS)
-    return ", ".join([*named, *([f"{rest:#x}"] if rest else [])])
+    """The number of its node, or -1 if the script has none, its path, and what there is to say of it. Files without a
+    line are a mark of their folder."""
+    return [numbers.get(gap.path, -1), spelled(gap.path), gap.text]
 
 
 def _applies(entry: Entry) -> str:

@@ -13,7 +13,7 @@ class Table:
     """Rows to a stream."""
 
     def __init__(self, as_json: bool, shown: Callable[[str], str], out: TextIO | None = None) -> None:
-        """`shown` puts names in the place of SIDs, of each cell but paths: a folder may be called as a SID."""
+        """`shown` puts names in the place of SIDs, of each cell but paths and names: a folder may be named as a SID."""
         self._as_json, self._shown, self._out = as_json, shown, out or sys.stdout
 
     def row(self, what: str, cells: Mapping[str, Cell]) -> None:
@@ -32,7 +32,7 @@ class Table:
         say(text)
 
     def _display(self, name: str, cell: Cell) -> Cell:
-        return self._shown(cell) if isinstance(cell, str) and name != "path" else cell
+        return self._shown(cell) if isinstance(cell, str) and name not in ("path", "name") else cell
 
 
 def safe(text: str) -> str:

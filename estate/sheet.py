@@ -1,0 +1,33 @@
+"""CSV that spreadsheets open ([RFC 4180]): no text from outside is a formula in it."""
+
+import csv
+import re
+from collections.abc import Iterable
+from typing import BinaryIO
+
+from table import safe
+
+#: Where a formula may begin: at the start of a cell, or behind what another spreadsheet takes for the end of one.
+_FORMULA = re.compile(r"(^|[,;|])([\s\"]*)(?=[=+\-@\uff1d\uff0b\uff0d\uff20])")
+
+
+class _Utf8:
+    """A file as what a writer of CSV writes to."""
+
+    def __init__(self, file: BinaryIO) -> None:
+        self._file = file
+
+    def write(self, text: str) -> int:
+        return self._file.write(text.encode())
+
+
+def write_rows(file: BinaryIO, rows: Iterable[Iterable[str]]) -> None:
+    """Writes the rows in UTF-8."""
+    writer = csv.writer(_Utf8(file), lineterminator="\r\n")
+    writer.writerows(map(guarded, row) for row in rows)
+
+
+def guarded(cell: str) -> str:
+    """The text, with an apostrophe where a formula would begin, by which a spreadsheet takes the rest as text. Control
+    characters are escaped."""
+    return _FORMULA.sub(r"\1\2'", safe(cell))
