@@ -108,9 +108,9 @@
   const [all, nodeCount] = [counted(users.length, "user"), counted(rows.length, "node")];
   part.append(make("p", {}, `${all} that may log on, of which ${without.toLocaleString("en")} may do nothing. `
     + `${nodeCount} where somebody has other rights than in the folder above; others have those of their folder.`));
-  if (leftOut) {
-    part.append(make("p", { class: "lint" }, `There is no room here for ${counted(leftOut, "more such node")}: what `
-      + "estate report --matrix writes has all of them."));
+  for (const [path, count] of leftOut) {
+    const missing = `From ${path} on there is no room here for ${counted(count, "such node")}`;
+    part.append(make("p", { class: "lint" }, `${missing}: what estate report --matrix writes has all of them.`));
   }
   part.append(
     make("p", {}, make("label", { for: "people-words" }, "Search users "), field),

@@ -2,7 +2,7 @@
 as CSV. What is alike is worked out once: users, and nodes."""
 
 from collections.abc import Iterable, Iterator
-from itertools import groupby
+from itertools import groupby, takewhile
 from typing import Any, NamedTuple
 
 from atomic_file import atomic_file
@@ -16,9 +16,9 @@ from sheet import write_rows
 from table import safe
 
 _HEADER = ("path", "user", "SID", "rights", "mask")
-#: So many changes from one group of users to the next, in all rows, have room in a page.
-_MOST_RUNS = 1 << 20
-_NO_ROOM = "the page has no room for them: --matrix FILE writes all nodes where rights of users differ"
+#: When the lists of a page have so many numbers, no other one is added.
+_MOST_RUNS = 1 << 22
+_NO_ROOM = "from here on the page has no room for nodes where rights of users differ: --matrix CSV writes all"
 
 
 class Row(NamedTuple):
@@ -35,7 +35,7 @@ class Matrix:
     def __init__(self, script: Script, people: People) -> None:
         self._people = people
         self.rows: list[Row] = []
-        #: What the page has no room for.
+        #: The first node of those for which the page has no room, and how many rows these would be.
         self.cut: list[Gap] = []
         found: dict[Path, Rights] = {}
         for path in sorted(script.nodes):
@@ -71,13 +71,10 @@ class Matrix:
         columns that it is for, again and again."""
         groups, without = self._groups()
         lists, words = _Lists([group[0] for group in groups]), Numbers()
-        rows = []
-        for row in self.rows:
-            number = lists.number_of(row.rights, words)
-            if number is not None:
-                rows.append([numbers[row.path], number])
-        left_out = len(self.rows) - len(rows)
-        self.cut = [Gap("cut", (), _NO_ROOM, left_out)] if left_out else []
+        found = takewhile(lambda number: number is not None, (lists.number_of(row.rights, words) for row in self.rows))
+        rows = [[numbers[row.path], number] for row, number in zip(self.rows, found)]
+        # (a row says what the folder above has, which stands before it)
+        self.cut = [Gap("cut", row.path, _NO_ROOM, len(self.rows) - len(rows)) for row in self.rows[len(rows) :][:1]]
         return {
             "users": [[safe(user.name), user.sid] for user in self._people.users],
             "without": without,
@@ -85,7 +82,7 @@ class Matrix:
             "words": list(map(in_few_words, words.numbers)),
             "lists": lists.made,
             "rows": rows,
-            "leftOut": left_out,
+            "leftOut": [[spelled(gap.path), gap.count] for gap in self.cut],
         }
 
     def _groups(self) -> tuple[list[list[int]], int]:

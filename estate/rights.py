@@ -1,5 +1,7 @@
 """Rights of files in words."""
 
+import functools
+
 #: The masks of files that have a name in Windows' own editor.
 NAMED = {
     0x1F01FF: "full control",
@@ -40,6 +42,7 @@ def in_words(rights: int) -> str:
     return ", ".join([*named, *([f"{rest:#x}"] if rest else [])])
 
 
+@functools.lru_cache(65_536)
 def in_few_words(rights: int) -> str:
     """The same, where a right that a name has covered isn't named again; "none" if there is none."""
     names, left = [], rights

@@ -1,6 +1,7 @@
 """CSV that spreadsheets open ([RFC 4180]): no text from outside is a formula in it."""
 
 import csv
+import functools
 import re
 from collections.abc import Iterable
 from typing import BinaryIO
@@ -27,6 +28,7 @@ def write_rows(file: BinaryIO, rows: Iterable[Iterable[str]]) -> None:
     writer.writerows(map(guarded, row) for row in rows)
 
 
+@functools.lru_cache(65_536)
 def guarded(cell: str) -> str:
     """The text, with an apostrophe where a formula would begin, by which a spreadsheet takes the rest as text. Control
     characters are escaped."""

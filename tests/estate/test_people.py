@@ -1,49 +1,15 @@
-"""What the users of a file of accounts may do, by the groups that they really have: who, find and review. What a case has
-to answer was worked out by hand, by [MS-DTYP] 2.5.3.2 and the lines of the file; and at random by a closure over these
-lines and the check of tests/second."""
+"""What the users of a file of accounts may do, by the groups that they really have: who, find and review. What a case
+has to answer was worked out by hand, by [MS-DTYP] 2.5.3.2 and the lines of the file; and at random by a closure over
+these lines and the check of tests/second."""
 
 import json
 import random
 
-from rig import Case, needs_program  # (the modules of estate are in its folders)
+from rig import Case, needs_program  # (the modules of estate and tests/second are in its folders)
+from by_hand import ACCOUNTS, ALICE, ALL, BOB, CAROL, DAVE, DOMAIN, EDITORS, EVE, INTERNS, LOGGED_ON, NAMES, STAFF, TREE
+from by_hand import token_of
 from people import People
-from second import Entry, Token, entry_text, sid_text, verdict
-
-DOMAIN = "S-1-5-21-1-2-3"
-ALICE, BOB, CAROL, DAVE, EVE, GUEST = (f"{DOMAIN}-{number}" for number in (1104, 1105, 1106, 1107, 1108, 501))
-OTHER = "S-1-5-21-9-9-9-1001"
-USERS, STAFF, INTERNS, EDITORS = (f"{DOMAIN}-{number}" for number in (513, 1200, 1201, 1202))
-#: alice is an intern, interns are editors, editors are staff, and staff are editors. dave and the other bob are in
-#: nothing. Guests aren't in Authenticated Users.
-ACCOUNTS = f"""\
-user {ALICE} EXAMPLE\\alice
-user {ALICE} alice@example.test
-user {BOB} EXAMPLE\\bob
-user {CAROL} EXAMPLE\\carol
-user {DAVE} EXAMPLE\\dave
-user {EVE} EXAMPLE\\eve
-user {GUEST} EXAMPLE\\Guest
-user {OTHER} OTHER\\bob
-group {STAFF} EXAMPLE\\staff
-primary {ALICE} {USERS}
-primary {BOB} {USERS}
-member BU {USERS}
-member {INTERNS} {ALICE}
-member {EDITORS} {INTERNS}
-member {STAFF} {EDITORS}
-member {EDITORS} {STAFF}
-member {STAFF} {CAROL}
-disabled {CAROL}
-"""
-NAMES = {
-    "alice": (r"EXAMPLE\alice", ALICE), "bob": (r"EXAMPLE\bob", BOB), "dave": (r"EXAMPLE\dave", DAVE),
-    "eve": (r"EXAMPLE\eve", EVE), "guest": (r"EXAMPLE\Guest", GUEST), "other": (r"OTHER\bob", OTHER),
-    "anonymous": (r"NT AUTHORITY\ANONYMOUS LOGON", "S-1-5-7"), "system": (r"NT AUTHORITY\SYSTEM", "S-1-5-18"),
-    "local": (r"NT AUTHORITY\LOCAL SERVICE", "S-1-5-19"), "network": (r"NT AUTHORITY\NETWORK SERVICE", "S-1-5-20"),
-}  # fmt: skip
-#: In the order of the rows; those of a logon are in Authenticated Users.
-ALL = tuple(NAMES)
-LOGGED_ON = tuple(name for name in ALL if name not in ("guest", "anonymous"))
+from second import Entry, entry_text, sid_text, verdict
 
 AU_READS = "0x1 by entry {} (A;;0x1;;;AU) as S-1-5-11"
 #: A descriptor, the rights that are asked for, and what each user is granted, and by what.
@@ -78,16 +44,6 @@ CASES = [
      {"alice": (0x1301BD, f"0x1301bd by entry 2 (A;;0x1301bf;;;{INTERNS}) as {INTERNS}"),
       "system": (0x60000, "0x60000 to the owner")}),
 ]  # fmt: skip
-
-TREE = f"""\
-open 1 O:BAG:SYD:P(A;OICI;FA;;;BA)(A;OICI;FR;;;BU)
-import container /a%20b O:BAG:SYD:(A;OICIID;FA;;;BA)(A;OICIID;FR;;;BU)
-import object /a%20b/c O:{DAVE}G:SYD:(D;;0x1;;;{STAFF})(A;ID;FA;;;BA)(A;ID;FR;;;BU)
-import object /d O:BAG:SYD:P(A;;FA;;;{INTERNS})
-# rows	0
-publish
-"""
-
 
 def script_of(text: str) -> str:
     return f"open 1 {text}\n# rows\t0\npublish\n"
@@ -183,11 +139,13 @@ class Asked(Case):
             with self.subTest(words):
                 self.assertEqual(self.runs(2, *words, says=says), [])
         self.assertEqual(self.runs(3, *who, "--accounts", "none", says="none: No such file or directory"), [])
-        self.assertEqual(sorted(path.name for path in self.room.iterdir()), ["accounts", "bad", "bytes", "lost", "tree"])
+        files = {path.name for path in self.room.iterdir()}
+        self.assertEqual(files, {"accounts", "bad", "bytes", "lost", "tree"})
 
     def test_review(self) -> None:
         """After the rows as they are: all that a user is granted before and after, and not of nodes that stay."""
-        self.write("changed", f"{TREE}dacl /d D:P(A;;0x1200a9;;;{STAFF})(A;;0x2;;;{EVE})\nowner /a%20b/c {EVE}\npublish\n")
+        change = f"dacl /d D:P(A;;0x1200a9;;;{STAFF})(A;;0x2;;;{EVE})\nowner /a%20b/c {EVE}\npublish\n"
+        self.write("changed", TREE + change)
         without = self.runs(1, "review", "changed")
         rows = self.runs(1, "review", "changed", "--accounts", "accounts", says=", 3 users of the accounts")
         self.assertEqual(rows[: len(without)], without)
@@ -233,13 +191,14 @@ class Second(Case):
                 self.assertEqual(self.said(people, text), wanted, text)
                 wanted = [verdict(owner, dacl, token_of(user, pairs), 0x2) for user in users]
                 granted = people.granted(text, 0x2)
-                self.assertEqual([at in granted for at in range(MANY)], [each == "granted 0x2" for each in wanted], text)
+                writers = [at for at, each in enumerate(wanted) if each == "granted 0x2"]
+                self.assertEqual([at for at in granted if at < MANY], writers, text)
 
     @staticmethod
     def entries(pick: random.Random, users: list[object], groups: list[object]) -> list[Entry]:
         trustees = [*pick.sample(groups, 3), *pick.sample(users, 2), (1, (0,)), (5, (11,)), OWNER_RIGHTS]
-        count = pick.randrange(6)
-        return [Entry(pick.choice("AAD"), 0, pick.choice((0x1, 0x2, 0x3, 0x60000)), pick.choice(trustees)) for _ in range(count)]
+        masks = pick.choices((0x1, 0x2, 0x3, 0x60000), k=pick.randrange(6))
+        return [Entry(pick.choice("AAD"), 0, bits, pick.choice(trustees)) for bits in masks]
 
     @staticmethod
     def said(people: People, text: str) -> list[str]:
@@ -247,11 +206,3 @@ class Second(Case):
         rights = people.rights(text)
         found = [next(bits for bits, users in rights.items() if users >> at & 1) for at in range(MANY)]
         return [f"granted {bits:#x}" if bits else "denied 0x2000000" for bits in found]
-
-
-def token_of(user: tuple[int, tuple[int, ...]], pairs: set[tuple[object, object]]) -> Token:
-    """The user with all groups that follow from the pairs of a group and a member, and those of a logon."""
-    found = {user, (1, (0,)), (5, (11,))}
-    while new := {group for group, member in pairs if member in found} - found:
-        found |= new
-    return Token(user, [(group, "") for group in found if group != user])
