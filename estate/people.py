@@ -104,7 +104,7 @@ class People:
         try:
             return self._accounts.sids(user)
         except Refused as refused:
-            why = _NO_USER.get(refused.name or "", str(refused)).format(file=self._file_name)
+            why = _NO_USER.get(refused.name or "", "{refused}").format(file=self._file_name, refused=refused)
             raise Invalid(f"{user}: {why}") from refused
 
     def rights(self, text: str) -> Rights:

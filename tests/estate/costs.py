@@ -1,5 +1,6 @@
 #!/usr/bin/env python3
-"""What estate costs on a volume of many files, in seconds and the most memory: costs.py [FILES]. By hand, as root."""
+"""What estate costs on a volume of many files, in seconds and the most memory: costs.py [FILES [USERS]]. By hand, as
+root."""
 
 import os
 import subprocess
@@ -9,7 +10,7 @@ import time
 from pathlib import Path
 
 from rig import TOOL, Ntfs, node_form
-from second import Node, Tree
+from second import Node, Tree, sid_text
 from trees import BA, BG, BU, FULL, READ, SY, USERS, allow
 
 #: So many files are in a folder, so many folders in one above, and so many files have entries of their own.
@@ -38,6 +39,15 @@ def fill(volume: Ntfs, tree: Tree) -> None:
         volume.put(path, node_form(tree, path))
 
 
+def accounts_of(count: int) -> str:
+    """So many users, who are in Users, and each in one of the groups of a department, which are in one of all."""
+    sids = [*map(sid_text, USERS), *(f"S-1-5-21-1-2-3-{100_000 + number}" for number in range(count - len(USERS)))]
+    lines = [f"user {sid} EXAMPLE\\user{number}\nmember BU {sid}" for number, sid in enumerate(sids)]
+    lines += [f"member S-1-5-21-1-2-3-{5000 + number % 50} {sid}" for number, sid in enumerate(sids)]
+    lines += [f"member S-1-5-21-1-2-3-6000 S-1-5-21-1-2-3-{5000 + number}" for number in range(50)]
+    return "\n".join([*lines, ""])
+
+
 def run(room: Path, *words: str) -> None:
     began = time.monotonic()
     process = subprocess.Popen([sys.executable, str(TOOL), *words], cwd=room)
@@ -49,7 +59,7 @@ def run(room: Path, *words: str) -> None:
     )
 
 
-def main(files: int) -> None:
+def main(files: int, users: int) -> None:
     with tempfile.TemporaryDirectory(prefix="estate.") as name, Ntfs(Path(name), 2000) as volume:
         room, tree = Path(name), tree_of(files)
         began = time.monotonic()
@@ -62,7 +72,14 @@ def main(files: int) -> None:
         run(room, "plan", "folders", "mount")
         run(room, "write", "folders", "mount")
         run(room, "undo", "folders.journal")
+        (room / "accounts").write_text(accounts_of(users))
+        # (a volume of more than 65,536 nodes has no whole script)
+        script = "whole" if (room / "whole").exists() else "folders"
+        run(room, "report", script, "page.html", "--accounts", "accounts", "--matrix", "sheet.csv")
+        for made in ("page.html", "sheet.csv"):
+            print(f"{made}: {(room / made).stat().st_size:,} bytes", flush=True)
 
 
 if __name__ == "__main__":
-    main(int(sys.argv[1]) if sys.argv[1:] else 100_000)
+    given = list(map(int, sys.argv[1:]))
+    main(*[*given, *(100_000, 2_000)[len(given) :]])

@@ -67,6 +67,23 @@ class Why(Case):
         self.assertEqual(rows[1:], ["why\t/\tdenied 0x2", "why\t/\tdenied 0x2 by the label"])
         self.assertEqual(self.why(0, "/", ALICE, "0x2", "S-1-5-32-544", "level=high")[1], "why\t/\tgranted 0x2")
 
+    def test_a_user_of_a_file_of_accounts(self) -> None:
+        """alice is an operator, and operators are administrators: nothing is assumed, and claims and a level count."""
+        group = "S-1-5-21-1-2-3-1200"
+        lines = (f"user {ALICE} EXAMPLE\\alice", f"member {group} {ALICE}", f"member BA {group}")
+        self.write("accounts", "\n".join([*lines, "user S-1-5-21-1-2-3-1002 bob", "disabled S-1-5-21-1-2-3-1002", ""]))
+        by = ("--accounts", "accounts")
+        verdict, reason = self.why(0, "/", "alice", "0x1", *by, says="granted")
+        self.assertEqual(verdict, "why\t/\tgranted 0x1")
+        self.assertTrue(reason.startswith("why\t/\tgranted 0x1 by entry 2 "), reason)
+        self.assertTrue(reason.endswith(" as S-1-5-32-544"), reason)
+        claimed = self.why(0, "/", r"EXAMPLE\alice", "0x1", "@User.Level=3", *by)
+        self.assertTrue(claimed[1].endswith(" as S-1-1-0"), claimed)
+        self.assertEqual(self.why(1, "/", "alice", "0x2", *by)[1], "why\t/\tdenied 0x2 by the label")
+        self.assertEqual(self.why(0, "/", "alice", "0x2", "level=high", *by)[0], "why\t/\tgranted 0x2")
+        self.assertEqual(self.why(2, "/", "bob", "0x1", *by, says="bob: its account is disabled by accounts"), [])
+        self.assertEqual(self.why(2, "/", "alice", "0x1", "BU=device", *by, says="BU=device: by --accounts"), [])
+
     def test_json(self) -> None:
         rows = list(map(json.loads, self.why(1, "--json", "/", ALICE, "0x1", "--only-given")))
         self.assertEqual(rows[0], {"what": "assumed", "groups": "none"})
