@@ -12,7 +12,7 @@ from paths import Path, spelled
 from people import People, Rights, differing, numbers_in
 from rights import in_few_words
 from script import Script
-from sheet import write_rows
+from sheet import path_cell, write_rows
 from table import safe
 
 _HEADER = ("path", "user", "SID", "rights", "mask")
@@ -53,12 +53,12 @@ class Matrix:
             write_rows(file, [_HEADER])
             for row in self.rows:
                 write_rows(file, self._lines(row))
-            write_rows(file, ((spelled(gap.path), "", "", f"left out: {gap.text}", "") for gap in gaps))
+            write_rows(file, ((_cell_of(gap.path), "", "", f"left out: {gap.text}", "") for gap in gaps))
         return len(self.rows)
 
     def _lines(self, row: Row) -> Iterator[tuple[str, ...]]:
         """Of the root a line for each user, also of one without rights."""
-        path, above = spelled(row.path), {-1: self._people.all} if row.above is None else row.above
+        path, above = _cell_of(row.path), {-1: self._people.all} if row.above is None else row.above
         for number, (_, has) in differing(above, row.rights).items():
             user = self._people.users[number]
             yield path, user.name, user.sid, in_few_words(has), f"{has:#x}"
@@ -98,6 +98,10 @@ class Matrix:
         for user in sorted(range(count), key=lambda user: not some >> user & 1):
             groups.setdefault(parts.of[user], []).append(user)
         return list(groups.values()), count - some.bit_count()
+
+
+def _cell_of(path: Path) -> str:
+    return path_cell(spelled(path))
 
 
 def _key(rights: Rights) -> frozenset[tuple[int, int]]:

@@ -15,6 +15,7 @@ from rig import Case, needs_program
 from by_hand import ACCOUNTS, ALICE, DAVE, DOMAIN, NAMES, STAFF, TREE, token_of
 from command_line import main
 from matrix import Matrix
+from paths import names_in
 from people import People
 from rights import in_few_words
 from script import read_script
@@ -90,6 +91,16 @@ class Sheet(Case):
                 ["/d", "", "", "left out: another list: it has other entries", ""],
             ],
         )
+
+    def test_paths(self) -> None:
+        """They are spelled as in a script, where any character may be percent-encoded."""
+        names = {"=a": "=a", "b,-c": "b,%2Dc", 'd;"@e': 'd;"%40e', "f|+g": "f|%2Bg", "h-i=j": "h-i=j"}
+        names["k, =l"] = "k,%20=l"
+        lines = "".join(f"import object /{name.replace(' ', '%20')} O:{DAVE}G:SYD:P\n" for name in names)
+        rows = rows_of(self.csv(0, f"open 1 O:BAG:SYD:P\n{lines}# rows\t0\npublish\n"))
+        found = list(dict.fromkeys(row[0] for row in rows[1:]))
+        self.assertEqual(sorted(found), sorted(["/", *(f"/{cell}" for cell in names.values())]))
+        self.assertEqual({names_in(path) for path in found if path != "/"}, {(name.encode(),) for name in names})
 
     def test_names_that_are_more_than_names(self) -> None:
         """None is a formula, a cell or a line of its own: of the CSV, however it is split, and of the rows of who."""
