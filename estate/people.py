@@ -2,6 +2,7 @@
 
 from collections.abc import Iterator
 from functools import cached_property, reduce
+from itertools import product
 from operator import or_
 from typing import NamedTuple
 
@@ -55,10 +56,9 @@ def numbers_in(users: int) -> Iterator[int]:
 def differing(before: Rights, after: Rights) -> dict[int, tuple[int, int]]:
     """The users whose rights differ, in their order, with those before and after."""
     found: dict[int, tuple[int, int]] = {}
-    for had, users in before.items():
-        for has, others in after.items():
-            if had != has:
-                found |= dict.fromkeys(numbers_in(users & others), (had, has))
+    pairs = product(before.items(), after.items())
+    for (had, users), (has, others) in ((one, other) for one, other in pairs if one[0] != other[0]):
+        found |= dict.fromkeys(numbers_in(users & others), (had, has))
     return dict(sorted(found.items()))
 
 
@@ -218,10 +218,12 @@ def review(script: Script, top: Path, people: People, table: Table) -> int:
 
 def _say_differences(table: Table, path: Path, people: People, differences: dict[int, tuple[int, int]]) -> None:
     for number, (had, has) in differences.items():
-        for what, rights in (("gained", has & ~had), ("lost", had & ~has)):
-            if rights:
-                _row(table, path, rights, people.users[number], {"change": what})
+        _row(table, path, has & ~had, people.users[number], {"change": "gained"})
+        _row(table, path, had & ~has, people.users[number], {"change": "lost"})
 
 
 def _row(table: Table, path: Path, rights: int, user: User, more: dict[str, str]) -> None:
-    table.row("person", {"path": spelled(path), "rights": f"{rights:#x}", "name": user.name, "sid": user.sid} | more)
+    """A row, if there are rights of which it is."""
+    if rights:
+        cells = {"path": spelled(path), "rights": f"{rights:#x}", "name": user.name, "sid": user.sid}
+        table.row("person", cells | more)

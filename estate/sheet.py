@@ -1,4 +1,4 @@
-"""CSV that spreadsheets open ([RFC 4180]): no text from outside is a formula in it."""
+"""CSV that spreadsheets open, by RFC 4180: no text from outside is a formula in it."""
 
 import csv
 import functools
