@@ -31,7 +31,7 @@ _NO_LINE = {
     "Surplus": "something follows the last SID: delete it",
     "Incomplete": "it says that accounts are missing, so a user may lack groups: complete what estate accounts reads",
 }
-#: What of an argument stands behind the SID of a group, of the user or of its device.
+#: What of an argument follows the SID of a group, of the user or of its device.
 _OF_GROUPS = ("", "deny", "off", "device")
 
 #: Which users have which rights: sets of users by their rights.

@@ -22,7 +22,7 @@ CASES = [
      {name: (0x1, "0x1 by entry 1 (A;;FR;;;BU) as S-1-5-32-545") for name in ("alice", "bob")}),
     ("a deny by a nested group", f"O:BAG:SYD:(D;;0x1;;;{STAFF})(A;;0x1;;;AU)", "0x1",
      {name: (0x1, AU_READS.format(2)) for name in LOGGED_ON if name != "alice"}),
-    ("a deny behind an allow", f"O:BAG:SYD:(A;;0x1;;;AU)(D;;0x1;;;{STAFF})", "0x1",
+    ("a deny after an allow", f"O:BAG:SYD:(A;;0x1;;;AU)(D;;0x1;;;{STAFF})", "0x1",
      {name: (0x1, AU_READS.format(1)) for name in LOGGED_ON}),
     ("some of the rights, by two entries", f"O:BAG:SYD:(A;;0x1;;;{INTERNS})(A;;0x2;;;{BOB})(A;;0x4;;;{ALICE})", "0x7",
      {"alice": (0x5, f"0x1 by entry 1 (A;;0x1;;;{INTERNS}) as {INTERNS}, 0x4 by entry 3 (A;;0x4;;;{ALICE}) as {ALICE}"),
