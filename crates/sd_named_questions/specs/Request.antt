@@ -7,7 +7,7 @@ use Rattle.sd_named.specs.Arguments.{AreOfUser, AreOfWords}
 use Rattle.sd_named.specs.Sddl.{IsNamedSddl}
 use Rattle.sd_usage.specs.declared.row.DescriptorCommand.TheVariants as about
 use Rattle.sd_usage.specs.declared.row.TextCommand.{TextCommand}
-use Rattle.sd_usage.specs.declared.row.TextCommand.TheVariants.{Descriptor, Diff, Show}
+use Rattle.sd_usage.specs.declared.row.TextCommand.TheVariants.{Descriptor}
 use Rattle.sd_commands.specs.Logon.{words_for}
 use Rattle.sd_commands.specs.declared.logon.Logon.{Logon}
 use Rattle.sd_commands.specs.declared.settings.Settings.{Settings}
@@ -18,8 +18,6 @@ use Rattle.sd_arguments.specs.CommandLine.{RequestValue}
 -- the command's text is a descriptor's
 abbrev pub has_sddl : TextCommand → Bool
 has_sddl (Descriptor question) = true
-has_sddl Show = true
-has_sddl Diff = true
 has_sddl question = false
 
 -- in a descriptor's text SIDs stand in the place of names; any other stands as it is
@@ -46,12 +44,6 @@ AreOfRest rows known is_sddl (first ∷ words) named = (own : List ℕ) × (rest
     × IsText rows known is_sddl first own × AreOfWords rows known words rest × (named ≡ own ∷ rest)
 AreOfRest rows known is_sddl arguments named = named ≡ arguments
 
--- a descriptor's text, and arguments that stand as they are
-abbrev pub AreBehind : List AccountRow → Aliases → List (List ℕ) → List (List ℕ) → Type 0
-AreBehind rows known (first ∷ words) named =
-    (own : List ℕ) × IsNamedSddl rows known first own × (named ≡ own ∷ words)
-AreBehind rows known arguments named = named ≡ arguments
-
 -- the arguments of a command after its text, with SIDs in the place of names
 abbrev pub AreNamed : List AccountRow → Aliases → Option Logon → TextCommand → List (List ℕ) → List (List ℕ) → Type 0
 AreNamed rows known logon (Descriptor about.Verdict) = AreOfVerdict rows known logon
@@ -59,7 +51,6 @@ AreNamed rows known logon (Descriptor about.Why) = AreOfVerdict rows known logon
 AreNamed rows known logon (Descriptor about.Who) = AreOfRest rows known false
 AreNamed rows known logon (Descriptor about.Compare) = AreOfRest rows known true
 AreNamed rows known logon (Descriptor about.Lint) = AreOfWords rows known
-AreNamed rows known logon Diff = AreBehind rows known
 AreNamed rows known logon question = λ arguments named. named ≡ arguments
 
 -- the question of a text and of arguments with SIDs in the place of names

@@ -3,7 +3,7 @@ ghost use Rattle.std.specs.Prelude.{◌≡◌, IfOk, ◌∷◌, map, option_map,
 ghost use Rattle.sd_answer.specs.Word.{texts};
 ghost use Rattle.sd_accounts.specs.Accounts.{rows_of};
 ghost use Rattle.sd_arguments.specs.CommandLine.{request_of};
-ghost use Rattle.sd_named_questions.specs.Request.{AreBehind, AreNamed, AreOfRest, AreOfVerdict, IsGiven, IsText};
+ghost use Rattle.sd_named_questions.specs.Request.{AreNamed, AreOfRest, AreOfVerdict, IsGiven, IsText};
 ghost use Rattle.sd_named_questions.specs.Request.{has_sddl};
 
 use sd_accounts::Accounts;
@@ -73,10 +73,7 @@ fn given(
 fn has_sddl(question: TextCommand) -> bool
     ensures { result ≡ has_sddl question }
 {
-    matches!(
-        question,
-        TextCommand::Descriptor(_) | TextCommand::Show | TextCommand::Diff
-    )
+    matches!(question, TextCommand::Descriptor(_))
 }
 
 /// A text, with SIDs in the place of names if it is a descriptor's. The only error is out of memory.
@@ -108,7 +105,6 @@ fn named_arguments(
         TextCommand::Descriptor(DescriptorCommand::Who) => of_rest(naming, false, arguments),
         TextCommand::Descriptor(DescriptorCommand::Compare) => of_rest(naming, true, arguments),
         TextCommand::Descriptor(DescriptorCommand::Lint) => naming.of_words(arguments),
-        TextCommand::Diff => Ok(behind(naming, arguments)?),
         _ => Ok(copies(naming.alloc, arguments)?),
     }
 }
@@ -140,21 +136,6 @@ fn of_rest(naming: Naming<'_>, is_sddl: bool, arguments: &[&str]) -> Result<Vec<
     };
     let mut rest = naming.of_words(words)?;
     let mut named = vec![in alloc; own_text(naming, is_sddl, first)?]?;
-    named.append(&mut rest)?;
-    Ok(named)
-}
-
-/// A descriptor's text, and arguments that stand as they are.
-fn behind(naming: Naming<'_>, arguments: &[&str]) -> Result<Vec<String>, AllocError>
-    ensures { IfOk result (λ named. AreBehind (rows_of naming.entry.accounts.now) naming.entry.known
-        (texts arguments.now) (map string_bytes named.items)) }
-{
-    let alloc = naming.alloc;
-    let [first, words @ ..] = arguments else {
-        return copies(alloc, arguments);
-    };
-    let mut rest = copies(alloc, words)?;
-    let mut named = vec![in alloc; own_text(naming, true, first)?]?;
     named.append(&mut rest)?;
     Ok(named)
 }
