@@ -8,6 +8,7 @@ ghost use Rattle.sd_commands.specs.Answer.{answer_of, outcome_status};
 ghost use Rattle.sd_arguments.specs.CommandLine.{request_of};
 ghost use Rattle.sd_arguments.specs.Options.{has, options_of};
 ghost use Rattle.sd_named_questions.specs.Answer.{AnswersNamed, AppendsEachNamed};
+ghost use Rattle.sd_named_questions.specs.Error.{error_of};
 ghost use Rattle.sd_named_questions.specs.declared.answer.NamedRunError.TheVariants.{Named, Run};
 
 use crate::request::named_request;
@@ -32,10 +33,13 @@ pub enum NamedRunError {
 }
 
 impl From<NamedError> for NamedRunError {
-    ghost from_gives = { λ error e. e ≡ Named error };
+    ghost from_gives = { λ error e. e ≡ error_of error };
 
     fn from(error: NamedError) -> NamedRunError {
-        NamedRunError::Named(error)
+        match error {
+            NamedError::Memory => NamedRunError::Run(RunError::Memory),
+            _ => NamedRunError::Named(error),
+        }
     }
 }
 
