@@ -51,17 +51,10 @@
   };
 
   const rowOf = ([node, list], columns) => {
-    const link = make("button", { type: "button" }, pathOf(node));
-    link.addEventListener("click", () => {
-      openPage(false);
-      const item = reveal(node);
-      choose(item);
-      focus(item);
-    });
     const [now, above] = [wordsOf(list), aboveOf(node)];
     const before = above === null ? columns.map(() => null) : columns.map((column) => wordsOf(above)[column]);
     const cells = columns.map((column, at) => cellOf(now[column], before[at]));
-    return make("tr", {}, make("th", { scope: "row" }, link), ...cells);
+    return make("tr", {}, make("th", { scope: "row" }, linkTo(node)), ...cells);
   };
 
   const counted = (count, what) => `${count.toLocaleString("en")} ${what}${count === 1 ? "" : "s"}`;

@@ -277,7 +277,8 @@ const tokenOf = (by) => by.map(([subject, state]) => (
   subjectOf(subject) + (state ? ` (${STATES[state]})` : "")
 )).join(" and ");
 
-const changeOf = ([index, differences]) => {
+// What leads from another page to a node of the first one.
+const linkTo = (index) => {
   const link = make("button", { type: "button" }, pathOf(index));
   link.addEventListener("click", () => {
     openPage(false);
@@ -285,6 +286,11 @@ const changeOf = ([index, differences]) => {
     choose(item);
     focus(item);
   });
+  return link;
+};
+
+const changeOf = ([index, differences]) => {
+  const link = linkTo(index);
   const heads = ["Change", "Rights", "For example a user who is"];
   const table = make("table", {}, make("tr", {}, ...heads.map((text) => make("th", { scope: "col" }, text))));
   for (const [isGain, rights, by] of differences) {
