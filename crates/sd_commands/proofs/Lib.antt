@@ -1,6 +1,7 @@
 pub mod Cited
 pub mod CharStart
 pub mod Commas
+pub mod Marks
 pub mod ObjectList
 pub mod BytesByPart
 pub mod SortedOrder

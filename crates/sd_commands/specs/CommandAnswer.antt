@@ -61,7 +61,11 @@ use Rattle.sd_commands.specs.declared.verdict.Form.TheVariants.{Short, Explained
 use Rattle.sd_commands.specs.Answer.{value_line, AnswerValue, answer_of, IsAnswer, AreDone, AreDoneBut, IsDone, IsFault}
 use Rattle.sd_commands.specs.Answer.{AnswersFit, IsFaultOf, IsFound, Noting, Telling, IsMissingDacl, descriptor_line}
 use Rattle.sd_commands.specs.Chain.{types_of}
-use Rattle.sd_commands.specs.ForEveryone.{AnswersOfEveryone}
+use Rattle.sd_commands.specs.Conditions.{hides, shown_by}
+use Rattle.sd_commands.specs.ForEveryone.{AnswersOfEveryone, view_of}
+use Rattle.sd_commands.specs.declared.for_everyone.View.TheVariants.{Marked}
+use Rattle.sd_specialize.specs.Marked.{conditionals}
+use Rattle.sd_whole.specs.declared.ace.TypedAce.{TypedAce}
 use Rattle.sd_commands.specs.FromBinary.{AnswersFromBinary}
 use Rattle.sd_commands.specs.Whole.{IsEntryFault, is_compare, takes_whole}
 use Rattle.sd_commands.specs.WholeText.{AnswersOfWhole, AnswersWholeText}
@@ -229,15 +233,20 @@ AnswersOfBase settings words Answers answer =
     ((base : List (SidValue × GroupState)) × AreGroups settings.aliases (texts words) base × Answers base answer)
     ⊎ IsGroupFault settings words answer
 
--- whom the rights are granted to, and what of it is left out
-abbrev pub PrintsWho : Settings → List LineOf → ℕ → DescriptorValue → List (SidValue × GroupState) → AnswerValue
-    → Type 0
-PrintsWho settings left_out asked d base answer =
-    (lines : List LineOf) × AreWhoLines settings asked d base lines × AreDoneBut left_out lines answer
+-- whom the rights are granted to, with conditions in the place of markers, and what of it is left out; or that a SID of
+-- the base is a marker
+abbrev pub PrintsWho : Settings → List TypedAce → List LineOf → ℕ → DescriptorValue → List (SidValue × GroupState)
+    → AnswerValue → Type 0
+PrintsWho settings marks left_out asked d base answer = MatchBool (hides marks base)
+    (IsFault (fault_line (codes "token")) (told_line (codes "GROUP") (codes "its authority is that of conditions"))
+    answer)
+    ((lines : List LineOf) × AreWhoLines settings asked d base lines
+    × AreDoneBut left_out (shown_by settings marks lines) answer)
 
-abbrev pub AnswersWho : Settings → List LineOf → List (Bor (List ℕ)) → DescriptorValue → AnswerValue → Type 0
-AnswersWho settings left_out arguments d = AnswersOfMask settings (argument arguments 0)
-    (λ asked. AnswersOfBase settings (drop 1 arguments) (PrintsWho settings left_out asked d))
+abbrev pub AnswersWho : Settings → List TypedAce → List LineOf → List (Bor (List ℕ)) → DescriptorValue → AnswerValue
+    → Type 0
+AnswersWho settings marks left_out arguments d = AnswersOfMask settings (argument arguments 0)
+    (λ asked. AnswersOfBase settings (drop 1 arguments) (PrintsWho settings marks left_out asked d))
 
 -- what tokens gain and lose of the object itself
 abbrev pub AreOwnChanges : Settings → DescriptorValue → DescriptorValue → List (SidValue × GroupState) → List LineOf
@@ -318,7 +327,7 @@ AnswersSid settings text = AnswersOfSid (codes "SID") settings text (λ sid. IsD
 abbrev pub AnswersOn : Settings → DescriptorCommand → List (Bor (List ℕ)) → DescriptorValue → AnswerValue → Type 0
 AnswersOn settings about.Verdict arguments d = AnswersUser settings Short arguments (Plain d)
 AnswersOn settings about.Why arguments d = AnswersUser settings Explained arguments (Plain d)
-AnswersOn settings about.Who arguments d = AnswersWho settings [] arguments d
+AnswersOn settings about.Who arguments d = AnswersWho settings [] [] arguments d
 AnswersOn settings about.Compare arguments old = AnswersOfArgument (codes "NEW") settings (argument arguments 0)
     (λ new. AnswersOfBase settings (drop 1 arguments) (AnswersComparison settings [] old new))
 AnswersOn settings about.Lint arguments d = AnswersOfBase settings arguments (AnswersFindings settings d)
@@ -337,11 +346,11 @@ abbrev pub AnswersPlainly : Settings → DescriptorCommand → List ℕ → List
 AnswersPlainly settings question text arguments =
     AnswersOfArgument (descriptor_name question) settings text (AnswersOn settings question arguments)
 
--- what `who` answers: of the whole object alone types are left out
+-- what `who` answers: where an entry has a condition, if that is met; and of the whole object alone types are left out
 abbrev pub AnswersWhoOfWhole : Settings → List ℕ → List (Bor (List ℕ)) → AnswerValue → Type 0
-AnswersWhoOfWhole settings text arguments = AnswersOfEveryone (codes "SDDL") all_left_out false settings text
+AnswersWhoOfWhole settings text arguments = AnswersOfEveryone (codes "SDDL") all_left_out Marked settings text
     (λ whole d. NotingTypes settings (has_types whole.dacl && is_of_whole (types_of settings.chain))
-    (λ left_out. AnswersWho settings left_out arguments d))
+    (λ left_out. AnswersWho settings (conditionals whole.dacl) left_out arguments d))
 
 -- what `compare` answers of two: also whether the label is another, and what of the SACLs and which types are left out
 abbrev pub AnswersCompareOfBoth : Settings → (old : WholeDescriptor) → DescriptorValue → (new : WholeDescriptor)
@@ -355,13 +364,13 @@ AnswersCompareOfBoth settings old plain_old new plain_new words answer =
 -- what it answers of OLD
 abbrev pub AnswersCompareTo : Settings → WholeDescriptor → DescriptorValue → List (Bor (List ℕ)) → AnswerValue → Type 0
 AnswersCompareTo settings old plain_old arguments =
-    AnswersOfEveryone (codes "NEW") all_but_label (not settings.object) settings (argument arguments 0)
+    AnswersOfEveryone (codes "NEW") all_but_label (view_of settings.object) settings (argument arguments 0)
     (λ new plain_new. AnswersCompareOfBoth settings old plain_old new plain_new (drop 1 arguments))
 
 -- what it answers
 abbrev pub AnswersCompareOfWhole : Settings → List ℕ → List (Bor (List ℕ)) → AnswerValue → Type 0
 AnswersCompareOfWhole settings text arguments =
-    AnswersOfEveryone (codes "OLD") all_but_label (not settings.object) settings text
+    AnswersOfEveryone (codes "OLD") all_but_label (view_of settings.object) settings text
     (λ old plain_old. AnswersCompareTo settings old plain_old arguments)
 
 -- what a command answers of all that the text is: a verdict, whom rights are granted to, who gains and loses some, or

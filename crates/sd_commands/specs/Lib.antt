@@ -4,6 +4,7 @@ pub mod CommandAnswer
 pub mod Bytes
 pub mod Chain
 pub mod Concern
+pub mod Conditions
 pub mod Diagnostic
 pub mod Escaped
 pub mod ForEveryone

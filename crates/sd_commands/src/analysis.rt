@@ -5,9 +5,11 @@ ghost use Rattle.sd_answer.specs.Word.{IsFirstNoGroup, texts};
 ghost use Rattle.sd_commands.specs.Analysis.{AreBelowLines, AreWhoLines};
 ghost use Rattle.sd_commands.specs.Answer.{answer_of};
 ghost use Rattle.sd_commands.specs.CommandAnswer.{AnswersComparison, AnswersOfBase, AnswersOn, AreDescendantLines};
+ghost use Rattle.sd_specialize.specs.Marked.{lent_marks};
 ghost use Rattle.sd_commands.specs.CommandAnswer.{AnswersWho, AreOwnChanges, IsGroupFault, PrintsComparison, PrintsWho};
 
 use crate::command_answer::{Answer, Answered, found};
+use crate::conditions::hides;
 use crate::descriptor::{Given, note_left_out_sacl, note_object};
 use crate::object::{either_leaves_out, looked_at};
 use crate::settings::CommandContext;
@@ -22,21 +24,22 @@ use sd_check::GroupState;
 use sd_line::{Line, read_mask_in};
 use sd_sid::{Mask, Sid};
 use sd_usage::DescriptorCommand;
-use sd_whole::PlainPart;
+use sd_whole::{PlainPart, TypedAce};
 use std::alloc::AllocError;
 
 impl CommandContext<'_> {
-    /// Whom rights are granted to by a descriptor, and what is left out of that, where the mask and the base are the
-    /// arguments; or the fault of the first from the left that is invalid.
+    /// Whom rights are granted to by a descriptor, in which markers stand for these conditions, and what is left out of
+    /// that, where the mask and the base are the arguments; or the fault of the first from the left that is invalid.
     #[inline(never)]
     pub(crate) fn who(
         &self,
         descriptor: &Descriptor,
+        marks: &[&TypedAce],
         left_out: Vec<Line>,
         arguments: &[&str],
     ) -> Answered
-        ensures { IfOk result (λ answer. AnswersWho self.now.settings.now left_out.items arguments.now
-            (descriptor_of descriptor.now) (answer_of answer)) }
+        ensures { IfOk result (λ answer. AnswersWho self.now.settings.now (lent_marks marks.now) left_out.items
+            arguments.now (descriptor_of descriptor.now) (answer_of answer)) }
     {
         let mask = argument(arguments, 0);
         let asked = match read_mask_in(self.settings.spelling, mask) {
@@ -45,7 +48,7 @@ impl CommandContext<'_> {
         };
         let words = items_from(arguments, 1);
         match read_base(self.alloc, self.settings.aliases, words) {
-            Ok(groups) => self.who_has(descriptor, left_out, asked, &groups),
+            Ok(groups) => self.who_has(descriptor, marks, left_out, asked, &groups),
             Err(TokenError::NoWord { place }) => self.group_fault(words, place),
             Err(TokenError::Memory) => Err(AllocError),
         }
@@ -54,14 +57,19 @@ impl CommandContext<'_> {
     fn who_has(
         &self,
         descriptor: &Descriptor,
+        marks: &[&TypedAce],
         left_out: Vec<Line>,
         asked: Mask,
         groups: &[(Sid, GroupState)],
     ) -> Answered
-        ensures { IfOk result (λ answer. PrintsWho self.now.settings.now left_out.items asked
+        ensures { IfOk result (λ answer. PrintsWho self.now.settings.now (lent_marks marks.now) left_out.items asked
             (descriptor_of descriptor.now) groups.now (answer_of answer)) }
     {
+        if hides(marks, groups) {
+            return self.fault("token", "GROUP", "its authority is that of conditions");
+        }
         let lines = self.lines_of_who(descriptor, asked, groups)?;
+        let lines = self.shown_by(marks, lines)?;
         Answer::done_but(self.alloc, left_out, lines)
     }
 

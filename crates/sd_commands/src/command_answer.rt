@@ -252,7 +252,7 @@ impl CommandContext<'_> {
             DescriptorCommand::Why => {
                 self.verdict(Form::Explained, Subject::Plain(&on), arguments)
             }
-            DescriptorCommand::Who => self.who(&on, Vec::new(self.alloc), arguments),
+            DescriptorCommand::Who => self.who(&on, &[], Vec::new(self.alloc), arguments),
             DescriptorCommand::Compare => self.compare(on, arguments),
             DescriptorCommand::Lint => self.lint(on, arguments),
             DescriptorCommand::Print => self.print(on),

@@ -1,9 +1,11 @@
 //! The plain descriptor that an argument's text is whoever asks, under `--whole`.
 ghost use Rattle.std.specs.Prelude.{◌≡◌, IfErr, IfOk, Ok};
 ghost use Rattle.sd_acl.specs.Descriptor.{descriptor_of};
-ghost use Rattle.sd_commands.specs.ForEveryone.{IsForEveryone, IsOfEveryone, IsPlainFor, IsSeen, seen_as};
+ghost use Rattle.sd_commands.specs.ForEveryone.{IsForEveryone, IsOfEveryone, IsPlainFor, IsSeen, IsUndecidedBy};
+ghost use Rattle.sd_commands.specs.ForEveryone.{seen_as, view_of};
 ghost use Rattle.sd_commands.specs.WholeVerdict.{everyone_context};
 ghost use Rattle.sd_specialize.specs.Everyone.{unconditional};
+ghost use Rattle.sd_specialize.specs.Marked.{conditionals, marked};
 ghost use Rattle.sd_specialize.specs.Specialize.{Gives};
 ghost use Rattle.sd_whole.specs.Plain.{has_sacl};
 
@@ -11,7 +13,9 @@ use crate::command_answer::Answer;
 use crate::descriptor::{missing_dacl, note_sacl};
 use crate::settings::CommandContext;
 use sd_acl::Descriptor;
-use sd_specialize::{SpecializeError, SpecializeFault, specialized_for_everyone};
+use sd_specialize::{
+    SpecializeError, SpecializeFault, conditionals, marked_for_everyone, specialized_for_everyone,
+};
 use sd_text::TextError;
 use sd_whole::{OddEntry, PlainError, WholeAcl, WholeDescriptor};
 use sd_whole_parse::read_whole_sddl;
@@ -22,6 +26,29 @@ use std::alloc::AllocError;
 pub(crate) struct PlainForEveryone {
     pub(crate) descriptor: Descriptor,
     pub(crate) whole: WholeDescriptor,
+}
+
+/// As what a whole descriptor is looked at.
+#[derive(Clone, Copy)]
+pub(crate) enum View {
+    /// As an object, where no entry has a condition.
+    Unconditional,
+    /// As an object, where markers stand for conditions.
+    Marked,
+    /// As a container, also by what is made in it.
+    Below,
+}
+
+impl View {
+    pub(crate) fn of(object: bool) -> View
+        ensures { result ≡ view_of object }
+    {
+        if object {
+            View::Unconditional
+        } else {
+            View::Below
+        }
+    }
 }
 
 /// What an argument is whoever asks.
@@ -42,19 +69,19 @@ pub(crate) enum Unplain {
 }
 
 impl CommandContext<'_> {
-    /// What the argument of this name is whoever asks ([MS-DTYP] 2.5.1.1, 2.5.3.2), also below it if it is a container,
-    /// and of whose SACL this is left out. The only error is out of memory.
+    /// What the argument of this name is whoever asks ([MS-DTYP] 2.5.1.1, 2.5.3.2), as what it is looked at, and of
+    /// whose SACL this is left out. The only error is out of memory.
     pub(crate) fn of_everyone(
         &self,
         name: &str,
         what: &str,
-        below: bool,
+        view: View,
         sddl: &str,
     ) -> Result<ForEveryone, AllocError>
-        ensures { IfOk result (IsOfEveryone name.now what.now below self.now.settings.now sddl.now) }
+        ensures { IfOk result (IsOfEveryone name.now what.now view self.now.settings.now sddl.now) }
     {
         match read_whole_sddl(self.alloc, self.settings.aliases, sddl) {
-            Ok(descriptor) => self.for_everyone(name, what, below, descriptor),
+            Ok(descriptor) => self.for_everyone(name, what, view, descriptor),
             Err(TextError::Fault { fault, place }) => {
                 let answer = self.sddl_fault(name, sddl, fault, place)?;
                 Ok(ForEveryone::Refused(answer))
@@ -68,13 +95,13 @@ impl CommandContext<'_> {
         &self,
         name: &str,
         what: &str,
-        below: bool,
+        view: View,
         descriptor: WholeDescriptor,
     ) -> Result<ForEveryone, AllocError>
-        ensures { IfOk result (IsForEveryone name.now what.now below self.now.settings.now descriptor) }
+        ensures { IfOk result (IsForEveryone name.now what.now view self.now.settings.now descriptor) }
     {
         let is_there = has_sacl(&descriptor);
-        match self.plain_for(name, below, descriptor)? {
+        match self.plain_for(name, view, descriptor)? {
             ForEveryone::Plain(plain) => Ok(ForEveryone::Plain(plain)),
             ForEveryone::Refused(answer) => {
                 let answer = note_sacl(self.alloc, name, what, is_there, answer)?;
@@ -87,15 +114,15 @@ impl CommandContext<'_> {
     fn plain_for(
         &self,
         name: &str,
-        below: bool,
+        view: View,
         whole: WholeDescriptor,
     ) -> Result<ForEveryone, AllocError>
-        ensures { IfOk result (IsPlainFor name.now below self.now.settings.now whole) }
+        ensures { IfOk result (IsPlainFor name.now view self.now.settings.now whole) }
     {
         if let Some(missing) = missing_dacl(self.settings, &whole.dacl) {
             return Ok(ForEveryone::Refused(self.fault("nodacl", name, missing)?));
         }
-        match self.seen_as(below, &whole) {
+        match self.seen_as(view, &whole) {
             Ok(descriptor) => { Ok(ForEveryone::Plain(PlainForEveryone { descriptor, whole })) }
             Err(Unplain::Undecided(fault)) => {
                 Ok(ForEveryone::Refused(self.undecided(name, fault)?))
@@ -107,22 +134,19 @@ impl CommandContext<'_> {
 
     /// The plain descriptor that the whole one is: of a container its plain part, which what is made in it inherits
     /// ([MS-DTYP] 2.5.3.4).
-    fn seen_as(&self, below: bool, descriptor: &WholeDescriptor) -> Result<Descriptor, Unplain>
+    fn seen_as(&self, view: View, descriptor: &WholeDescriptor) -> Result<Descriptor, Unplain>
         ensures plain { IfOk result
-            (λ plain. seen_as below self.now.settings.now descriptor.now ≡ Ok (descriptor_of plain)) }
-        ensures none { IfErr result (IsSeen (seen_as below self.now.settings.now descriptor.now)) }
+            (λ plain. seen_as view self.now.settings.now descriptor.now ≡ Ok (descriptor_of plain)) }
+        ensures none { IfErr result (IsSeen (seen_as view self.now.settings.now descriptor.now)) }
     {
-        if below {
-            return match descriptor.plain_part(self.alloc) {
+        match view {
+            View::Unconditional => undecided(self.unconditional(descriptor)),
+            View::Marked => undecided(self.marked(descriptor)),
+            View::Below => match descriptor.plain_part(self.alloc) {
                 Ok(part) => Ok(part.descriptor),
                 Err(PlainError::Odd(odd)) => Err(Unplain::Odd(odd)),
                 Err(PlainError::Memory) => Err(Unplain::Memory),
-            };
-        }
-        match self.unconditional(descriptor) {
-            Ok(plain) => Ok(plain),
-            Err(SpecializeError::Fault(fault)) => Err(Unplain::Undecided(fault)),
-            Err(SpecializeError::Memory) => Err(Unplain::Memory),
+            },
         }
     }
 
@@ -133,6 +157,27 @@ impl CommandContext<'_> {
     {
         let (chain, principal_self) = (self.settings.chain.types(), self.settings.principal_self);
         specialized_for_everyone(self.alloc, chain, principal_self, descriptor)
+    }
+
+    /// That in which markers stand for its conditions.
+    fn marked(&self, descriptor: &WholeDescriptor) -> Result<Descriptor, SpecializeError>
+        ensures { Gives descriptor_of result
+            (marked (everyone_context self.now.settings.now) (conditionals descriptor.now.dacl) descriptor.now) }
+    {
+        let (chain, principal_self) = (self.settings.chain.types(), self.settings.principal_self);
+        let marks = conditionals(self.alloc, &descriptor.dacl)?;
+        marked_for_everyone(self.alloc, chain, principal_self, &marks, descriptor)
+    }
+}
+
+/// Where there is none, that it can't be decided.
+fn undecided(found: Result<Descriptor, SpecializeError>) -> Result<Descriptor, Unplain>
+    ensures { IsUndecidedBy found result }
+{
+    match found {
+        Ok(plain) => Ok(plain),
+        Err(SpecializeError::Fault(fault)) => Err(Unplain::Undecided(fault)),
+        Err(SpecializeError::Memory) => Err(Unplain::Memory),
     }
 }
 

@@ -26,7 +26,6 @@ pub fn object_hands_nothing_on()
 
 /// Where no effective entry has an ObjectType, an answer is about all object types: the plain descriptor is the same
 /// for each ([MS-DTYP] 2.5.3.2).
-#[tactic(auto, using(crate::proofs::TypesAlike::types_change_nothing))]
 pub fn types_change_nothing()
     ensures { TypesChangeNothing }
 {}

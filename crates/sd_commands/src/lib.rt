@@ -17,6 +17,7 @@ mod bytes;
 mod chain;
 mod command_answer;
 mod concern;
+mod conditions;
 mod convert;
 mod descriptor;
 mod diagnostic;

@@ -8,26 +8,29 @@ ghost use Rattle.sd_commands.specs.CommandAnswer.{AnswersWhoOfWhole};
 
 use crate::command_answer::Answered;
 use crate::descriptor::{ALL_BUT_LABEL, ALL_LEFT_OUT, note_left_out_sacl, note_sacl};
-use crate::for_everyone::{ForEveryone, PlainForEveryone, has_sacl};
+use crate::for_everyone::{ForEveryone, PlainForEveryone, View, has_sacl};
 use crate::labels::label_changes;
 use crate::limits::{change_has_limits, sacl_left_out};
 use crate::object_types::{change_has_types, note_types, types_left_out, who_has_types};
 use crate::settings::CommandContext;
 use crate::words::{argument, items_from};
+use sd_specialize::conditionals;
 
 impl CommandContext<'_> {
-    /// Whom rights are granted to by all that the text is ([MS-DTYP] 2.5.1.1), but its SACL.
+    /// Whom rights are granted to by all that the text is ([MS-DTYP] 2.5.1.1), but its SACL: where an entry has a
+    /// condition, if that is met.
     pub(crate) fn whole_who(&self, sddl: &str, arguments: &[&str]) -> Answered
         ensures { IfOk result (λ answer. AnswersWhoOfWhole self.now.settings.now sddl.now arguments.now
             (answer_of answer)) }
     {
-        let plain = match self.of_everyone("SDDL", ALL_LEFT_OUT, false, sddl)? {
+        let plain = match self.of_everyone("SDDL", ALL_LEFT_OUT, View::Marked, sddl)? {
             ForEveryone::Plain(plain) => plain,
             ForEveryone::Refused(answer) => return Ok(answer),
         };
         let depends = who_has_types(self.settings, &plain.whole);
         let left_out = types_left_out(self.alloc, self.settings, depends)?;
-        let answer = self.who(&plain.descriptor, left_out, arguments)?;
+        let marks = conditionals(self.alloc, &plain.whole.dacl)?;
+        let answer = self.who(&plain.descriptor, &marks, left_out, arguments)?;
         let answer = note_types(self.alloc, self.settings, depends, answer)?;
         note_left_out_sacl(self.alloc, "SDDL", has_sacl(&plain.whole), answer)
     }
@@ -39,8 +42,8 @@ impl CommandContext<'_> {
         ensures { IfOk result (λ answer. AnswersCompareOfWhole self.now.settings.now sddl.now arguments.now
             (answer_of answer)) }
     {
-        let below = !self.settings.object;
-        let old = match self.of_everyone("OLD", ALL_BUT_LABEL, below, sddl)? {
+        let view = View::of(self.settings.object);
+        let old = match self.of_everyone("OLD", ALL_BUT_LABEL, view, sddl)? {
             ForEveryone::Plain(plain) => plain,
             ForEveryone::Refused(answer) => return Ok(answer),
         };
@@ -53,8 +56,8 @@ impl CommandContext<'_> {
         ensures { IfOk result (λ answer. AnswersCompareTo self.now.settings.now old.whole (descriptor_of old.descriptor)
             arguments.now (answer_of answer)) }
     {
-        let below = !self.settings.object;
-        let new = match self.of_everyone("NEW", ALL_BUT_LABEL, below, argument(arguments, 0))? {
+        let view = View::of(self.settings.object);
+        let new = match self.of_everyone("NEW", ALL_BUT_LABEL, view, argument(arguments, 0))? {
             ForEveryone::Plain(plain) => plain,
             ForEveryone::Refused(answer) => return Ok(answer),
         };

@@ -40,9 +40,10 @@ fn push_condition(parts: &mut Parts, bytes: &[u8]) -> Result<(), AllocError>
     }
 }
 
-/// The text of the condition in application data; `None`: it is no condition, or has no text.
+/// The text of the condition in application data ([MS-DTYP] 2.4.4.17); `None`: it is no condition, or has no text. The
+/// only error is out of memory.
 #[tactic(auto, unfolding(sd_whole_text::specs::Data::condition_in))]
-fn condition_text(alloc: Global, bytes: &[u8]) -> Result<Option<String>, AllocError>
+pub fn condition_text(alloc: Global, bytes: &[u8]) -> Result<Option<String>, AllocError>
     ensures { IfOk result (λ text. option_map string_bytes text ≡ condition_in bytes.now) }
 {
     match read_condition(alloc, bytes)? {

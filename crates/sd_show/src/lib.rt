@@ -21,6 +21,7 @@ mod pairs;
 mod same;
 mod show;
 
+pub use data::condition_text;
 pub use diff::diff_lines;
 pub use forms::SACL_LEFT_OUT;
 pub use laws::{alike_has_no_line, no_line_means_alike};

@@ -1,10 +1,13 @@
 pub mod Lists
+pub mod Markers
+pub mod MarkersStand
 pub mod Grants
 pub mod PlainStays
 pub mod Parts
+pub mod Places
 pub mod Denies
 pub mod NoMore
 pub mod Chains
-pub mod Between
 pub mod Alike
 pub mod Unknowns
+pub mod Unmarked

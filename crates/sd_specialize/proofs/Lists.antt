@@ -1,10 +1,11 @@
 -- The entries of a list, one by one.
-use Rattle.std.proofs.Common.{◌≡◌, ℕ, ◌+◌, ◌++◌, ◌∷◌, [], List, Result, Ok, Err, ap, arith, refl}
+use Rattle.std.proofs.Common.{◌≡◌, ℕ, ◌+◌, ◌<◌, ◌++◌, ◌∷◌, [], List, Result, Ok, Err, ap, arith, drop, get_or, length, refl, sym, ◌∙◌}
+use Rattle.std.proofs.lemmas.List.{append_assoc, drop_more}
 use Rattle.sd_acl.specs.declared.ace.Ace.{Ace}
 use Rattle.sd_whole.specs.declared.ace.WholeAce.{WholeAce}
 use Rattle.sd_specialize.specs.Context.{ContextValue}
 use Rattle.sd_specialize.specs.Entry.{entry_for}
-use Rattle.sd_specialize.specs.Specialize.{entries_for, fitting, numbered, ◌>>=◌}
+use Rattle.sd_specialize.specs.Specialize.{EntryRule, entries_by, entries_for, fitting, numbered, ◌>>=◌}
 use Rattle.sd_specialize.specs.declared.fault.RefusedKind.{RefusedKind}
 use Rattle.sd_specialize.specs.declared.fault.SpecializeFault.{SpecializeFault}
 
@@ -69,3 +70,20 @@ split c m n (x ∷ before) after e p with without is h k =
       with_it = cc (f.are, s.with_it);
       without_it = cc (l.are, l.is_first, f.is_first, s.without_it);
     }
+
+-- ---- one entry more of those so far
+
+bound_once : (r : Result Ace SpecializeFault) (rest : Result (List Ace) SpecializeFault) (plain : List Ace) (p : Ace) → r ≡ Ok p
+    → ((r >>= λ first. (rest >>= λ others. Ok (first ∷ others))) >>= λ others. Ok (plain ++ others))
+    ≡ (rest >>= λ others. Ok ((plain ++ p ∷ []) ++ others))
+bound_once r (Ok others) plain p is = rw is (ap Ok (sym (append_assoc plain (p ∷ []) others)))
+bound_once r (Err fault) plain p is = rw is refl
+
+pub grown : (rule : EntryRule) (es : List WholeAce) (i : ℕ) (e : WholeAce) (p : Ace) (plain new : List Ace)
+    → i < length es → e ≡ get_or es i e → numbered (i + 1) (rule e) ≡ Ok p
+    → entries_by rule 1 es ≡ (entries_by rule (i + 1) (drop i es) >>= λ others. Ok (plain ++ others)) → new ≡ plain ++ p ∷ []
+    → entries_by rule 1 es ≡ (entries_by rule ((i + 1) + 1) (drop (i + 1) es) >>= λ others. Ok (new ++ others))
+grown rule es i e p plain new low is found was whole =
+    let rest : drop i es ≡ e ∷ drop (i + 1) es = drop_more es i e low ∙ ap (λ x. x ∷ drop (i + 1) es) (sym is) in
+    rw whole (was ∙ ap (λ xs. entries_by rule (i + 1) xs >>= λ others. Ok (plain ++ others)) rest
+    ∙ bound_once (numbered (i + 1) (rule e)) (entries_by rule ((i + 1) + 1) (drop (i + 1) es)) plain p found)

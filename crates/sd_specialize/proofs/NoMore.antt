@@ -6,7 +6,8 @@ use Rattle.sd_acl.specs.Ace.{is_allow}
 use Rattle.sd_acl.specs.declared.ace.Ace.{Ace}
 use Rattle.sd_acl.specs.declared.ace.AceKind.{AceKind}
 use Rattle.sd_acl.specs.declared.ace.AceKind.TheVariants.{Allow, Deny}
-use Rattle.sd_check.specs.Check.{decides, first, is_allowed_by, is_limit, limits_owner}
+use Rattle.sd_check.specs.Check.{decides, first, is_allowed_by, is_granted, is_limit, limits_owner}
+use Rattle.sd_check.specs.Token.{TokenValue}
 use Rattle.sd_check.specs.declared.grounds.Pass.TheVariants.{First}
 use Rattle.sd_sid.specs.Mapping.{MappingValue}
 use Rattle.sd_sid.specs.Sid.{SidValue}
@@ -18,7 +19,6 @@ use Rattle.sd_whole.specs.declared.ace.WholeAce.TheVariants.{Plain, Typed, Opaqu
 use Rattle.sd_whole.specs.declared.kind.WholeKind.{WholeKind}
 use Rattle.sd_specialize.proofs.Grants.{decides_nothing, more_granted}
 use Rattle.sd_specialize.proofs.Lists.{Is, found, listed}
-use Rattle.sd_specialize.specs.Bounds.{GrantsNoMore}
 use Rattle.sd_specialize.specs.Context.{ContextValue}
 use Rattle.sd_specialize.specs.Entry.{applies_as, applies_in, effective_for, entry_for, passes_agree, plain_for, typed_for, without_part}
 use Rattle.sd_specialize.specs.Entry as whole
@@ -48,7 +48,7 @@ both_same : (x a b : Ace) → Is (Ok x) a → Is (Ok x) b → NoMore a b
 both_same x a b h k = same_entry a b cc
 
 -- an entry that is decided by two tests
-decided : (agree applies : Bool) (x y p : Ace)
+pub decided : (agree applies : Bool) (x y p : Ace)
     → (if not agree then Err PassesDiffer else if applies then Ok x else Ok y) ≡ Ok p → p ≡ (if applies then x else y)
 decided true true x y p h = cc
 decided true false x y p h = cc
@@ -166,6 +166,11 @@ list_no_more c k no_more n (e ∷ es) xs ys one other =
       allowed = λ g who bit x. still_allowed g who bit f.first l.first f.rest l.rest (others.allowed g who bit) x here;
       limits = cc (here.limits, others.limits);
     })
+
+-- a bit that the one list grants is granted by the other
+abbrev pub GrantsNoMore : List Ace → List Ace → Type 0
+GrantsNoMore one other = (owner : Option SidValue) (g : MappingValue) (t : TokenValue) (b : ℕ)
+    → is_granted owner (Some one) g t b ≡ true → is_granted owner (Some other) g t b ≡ true
 
 pub grants_no_more : (c k : ContextValue) → AppliesNoMore c k → (es : List WholeAce) (xs ys : List Ace)
     → specialized_list c es ≡ Ok xs → specialized_list k es ≡ Ok ys → GrantsNoMore xs ys

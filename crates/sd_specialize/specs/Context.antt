@@ -3,7 +3,6 @@
 use Rattle.std.specs.Prelude.{ℕ, Bool, false, List, Option, Some, None}
 use Rattle.sd_sid.specs.Sid.{SidValue}
 use Rattle.sd_acl.specs.declared.ace.AceKind.{AceKind}
-use Rattle.sd_acl.specs.declared.ace.AceKind.TheVariants.{Allow, Deny}
 use Rattle.sd_check.specs.Token.{is_restricted}
 use Rattle.sd_check.specs.declared.grounds.Pass.{Pass}
 use Rattle.sd_condition.specs.Reading.{condition_read}
@@ -11,12 +10,11 @@ use Rattle.sd_condition.specs.declared.token.Token.{Token}
 use Rattle.sd_evaluation.specs.Evaluation.{condition_truth}
 use Rattle.sd_evaluation.specs.Facts.{FactsValue}
 use Rattle.sd_evaluation.specs.declared.truth.Truth.{Truth}
-use Rattle.sd_evaluation.specs.declared.truth.Truth.TheVariants.{True, False, Unknown}
+use Rattle.sd_evaluation.specs.declared.truth.Truth.TheVariants.{Unknown}
 use Rattle.sd_whole.specs.declared.types.Guid.{Guid}
-use Rattle.sd_specialize.specs.declared.bounds.Bound.{Bound}
-use Rattle.sd_specialize.specs.declared.bounds.Bound.TheVariants.{AtLeast, AtMost}
 use Rattle.sd_specialize.specs.declared.context.Conditions.{Conditions}
-use Rattle.sd_specialize.specs.declared.context.Conditions.TheVariants.{Evaluated, Bounded}
+use Rattle.sd_specialize.specs.declared.context.Conditions.TheVariants.{Evaluated}
+use Rattle.sd_specialize.specs.declared.context.Conditions.TheVariants as known
 use Rattle.sd_specialize.specs.declared.context.Context.{Context}
 
 pub record ContextValue : Type 0 where
@@ -38,22 +36,15 @@ abbrev pub truth_of : FactsValue → Pass → AceKind → Option (List Token) �
 truth_of f pass kind None = Unknown
 truth_of f pass kind (Some tokens) = truth_or_unknown (condition_truth f kind pass tokens)
 
--- what the condition of an entry of the kind comes to for a bound: for the least it isn't known, so that an allow has
--- no part and a deny denies; for the most an allow's is true and a deny's false
-abbrev pub bound_truth : Bound → AceKind → Truth
-bound_truth AtLeast kind = Unknown
-bound_truth AtMost Allow = True
-bound_truth AtMost Deny = False
-
--- what conditions come to: by facts, or for a bound
+-- what conditions come to: by facts, or unknown
 abbrev pub truth_by : Conditions → Pass → AceKind → List ℕ → Truth
 truth_by (Evaluated facts) pass kind bytes = truth_of facts.now pass kind (condition_read bytes)
-truth_by (Bounded bound) pass kind bytes = bound_truth bound kind
+truth_by known.Unknown pass kind bytes = Unknown
 
 -- there are two passes in which they may come to different truths
 abbrev pub restricted_by : Conditions → Bool
 restricted_by (Evaluated facts) = is_restricted facts.now.token
-restricted_by (Bounded bound) = false
+restricted_by known.Unknown = false
 
 abbrev pub context_of : Context → ContextValue
 context_of c = record {

@@ -1,19 +1,19 @@
--- The plain descriptor that a whole one is for each question about the same object types, whoever asks: none of its
--- effective entries has a condition ([MS-DTYP] 2.5.3.2).
+-- Entries that depend on who asks: the effective ones with a condition ([MS-DTYP] 2.4.4.17); and the plain descriptor
+-- that a whole one is for each question about the same object types, whoever asks, where it has none.
 use Rattle.std.specs.Prelude.{ℕ, ◌+◌, Bool, true, false, not, ◌&&◌, Option, Some, None, Result, Err}
 use Rattle.std.specs.List.{position}
 use Rattle.sd_acl.specs.Descriptor.{DescriptorValue}
 use Rattle.sd_acl.specs.declared.descriptor.DaclOf.TheVariants.{Absent, Null, List as Entries}
 use Rattle.sd_whole.specs.declared.ace.WholeAce.{WholeAce}
 use Rattle.sd_whole.specs.declared.ace.WholeAce.TheVariants.{Plain, Typed, Opaque}
-use Rattle.sd_whole.specs.declared.descriptor.WholeDescriptor.{WholeDescriptor}
 use Rattle.sd_whole.specs.declared.kind.WholeKind.{WholeKind}
 use Rattle.sd_whole.specs.declared.kind.WholeKind.TheVariants.{CallbackAllow, CallbackDeny, CallbackObjectAllow}
 use Rattle.sd_whole.specs.declared.kind.WholeKind.TheVariants.{CallbackObjectDeny}
 use Rattle.sd_whole.specs.declared.plain.OddKind.TheVariants.{ConditionalAce}
 use Rattle.sd_whole.specs.Reading.{WholeAcl}
-use Rattle.sd_specialize.specs.Context.{ContextValue}
 use Rattle.sd_whole.specs.Entry.{for_children_alone}
+use Rattle.sd_whole.specs.declared.descriptor.WholeDescriptor.{WholeDescriptor}
+use Rattle.sd_specialize.specs.Context.{ContextValue}
 use Rattle.sd_specialize.specs.Specialize.{specialized}
 use Rattle.sd_specialize.specs.declared.fault.RefusedKind.TheVariants.{Odd}
 use Rattle.sd_specialize.specs.declared.fault.SpecializeFault.{SpecializeFault}
@@ -39,10 +39,13 @@ conditional_place Null = None
 conditional_place (Entries list) = position is_conditional list.entries
 
 -- the entry at the place, counted from 1, is refused
+abbrev pub conditional_fault : ℕ → SpecializeFault
+conditional_fault place = Refused (record { entry = place + 1; kind = Odd ConditionalAce })
+
 abbrev pub unless_conditional : Option ℕ → Result DescriptorValue SpecializeFault
     → Result DescriptorValue SpecializeFault
 unless_conditional None other = other
-unless_conditional (Some place) other = Err (Refused (record { entry = place + 1; kind = Odd ConditionalAce }))
+unless_conditional (Some place) other = Err (conditional_fault place)
 
 -- what the descriptor is for the question, if none of its effective entries has a condition
 abbrev pub unconditional : ContextValue → WholeDescriptor → Result DescriptorValue SpecializeFault

@@ -2,5 +2,6 @@ pub mod Context
 pub mod Entry
 pub mod Specialize
 pub mod Everyone
-pub mod Bounds
+pub mod Marked
+pub mod Rule
 pub mod Laws

@@ -51,30 +51,47 @@ abbrev pub numbered : ℕ → Result Ace RefusedKind → Result Ace SpecializeFa
 numbered n (Ok e) = Ok e
 numbered n (Err kind) = Err (Refused (record { entry = n; kind = kind }))
 
--- entries, the first of which has this number
-abbrev pub entries_for : ContextValue → ℕ → List WholeAce → Result (List Ace) SpecializeFault
-entries_for c n [] = Ok []
-entries_for c n (e ∷ es) =
-    numbered n (entry_for c e) >>= λ first. (entries_for c (n + 1) es >>= λ others. Ok (first ∷ others))
+-- what each entry becomes, or why it is refused
+abbrev pub EntryRule : Type 0
+EntryRule = WholeAce → Result Ace RefusedKind
+
+-- entries by a rule, the first of which has this number
+abbrev pub entries_by : EntryRule → ℕ → List WholeAce → Result (List Ace) SpecializeFault
+entries_by rule n [] = Ok []
+entries_by rule n (e ∷ es) =
+    numbered n (rule e) >>= λ first. (entries_by rule (n + 1) es >>= λ others. Ok (first ∷ others))
 
 -- a list has at most 65,535 bytes (2.4.5, AclSize)
 abbrev pub fitting : List Ace → Result (List Ace) SpecializeFault
 fitting es = if nat_lt 65535 (acl_size_of es) then Err TooLarge else Ok es
 
 -- a list, whose entries are counted from 1
-abbrev pub specialized_list : ContextValue → List WholeAce → Result (List Ace) SpecializeFault
-specialized_list c es = entries_for c 1 es >>= fitting
+abbrev pub list_by : EntryRule → List WholeAce → Result (List Ace) SpecializeFault
+list_by rule es = entries_by rule 1 es >>= fitting
 
 -- ---- the descriptor
 
-abbrev pub specialized_acl : ContextValue → WholeAcl → Result Dacl SpecializeFault
-specialized_acl c Absent = Ok Absent
-specialized_acl c Null = Ok Null
-specialized_acl c (Entries list) = specialized_list c list.entries >>= λ es. Ok (Entries es)
+abbrev pub acl_by : EntryRule → WholeAcl → Result Dacl SpecializeFault
+acl_by rule Absent = Ok Absent
+acl_by rule Null = Ok Null
+acl_by rule (Entries list) = list_by rule list.entries >>= λ es. Ok (Entries es)
 
--- owner, group and the DACL for the question, or why there is none
+-- owner, group and the DACL, or why there is none
+abbrev pub descriptor_by : EntryRule → WholeDescriptor → Result DescriptorValue SpecializeFault
+descriptor_by rule d = acl_by rule d.dacl >>= λ dacl. Ok (with_dacl d dacl)
+
+-- for one question
+abbrev pub entries_for : ContextValue → ℕ → List WholeAce → Result (List Ace) SpecializeFault
+entries_for c = entries_by (entry_for c)
+
+abbrev pub specialized_list : ContextValue → List WholeAce → Result (List Ace) SpecializeFault
+specialized_list c = list_by (entry_for c)
+
+abbrev pub specialized_acl : ContextValue → WholeAcl → Result Dacl SpecializeFault
+specialized_acl c = acl_by (entry_for c)
+
 abbrev pub specialized : ContextValue → WholeDescriptor → Result DescriptorValue SpecializeFault
-specialized c d = specialized_acl c d.dacl >>= λ dacl. Ok (with_dacl d dacl)
+specialized c = descriptor_by (entry_for c)
 
 -- the DACL is a list that has entries
 abbrev pub HasDaclEntries : WholeAcl → Type 0

@@ -38,7 +38,7 @@ fn truth_in(
 {
     match context.conditions {
         Conditions::Evaluated(facts) => truth_of(alloc, facts, pass, kind, bytes),
-        Conditions::Bounded(bound) => Ok(bound.truth(kind)),
+        Conditions::Unknown => Ok(Truth::Unknown),
     }
 }
 

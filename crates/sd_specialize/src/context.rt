@@ -6,8 +6,8 @@ ghost use Rattle.sd_sid.specs.Sid.{same_sid};
 ghost use Rattle.sd_specialize.specs.Context.{context_of};
 ghost use Rattle.sd_specialize.specs.Entry.{allows_type, denies_type, is_asked, plain_for, principal_self, trustee};
 ghost use Rattle.sd_specialize.specs.Entry.{without_part};
+ghost use Rattle.sd_whole.specs.Plain.{plain_ace};
 
-use crate::bounds::Bound;
 use bitflags::Flags;
 use sd_acl::{Ace, AceFlags, AceKind};
 use sd_evaluation::Facts;
@@ -19,8 +19,8 @@ use sd_whole::Guid;
 pub enum Conditions<'a> {
     /// Each is evaluated for who asks, by these facts ([MS-DTYP] 2.5.3.1.5).
     Evaluated(&'a Facts<'a>),
-    /// Each comes to what gives this bound for everyone.
-    Bounded(Bound),
+    /// None is known to be true or false.
+    Unknown,
 }
 
 /// One question about a whole descriptor: who asks, about which object types, and which object it is ([MS-DTYP]
@@ -43,12 +43,12 @@ impl Context<'_> {
     {
         match self.conditions {
             Conditions::Evaluated(facts) => facts.token.is_restricted(),
-            Conditions::Bounded(_) => false,
+            Conditions::Unknown => false,
         }
     }
 
-    /// The SID that an entry for this SID is for.
-    fn trustee(&self, sid: Sid) -> Sid
+    /// The SID that an entry for this SID is for ([MS-DTYP] 2.5.3.1.1).
+    pub fn trustee(&self, sid: Sid) -> Sid
         ensures { result ≡ trustee (context_of self.now) sid }
     {
         if !is_principal_self(&sid) {
@@ -64,12 +64,7 @@ impl Context<'_> {
     pub(crate) fn plain_ace(&self, kind: AceKind, flags: AceFlags, mask: Mask, sid: Sid) -> Ace
         ensures { result ≡ plain_for (context_of self.now) kind flags.0 mask sid }
     {
-        Ace {
-            kind,
-            flags: AceFlags::from_bits_retain(flags.bits() & AceFlags::NAMED_BITS),
-            mask,
-            sid: self.trustee(sid),
-        }
+        plain_ace(kind, flags, mask, self.trustee(sid))
     }
 
     /// An entry without a part in the question: it names no right.
@@ -97,6 +92,18 @@ impl Context<'_> {
             None => true,
             Some(object) => self.chain.is_empty() || is_asked(self.chain, object),
         }
+    }
+}
+
+/// An allow or a deny for the SID, with its named flags.
+pub(crate) fn plain_ace(kind: AceKind, flags: AceFlags, mask: Mask, sid: Sid) -> Ace
+    ensures { result ≡ plain_ace kind flags.0 mask sid }
+{
+    Ace {
+        kind,
+        flags: AceFlags::from_bits_retain(flags.bits() & AceFlags::NAMED_BITS),
+        mask,
+        sid,
     }
 }
 

@@ -1,18 +1,18 @@
-//! The plain descriptor that a whole one is for one question.
+//! The plain descriptor that a whole one is for one question, or by another rule for its entries.
 
 ghost use Rattle.std.specs.Prelude.{◌≡◌, ◌<◌, length, IsErrOf, IsTrue};
-ghost use Rattle.sd_specialize.specs.Entry.{entry_for};
 ghost use Rattle.sd_acl.specs.Dacl.{IsAbsent};
 ghost use Rattle.sd_acl.specs.Descriptor.{descriptor_of};
 ghost use Rattle.sd_specialize.specs.Context.{context_of};
-ghost use Rattle.sd_specialize.specs.Specialize.{Gives, HasDaclEntries, entries_for, numbered, specialized};
-ghost use Rattle.sd_specialize.specs.Specialize.{specialized_acl, specialized_list};
+ghost use Rattle.sd_specialize.specs.Rule.{rule_of};
+ghost use Rattle.sd_specialize.specs.Specialize.{Gives, HasDaclEntries, acl_by, descriptor_by, entries_by, list_by};
+ghost use Rattle.sd_specialize.specs.Specialize.{numbered, specialized};
 ghost use Rattle.sd_whole.specs.Plain.{dacl_bit, with_dacl};
 ghost use Rattle.sd_whole.specs.Writing.{is_without};
 
 use crate::context::Context;
-use crate::entry::entry_for;
 use crate::fault::{EntryError, RefusedEntry, SpecializeError, SpecializeFault};
+use crate::rule::Rule;
 use sd_acl::{Ace, AceList, Dacl, Descriptor};
 use sd_whole::{WholeAce, WholeAcl, WholeDescriptor};
 use sd_wire::has_bits;
@@ -32,6 +32,7 @@ const AUTO_INHERITED: u16 = 0x0400;
 /// a condition apply or have no part, and PRINCIPAL SELF is the SID that the question names. A fault is the first
 /// entry that is refused, or that the list is too large. There is an allocation for the list, and those for parsing
 /// and evaluating conditions.
+#[tactic(auto, unfolding(crate::specs::Rule::rule_of))]
 pub fn specialized(
     alloc: Global,
     context: &Context<'_>,
@@ -40,7 +41,19 @@ pub fn specialized(
     ensures exact { Gives descriptor_of result (specialized (context_of context.now) descriptor.now) }
     ensures memory { IsErrOf result SpecializeError.Memory → HasDaclEntries descriptor.now.dacl }
 {
-    let dacl = specialized_acl(alloc, context, &descriptor.dacl)?;
+    descriptor_by(alloc, Rule::Asked(context), descriptor)
+}
+
+/// The plain descriptor whose entries follow from the whole one's by the rule.
+pub(crate) fn descriptor_by(
+    alloc: Global,
+    rule: Rule<'_>,
+    descriptor: &WholeDescriptor,
+) -> Result<Descriptor, SpecializeError>
+    ensures exact { Gives descriptor_of result (descriptor_by (rule_of rule.entry) descriptor.now) }
+    ensures memory { IsErrOf result SpecializeError.Memory → HasDaclEntries descriptor.now.dacl }
+{
+    let dacl = acl_by(alloc, rule, &descriptor.dacl)?;
     Ok(with_dacl(descriptor, dacl))
 }
 
@@ -66,66 +79,58 @@ fn dacl_bit(descriptor: &WholeDescriptor, bit: u16) -> bool
     has_bits(descriptor.control, bit) && !matches!(descriptor.dacl, WholeAcl::Absent)
 }
 
-fn specialized_acl(
-    alloc: Global,
-    context: &Context<'_>,
-    acl: &WholeAcl,
-) -> Result<Dacl, SpecializeError>
-    ensures exact { Gives (λ dacl. dacl) result (specialized_acl (context_of context.now) acl.now) }
+fn acl_by(alloc: Global, rule: Rule<'_>, acl: &WholeAcl) -> Result<Dacl, SpecializeError>
+    ensures exact { Gives (λ dacl. dacl) result (acl_by (rule_of rule.entry) acl.now) }
     ensures memory { IsErrOf result SpecializeError.Memory → HasDaclEntries acl.now }
 {
     match acl {
         WholeAcl::Absent => Ok(Dacl::Absent),
         WholeAcl::Null => Ok(Dacl::Null),
         WholeAcl::List(list) => {
-            let entries = specialized_list(alloc, context, list.entries())?;
+            let entries = list_by(alloc, rule, list.entries())?;
             Ok(Dacl::List(entries))
         }
     }
 }
 
-/// The entries of a list for the question.
-fn specialized_list(
-    alloc: Global,
-    context: &Context<'_>,
-    entries: &[WholeAce],
-) -> Result<AceList, SpecializeError>
-    ensures exact { Gives (λ list. list) result (specialized_list (context_of context.now) entries.now) }
+/// The entries of a list.
+fn list_by(alloc: Global, rule: Rule<'_>, entries: &[WholeAce]) -> Result<AceList, SpecializeError>
+    ensures exact { Gives (λ list. list) result (list_by (rule_of rule.entry) entries.now) }
     ensures memory { IsErrOf result SpecializeError.Memory → 0 < length entries.now }
 {
-    let plain = entries_for(alloc, context, entries)?;
+    let plain = entries_by(alloc, rule, entries)?;
     match AceList::new(plain) {
         Ok(list) => Ok(list),
         Err(_) => Err(SpecializeError::Fault(SpecializeFault::TooLarge)),
     }
 }
 
-/// Each entry for the question.
-fn entries_for(
+/// What each entry becomes.
+fn entries_by(
     alloc: Global,
-    context: &Context<'_>,
+    rule: Rule<'_>,
     entries: &[WholeAce],
 ) -> Result<Vec<Ace>, SpecializeError>
-    ensures exact { Gives (λ plain. plain.items) result (entries_for (context_of context.now) 1 entries.now) }
+    ensures exact { Gives (λ plain. plain.items) result (entries_by (rule_of rule.entry) 1 entries.now) }
     ensures memory { IsErrOf result SpecializeError.Memory → 0 < length entries.now }
 {
     let mut plain = Vec::with_capacity(alloc, entries.len())?;
     for (i, entry) in entries.iter().enumerate() {
-        plain.push(numbered_entry(alloc, context, i + 1, entry)?)?;
+        plain.push(numbered_entry(alloc, rule, i + 1, entry)?)?;
     }
     Ok(plain)
 }
 
-/// What the entry with this number is for the question.
+/// What the entry with this number becomes.
 fn numbered_entry(
     alloc: Global,
-    context: &Context<'_>,
+    rule: Rule<'_>,
     number: usize,
     entry: &WholeAce,
 ) -> Result<Ace, SpecializeError>
-    ensures { Gives (λ e. e) result (numbered number (entry_for (context_of context.now) entry.now)) }
+    ensures { Gives (λ e. e) result (numbered number (rule_of rule.entry entry.now)) }
 {
-    match entry_for(alloc, context, entry) {
+    match rule.entry(alloc, entry) {
         Ok(plain) => Ok(plain),
         Err(EntryError::Memory) => Err(SpecializeError::Memory),
         Err(EntryError::Refused(kind)) => {

@@ -1,14 +1,16 @@
-//! The plain descriptor that a whole one is for each question about the same object types, whoever asks.
+//! Entries that depend on who asks, and the plain descriptor that a whole one without these is whoever asks.
 
-ghost use Rattle.std.specs.Prelude.{◌≡◌, ◌<◌, ◌^◌, None, IfSome, IsErrOf};
+ghost use Rattle.std.specs.Prelude.{◌≡◌, ◌<◌, ◌^◌, IfSome, IsErrOf};
 ghost use Rattle.std.specs.List.{position};
 ghost use Rattle.sd_acl.specs.Descriptor.{descriptor_of};
 ghost use Rattle.sd_specialize.specs.Context.{ContextValue};
-ghost use Rattle.sd_specialize.specs.Everyone.{conditional_place, has_condition, is_conditional, unconditional};
-ghost use Rattle.sd_specialize.specs.Specialize.{Gives, HasDaclEntries, specialized};
+ghost use Rattle.sd_specialize.specs.Everyone.{conditional_fault, conditional_place, has_condition, is_conditional};
+ghost use Rattle.sd_specialize.specs.Everyone.{unconditional};
+ghost use Rattle.sd_specialize.specs.Specialize.{Gives, HasDaclEntries};
+ghost use Rattle.sd_specialize.specs.declared.fault.SpecializeError.TheVariants as errors;
 
-use crate::bounds::{Bound, specialized_within};
 use crate::fault::{RefusedEntry, RefusedKind, SpecializeError, SpecializeFault};
+use crate::marked::marked_for_everyone;
 use sd_acl::Descriptor;
 use sd_sid::Sid;
 use sd_whole::{Guid, OddKind, WholeAce, WholeAcl, WholeDescriptor, WholeKind, for_children_alone};
@@ -29,30 +31,20 @@ pub fn specialized_for_everyone(
     ensures memory { IsErrOf result SpecializeError.Memory → HasDaclEntries descriptor.now.dacl }
 {
     match conditional_place(&descriptor.dacl) {
-        Some(place) => {
-            let refused = RefusedEntry {
-                entry: place + 1,
-                kind: RefusedKind::Odd(OddKind::ConditionalAce),
-            };
-            Err(SpecializeError::Fault(SpecializeFault::Refused(refused)))
-        }
-        None => specialized_for_nobody(alloc, chain, principal_self, descriptor),
+        Some(place) => Err(conditional_fault(place)),
+        None => marked_for_everyone(alloc, chain, principal_self, &[], descriptor),
     }
 }
 
-/// The plain descriptor that a whole one is, where no entry asks who it is for: each bound is the same one.
-fn specialized_for_nobody(
-    alloc: Global,
-    chain: &[Guid],
-    principal_self: Option<Sid>,
-    descriptor: &WholeDescriptor,
-) -> Result<Descriptor, SpecializeError>
-    requires { conditional_place descriptor.now.dacl ≡ None }
-    ensures exact { (c : ContextValue) → c.chain ≡ chain.now → c.principal_self ≡ principal_self
-        → Gives descriptor_of result (specialized c descriptor.now) }
-    ensures memory { IsErrOf result SpecializeError.Memory → HasDaclEntries descriptor.now.dacl }
+/// The fault of an entry with a condition at this place.
+pub(crate) fn conditional_fault(place: usize) -> SpecializeError
+    requires { place < 2 ^ 63 }
+    ensures { result ≡ errors.Fault (conditional_fault place) }
 {
-    specialized_within(alloc, Bound::AtLeast, chain, principal_self, descriptor)
+    SpecializeError::Fault(SpecializeFault::Refused(RefusedEntry {
+        entry: place + 1,
+        kind: RefusedKind::Odd(OddKind::ConditionalAce),
+    }))
 }
 
 /// The place of the first effective entry with a condition ([MS-DTYP] 2.4.4.17), from 0.
@@ -74,7 +66,7 @@ fn first_conditional(entries: &[WholeAce]) -> Option<usize>
 }
 
 /// Whether it is an effective entry with a condition.
-fn is_conditional(entry: &WholeAce) -> bool
+pub(crate) fn is_conditional(entry: &WholeAce) -> bool
     ensures { result ≡ is_conditional entry.now }
 {
     match entry {

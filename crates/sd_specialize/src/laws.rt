@@ -1,8 +1,8 @@
 //! What follows from the rules. Each law is the contract of a function that does nothing.
 
-ghost use Rattle.sd_specialize.specs.Bounds.{BoundsHold};
 ghost use Rattle.sd_specialize.specs.Laws.{DenyNeverGrants, NoPartChangesNothing, PlainStaysPlain, UnknownFailsClosed};
 ghost use Rattle.sd_specialize.specs.Laws.{WholeIsEveryPart};
+ghost use Rattle.sd_specialize.specs.Marked.{AllAreMarked, MarkersStand};
 
 /// A law: a descriptor whose DACL has allows and denies alone is its plain part for every question, whatever else is
 /// known; but where it has an entry for PRINCIPAL SELF, that is a SID that the question names.
@@ -17,13 +17,11 @@ pub fn no_part_changes_nothing()
 {}
 
 /// A law: one more deny grants nothing, whatever its object types are and whatever its condition comes to.
-#[tactic(auto, using(crate::proofs::Denies::deny_never_grants))]
 pub fn deny_never_grants()
     ensures { DenyNeverGrants }
 {}
 
 /// A law: what is granted on the whole object, where no object type is asked about, is granted on each part of it.
-#[tactic(auto, using(crate::proofs::Chains::whole_is_every_part))]
 pub fn whole_is_every_part()
     ensures { WholeIsEveryPart }
 {}
@@ -35,8 +33,16 @@ pub fn unknown_fails_closed()
     ensures { UnknownFailsClosed }
 {}
 
-/// A law: what is granted by the bound from below is granted whatever the conditions of entries come to, and what is
-/// granted for some outcome of them is granted by the bound from above ([MS-DTYP] 2.5.3.1.5).
-pub fn bounds_hold()
-    ensures { BoundsHold }
+/// A law: the list in which markers stand for conditions gives each token, with the markers that it counts as having,
+/// the verdict that the list gives it by its claims ([MS-DTYP] 2.5.3.1.5).
+#[tactic(auto, using(crate::proofs::MarkersStand::markers_stand))]
+pub fn markers_stand()
+    ensures { MarkersStand }
+{}
+
+/// A law: by the conditional entries of a list, and whatever others there are, each of its conditional entries has a
+/// marker ([MS-DTYP] 2.4.4.17).
+#[tactic(auto, using(crate::proofs::Markers::all_are_marked))]
+pub fn all_are_marked()
+    ensures { AllAreMarked }
 {}

@@ -13,7 +13,6 @@
 //! ```
 #![tactic(auto)]
 
-mod bounds;
 mod condition;
 mod context;
 mod descriptor;
@@ -21,13 +20,15 @@ mod entry;
 mod everyone;
 mod fault;
 mod laws;
+mod marked;
+mod rule;
 
-pub use bounds::{Bound, specialized_within};
 pub use context::{Conditions, Context};
 pub use descriptor::specialized;
 pub use everyone::{conditional_place, specialized_for_everyone};
 pub use fault::{RefusedEntry, RefusedKind, SpecializeError, SpecializeFault};
 pub use laws::{
-    bounds_hold, deny_never_grants, no_part_changes_nothing, plain_stays_plain,
+    all_are_marked, deny_never_grants, markers_stand, no_part_changes_nothing, plain_stays_plain,
     unknown_fails_closed, whole_is_every_part,
 };
+pub use marked::{conditionals, is_deny, is_marker, marked_for_everyone, marker};

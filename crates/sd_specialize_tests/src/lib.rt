@@ -4,7 +4,7 @@
 #[cfg(test)]
 mod access_tests;
 #[cfg(test)]
-mod bounds_tests;
+mod marked_tests;
 #[cfg(test)]
 mod rows;
 #[cfg(test)]

@@ -1,0 +1,84 @@
+-- Conditions in lines: in the place of a marker, which stands for them, whom they are asked of and what they ask.
+use Rattle.std.specs.Prelude.{ℕ, ◌+◌, Bool, true, false, List, [], ◌∷◌, ◌++◌, Option, Some, None, codes, map}
+use Rattle.std.specs.Prelude.{if◌then◌else◌}
+use Rattle.std.specs.List.{list_any}
+use Rattle.hex.specs.Hex.{encode_lower}
+use Rattle.sd_sid.specs.Sid.{SidValue, same_sid}
+use Rattle.sd_text.specs.Canon.{full_canon}
+use Rattle.sd_check.specs.declared.token.GroupState.{GroupState}
+use Rattle.sd_line.specs.Line.{LineOf, PartOf, line_with, part_of}
+use Rattle.sd_line.specs.Printed.{mark_text}
+use Rattle.sd_line.specs.declared.line.SidMark.{SidMark}
+use Rattle.sd_line.specs.declared.line.Value.{Value}
+use Rattle.sd_line.specs.declared.line.Value.TheVariants as values
+use Rattle.sd_whole.specs.declared.ace.TypedAce.{TypedAce}
+use Rattle.sd_whole_text.specs.Data.{condition_in}
+use Rattle.sd_specialize.specs.Entry.{trustee}
+use Rattle.sd_specialize.specs.Marked.{is_deny, is_marker, marker}
+use Rattle.sd_commands.specs.WholeVerdict.{everyone_context}
+use Rattle.sd_commands.specs.declared.settings.Settings.{Settings}
+
+-- the condition's text, or its bytes where it has none
+abbrev pub condition_word : Option (List ℕ) → List ℕ → List ℕ
+condition_word (Some text) bytes = text
+condition_word None bytes = codes "an unknown condition " ++ encode_lower bytes
+
+-- an allow is for who has the SID where the condition is true, a deny where it isn't false ([MS-DTYP] 2.5.3.1.5)
+abbrev pub ending : Bool → List ℕ
+ending true = codes " isn't false"
+ending false = []
+
+abbrev pub condition_text : Settings → TypedAce → List ℕ
+condition_text settings e = ((full_canon (trustee (everyone_context settings) e.sid) ++ codes " if ")
+    ++ condition_word (condition_in e.trailing) e.trailing) ++ ending (is_deny e.kind)
+
+-- what stands in the place of a SID that is one of their markers, from this number on
+abbrev pub text_from : Settings → ℕ → List TypedAce → SidValue → Option (List ℕ)
+text_from settings n [] sid = None
+text_from settings n (e ∷ es) sid =
+    if same_sid (marker n) sid then Some (condition_text settings e) else text_from settings (n + 1) es sid
+
+-- ---- in a line
+
+abbrev pub Texts : Type 0
+Texts = SidValue → Option (List ℕ)
+
+abbrev pub sid_word : SidValue → Option (List ℕ) → List ℕ
+sid_word sid None = full_canon sid
+sid_word sid (Some text) = text
+
+abbrev pub shown_sid : Texts → SidValue × SidMark → List ℕ
+shown_sid texts one = sid_word one.0 (texts one.0) ++ mark_text one.1
+
+abbrev pub sid_value : SidValue → Option (List ℕ) → Value
+sid_value sid None = values.Sid sid
+sid_value sid (Some text) = values.Text text
+
+abbrev pub has_marker : List (SidValue × SidMark) → Bool
+has_marker sids = list_any (λ (one : SidValue × SidMark). is_marker one.0) sids
+
+abbrev pub sids_value : Texts → List (SidValue × SidMark) → Value
+sids_value texts sids = if has_marker sids then values.Words (map (shown_sid texts) sids) else values.Sids sids
+
+abbrev pub shown_value : Texts → Value → Value
+shown_value texts (values.Sid sid) = sid_value sid (texts sid)
+shown_value texts (values.Sids sids) = sids_value texts sids
+shown_value texts value = value
+
+abbrev pub shown_part : Texts → PartOf → PartOf
+shown_part texts p = part_of p.form (map (shown_value texts) p.values)
+
+abbrev pub shown_line : Texts → LineOf → LineOf
+shown_line texts l = line_with l.kind (map (shown_part texts) l.parts)
+
+-- without conditions lines stand as they are
+abbrev pub shown_by : Settings → List TypedAce → List LineOf → List LineOf
+shown_by settings [] lines = lines
+shown_by settings (m ∷ marks) lines = map (shown_line (text_from settings 0 (m ∷ marks))) lines
+
+-- ---- a base
+
+-- a SID of it is a marker, which no token has
+abbrev pub hides : List TypedAce → List (SidValue × GroupState) → Bool
+hides [] base = false
+hides (m ∷ marks) base = list_any (λ (group : SidValue × GroupState). is_marker group.0) base
