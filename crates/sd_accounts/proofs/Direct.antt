@@ -12,7 +12,7 @@ use Rattle.sd_accounts.specs.Row.{AccountRow, User, Group, Member, Primary, Disa
 pub nothing_in : {A : Type 0} (x : A) → Contains [] x → ⊥
 nothing_in x (k, low, at) = omega arith
 
-only_one : {A : Type 0} (x y : A) → Contains (x ∷ []) y → x ≡ y
+pub only_one : {A : Type 0} (x y : A) → Contains (x ∷ []) y → x ≡ y
 only_one x y h = elim (Contains-push_cases [] x y h) [ inl none ↦ absurd (nothing_in y none) | inr same ↦ same ]
 
 chosen : (test : Bool) (m n g h : SidValue) → (test ≡ true → m ≡ n) → (if test then Some g else None) ≡ Some h → (m ≡ n) × (g ≡ h)

@@ -10,3 +10,4 @@ pub mod Found
 pub mod LawsHold
 pub mod Disabled
 pub mod Logging
+pub mod Searched

@@ -69,11 +69,11 @@ inserted old new one is = by (list_any (sid_eq one) old) refl
 
 -- ---- one more of a list
 
-more_to : {A : Type 0} (xs : List A) (i : ℕ) (d x : A) → i < length xs → Contains (take i xs) x ⊎ (get_or xs i d ≡ x) → Contains (take (i + 1) xs) x
+pub more_to : {A : Type 0} (xs : List A) (i : ℕ) (d x : A) → i < length xs → Contains (take i xs) x ⊎ (get_or xs i d ≡ x) → Contains (take (i + 1) xs) x
 more_to xs i d x low (inl at) = subst (λ l. Contains l x) (sym (take_more xs i d low)) (Contains-append_left (take i xs) _ x at)
 more_to xs i d x low (inr is) = subst (λ l. Contains l x) (sym (take_more xs i d low)) (subst (Contains (take i xs ++ get_or xs i d ∷ [])) is (Contains-push (take i xs) (get_or xs i d)))
 
-more_from : {A : Type 0} (xs : List A) (i : ℕ) (d x : A) → i < length xs → Contains (take (i + 1) xs) x → Contains (take i xs) x ⊎ (get_or xs i d ≡ x)
+pub more_from : {A : Type 0} (xs : List A) (i : ℕ) (d x : A) → i < length xs → Contains (take (i + 1) xs) x → Contains (take i xs) x ⊎ (get_or xs i d ≡ x)
 more_from xs i d x low at = Contains-push_cases (take i xs) (get_or xs i d) x (subst (λ l. Contains l x) (take_more xs i d low) at)
 
 -- the groups so far, and one more

@@ -11,3 +11,5 @@ pub mod Lines
 pub mod Found
 pub mod Laws
 pub mod Users
+pub mod Wanted
+pub mod Search

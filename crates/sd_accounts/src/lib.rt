@@ -2,7 +2,8 @@
 //!
 //! An accounts file has a row a line. Its rows give users and groups names, say who is a member of which group, which
 //! group is a user's primary group, and which account is disabled. It is parsed once; the questions are then answered
-//! from memory, the groups of a user and the way to one of them by a walk over an index of the direct memberships.
+//! from memory, the groups of a user and the way to one of them by a walk over an index of the direct memberships. A
+//! `Search` says of many users, one after another, whether each has one of the wanted SIDs.
 //!
 //! ```text
 //! let accounts = Accounts::read(alloc, text)?;
@@ -22,6 +23,8 @@ mod names;
 mod naming;
 mod read;
 mod row;
+mod search;
+mod searching;
 #[cfg(test)]
 mod tests;
 mod users;
@@ -32,3 +35,4 @@ pub use accounts::Accounts;
 pub use fault::{AccountsError, AccountsFault};
 pub use laws::{one_belongs_by_a_way, order_of_rows_does_not_matter, rows_have_no_fault};
 pub use names::NameError;
+pub use search::Search;
