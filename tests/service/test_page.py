@@ -1,4 +1,4 @@
-"""docs/SERVICE.md from an installation to a replicated, monitored service: the commands of the page, as they are there.
+"""docs/SERVICE.md from two installations to a replicated, monitored service: the commands of the page, as they are there.
 
 What a machine is to each of the two is a folder here: paths, addresses and the user are replaced in the commands, and
 systemctl and runuser by what they would start."""
@@ -43,17 +43,16 @@ class Machine:
 
     def __init__(self, room: Path, name: str, leader_port: int) -> None:
         self.room, self.watch, self._leader_port = room / name, rig.free_port(), leader_port
-        for each in ("", "doc", "run"):
+        for each in ("", "etc", "lib", "run"):
             (self.room / each).mkdir()
         sample = self.here((rig.SERVICE / "sdstored.toml").read_text())
-        (self.room / "doc/sdstored.toml").write_text(sample.replace("uid:0", f"uid:{os.getuid()}"))
+        (self.room / "etc/sdstored.toml").write_text(sample.replace("uid:0", f"uid:{os.getuid()}"))
 
     def here(self, text: str) -> str:
         """The text with what this machine has."""
         for one, other in (
-            ("/usr/local/share/doc/hudarin/examples", f"{self.room}/doc"),
             ("/etc/sdstored", f"{self.room}/etc"), ("/var/lib/sdstored", f"{self.room}/lib"),
-            ("/run/sdstored", f"{self.room}/run"), (" -o sdstored", ""),
+            ("/run/sdstored", f"{self.room}/run"),
             ("192.0.2.1", "127.0.0.1"), (":7390", f":{self.watch}"), (":7391", f":{self._leader_port}"),
         ):
             text = text.replace(one, other)
@@ -93,25 +92,22 @@ class Page(rig.Case):
             os.kill(int(number), 9)
 
     def test_a_replicated_monitored_service(self) -> None:
-        folders, certificates, leads, follows, copies = blocks("bash")
+        certificates, leads, follows = blocks("bash")
         port = rig.free_port()
         leader, replica = (Machine(self.room, name, port) for name in ("leader", "replica"))
-        for machine in (leader, replica):
-            machine.run(folders)
         leader.run(certificates)
         for machine, name in ((leader, "leader"), (replica, "replica")):
             for file in (f"{name}.pem", f"{name}.key", "authority.pem"):
                 shutil.copy(self.room / file, machine.room / "etc")
         (self.room / "dump.txt").write_text(rig.DUMP)
-        first, ready, said = leader.run(leads).split("\n")
-        self.assertEqual((first, ready), ("published 0", "ready"))
-        self.assertEqual([each["answer"] for each in json.loads(said)["answers"]], ["ok", "published 1"])
+        self.assertEqual(leader.run(leads), "published 0\nready\n")
+        edit = {"edit": "addo", "path": "/report", "descriptor": "O:BAG:SYD:"}
+        leader.asked("/v1/edit", {"edits": [edit], "publish": True})
         self.assertIn(replica.run(follows), ("ready\n", "not ready\n"))
         self.wait_until(lambda: replica.run("curl -s http://127.0.0.1:7390/readyz") == "ready\n")
         for machine in (leader, replica):
             self.assertEqual(machine.asked("/v1/show", {"path": "/report"})["descriptor"],
                              "O:BAG:SYD:AI(A;ID;FR;;;BU)")
-        self.assertEqual(leader.run(copies), "epoch 1, line 2, published 1\n")
         self.watch([leader, replica])
 
     def wait_until(self, is_so: Callable[[], bool]) -> None:
