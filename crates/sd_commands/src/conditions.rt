@@ -2,7 +2,8 @@
 ghost use Rattle.std.specs.Prelude.{◌≡◌, IfOk, map, option_map, string_bytes};
 ghost use Rattle.std.specs.List.{list_any};
 ghost use Rattle.sd_commands.specs.Conditions.{condition_text, condition_word, ending, has_marker, hides, shown_by};
-ghost use Rattle.sd_commands.specs.Conditions.{shown_line, shown_part, shown_sid, shown_value, sid_value, sids_value, text_from};
+ghost use Rattle.sd_commands.specs.Conditions.{shown_line, shown_part, shown_sid, shown_value, sid_value, sids_value};
+ghost use Rattle.sd_commands.specs.Conditions.{text_from};
 ghost use Rattle.sd_commands.specs.WholeVerdict.{everyone_context};
 ghost use Rattle.sd_specialize.specs.Entry.{trustee};
 ghost use Rattle.sd_specialize.specs.Marked.{is_marker, lent_marks};

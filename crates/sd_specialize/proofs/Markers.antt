@@ -90,7 +90,7 @@ module _ (test : TypedAce → Bool) where
           | inr fails ↦ rw (here, fails, none_below n (n + 1) marks (omega arith), alike e m is) (sym fails)
         ]
 
-    -- that of another one is among the rest
+    -- the marker of another one is among the rest
     its_number : same_mark e m ≡ false → k ≡ (n + 1) + mark_place marks e
     its_number isnt = is_number ∙ ap (λ b. n + cond (not b) (1 + mark_place marks e) 0) isnt ∙ omega arith
 

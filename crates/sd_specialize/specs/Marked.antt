@@ -146,7 +146,7 @@ stands c t e = stands_for t (decision_of e) (trustee c e.sid) && lets_apply c e
 abbrev pub restricts : ContextValue → TokenValue → TypedAce → Bool
 restricts c t e = is_restricting t (trustee c e.sid) && lets_apply c e
 
--- those of the markers, from this number on, whose entries pass the test
+-- the markers, from this number on, whose entries pass the test
 abbrev pub markers_where : (TypedAce → Bool) → ℕ → List TypedAce → List SidValue
 markers_where test n [] = []
 markers_where test n (e ∷ es) =

@@ -187,7 +187,8 @@ pub(crate) fn marked_entry(
     marks: Marks<'_>,
     entry: &WholeAce,
 ) -> Result<Ace, EntryError>
-    ensures { GivesEntry result (marked_entry (context_of marks.entry.context.now) (lent_marks marks.entry.marks.now) entry.now) }
+    ensures { GivesEntry result
+        (marked_entry (context_of marks.entry.context.now) (lent_marks marks.entry.marks.now) entry.now) }
 {
     match conditional_in(entry) {
         Some(ace) => Ok(marked_for(marks, ace)),

@@ -29,8 +29,8 @@ returns c =
       subst (λ depends. IsTold (types_note settings depends) first inner) c.who_has_types-depends.ensures c.in_ok-answer-2.ensures,
       subst (λ lines. AnswersWho settings (conditionals plain.whole.dacl) lines arguments (descriptor_of plain.descriptor) first) left_out
           (subst (λ marks. AnswersWho settings marks c.in_ok-left_out.left_out.items arguments (descriptor_of plain.descriptor) first) c.in_ok-marks.ensures
-      (subst (λ marks. AnswersWho settings (lent_marks marks) c.in_ok-left_out.left_out.items arguments (descriptor_of plain.descriptor) first)
-      c.deref.ensures.value c.in_ok-answer.ensures)),
+          (subst (λ marks. AnswersWho settings (lent_marks marks) c.in_ok-left_out.left_out.items arguments (descriptor_of plain.descriptor) first)
+          c.deref.ensures.value c.in_ok-answer.ensures)),
     )
     (subst (λ is_there. IsTold (sacl_note (codes "SDDL") all_left_out is_there) inner (answer_of noted)) c.has_sacl.ensures told))
     c.note_left_out_sacl.ensures
