@@ -62,6 +62,8 @@ def _sum_up(arguments: argparse.Namespace, counts: Counts, table: Table) -> None
         f"{counts.differing:,} differing",
         f"{plural(counts.sacls, 'SACL')} kept",
     ]
+    if counts.linked:
+        said.append(f"{counts.linked:,} further names of files")
     if counts.unlisted:
         said.append(f"{plural(counts.unlisted, 'folder')} not listed")
     table.end("read", ", ".join(said), {"source": arguments.source, **dataclasses.asdict(counts)})

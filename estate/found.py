@@ -18,3 +18,5 @@ class Found:
     why: str | None = None
     #: Why what is in the folder couldn't be listed, or None.
     unlisted: str | None = None
+    #: Of a file that was found by another path before: that path.
+    first_name: Path | None = None

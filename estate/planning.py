@@ -11,7 +11,7 @@ from paths import Path, spelled
 from script import Change, Script, chain_of
 from sddl import Parts, parts_of
 from table import Table
-from volumes import Volume, text_of
+from volumes import FOLDERS, Volume, text_of
 
 
 @dataclass(frozen=True, slots=True)
@@ -134,7 +134,7 @@ class Plan:
                 chains = chains or self._chains_of(change.path)
                 self._plan_file(path, change, chains)
             else:
-                self._leave(path, "it has no line in the script", kind == "folder")
+                self._leave(path, "it has no line in the script", kind in FOLDERS)
 
     def _chains_of(self, path: Path) -> tuple[Chain, Chain]:
         return chain_of(self.script.before, path), chain_of(self.script.after, path)

@@ -27,6 +27,8 @@ class Counts:
     differing: int = 0
     left_out: int = 0
     sacls: int = 0
+    #: Further names of files.
+    linked: int = 0
     #: Folders whose content couldn't be listed.
     unlisted: int = 0
     lines: int = 0
@@ -90,6 +92,9 @@ class Reading:
     # Each node
 
     def _visit(self, found: Found) -> None:
+        if found.first_name is not None:
+            self.counts.linked += 1
+            self.table.row("linked", {"path": spelled(found.path), "first": spelled(found.first_name)})
         if found.unlisted is not None:
             self.counts.unlisted += 1
             self._say(Gap("unlisted", found.path, found.unlisted))

@@ -1,6 +1,7 @@
 """Mounted volumes and shares. Nodes are reached by file descriptors of their folders, so that no link that somebody
 puts in the way is followed, and no path is too long for Linux."""
 
+import dataclasses
 import errno
 import os
 from collections.abc import Callable, Iterator
@@ -13,12 +14,16 @@ from forms import Attribute, kept_in
 from found import Found
 from others import Kept
 from paths import MAX_NAMES, Path, spelled
+from reparse import is_closed_folder
 
 _FOLDER = os.O_RDONLY | os.O_DIRECTORY | os.O_NOFOLLOW | os.O_CLOEXEC
 #: So many attributes are kept with their descriptors: nodes of a volume have few different ones.
 _KEPT = 65_536
-#: What a node is whose descriptor is read; other nodes are skipped for what they are.
-_IS_FOLDER, _IS_FILE = "folder", "file"
+#: What a node is whose descriptor is read; other nodes are skipped for what they are. Of a closed folder nobody knows
+#: what is in it.
+_IS_FOLDER, _IS_FILE, _IS_CLOSED = "folder", "file", "closed folder"
+#: What has a node's descriptor, and may pass some of it down.
+FOLDERS = (_IS_FOLDER, _IS_CLOSED)
 
 
 def text_of(error: OSError) -> str:
@@ -52,6 +57,8 @@ class Volume:
             os.close(self._root)
             raise
         self._answers: dict[bytes, Kept | str] = {}
+        #: The first path of each file that may have several names.
+        self._names: dict[int, Path] = {}
 
     def __enter__(self) -> "Volume":
         return self
@@ -131,9 +138,23 @@ class Volume:
 
     def _leaf_in(self, level: _Level, name: bytes, kind: str) -> Found:
         path = (*level.path, name)
+        if kind == _IS_CLOSED:
+            why = "a reparse point hides what is in it"
+            return self._found(path, True, lambda: self._read(level.folder, name), why)
         if kind != _IS_FILE:
             return Found(path, False, None, kind)
-        return self._found(path, False, lambda: self._read(level.folder, name))
+        found = self._found(path, False, lambda: self._read(level.folder, name))
+        first = self._first_name_of(path, attributes.in_folder(level.folder, name))
+        return found if first is None else dataclasses.replace(found, first_name=first)
+
+    def _first_name_of(self, path: Path, at: bytes) -> Path | None:
+        """The path by which a file was found before, if it has several names."""
+        try:
+            status = os.stat(at, follow_symlinks=False)
+        except OSError:
+            return None
+        first = self._names.setdefault(status.st_ino, path) if status.st_nlink > 1 else path
+        return None if first == path else first
 
     def _found(self, path: Path, is_container: bool, read: Callable[[], bytes], unlisted: str | None = None) -> Found:
         try:
@@ -169,7 +190,7 @@ class Volume:
             raise Failed(f"{self.name}: the volume disappeared at {spelled(path)}: {text_of(gone)}") from error
 
     def names_in(self, path: Path) -> list[tuple[bytes, str]]:
-        """The names in a folder, each with what it is, "folder", "file" or something else; or an OSError."""
+        """The names in a folder, each with what it is: one of FOLDERS, "file" or something else; or an OSError."""
         with self._opened(path) as folder:
             return _names_in(folder)
 
@@ -215,12 +236,13 @@ class Node:
 
 def _names_in(folder: int) -> list[tuple[bytes, str]]:
     with os.scandir(folder) as entries:
-        return sorted((os.fsencode(entry.name), _kind_of(entry)) for entry in entries)
+        return sorted((os.fsencode(entry.name), _kind_of(folder, entry)) for entry in entries)
 
 
-def _kind_of(entry: "os.DirEntry[str]") -> str:
+def _kind_of(folder: int, entry: "os.DirEntry[str]") -> str:
     if entry.is_symlink():
-        return "a link"
+        is_closed = is_closed_folder(attributes.in_folder(folder, os.fsencode(entry.name)))
+        return {None: "a link", True: _IS_CLOSED, False: _IS_FILE}[is_closed]
     if entry.is_dir(follow_symlinks=False):
         return _IS_FOLDER
     return _IS_FILE if entry.is_file(follow_symlinks=False) else "neither a folder nor a file"

@@ -2,13 +2,27 @@
 have comes from a second implementation of the rules."""
 
 import os
+import struct
 import subprocess
 
 import second
-from rig import Case, Names, Ntfs, by_sdstore, fill, needs_program, node_form, others_in, read_form
-from trees import BG, BU, SY, WD, Planted, allow, deny, planted
+from rig import PRESENT, PROTECTED, Case, Names, Ntfs, acl_bytes, by_sdstore, entry_bytes, fill, form, needs_program
+from rig import node_form, others_in, read_form, sid_bytes
+from trees import BA, BG, BU, SY, WD, Planted, allow, deny, planted
 
 NODES = 5000
+
+
+def reparse_data(substitute: str, printed: str, *flags: int) -> bytes:
+    """The data of a link or of a mount point ([MS-FSCC] 2.1.2.4, 2.1.2.5)."""
+    names = [name.encode("utf-16-le") + b"\0\0" for name in (substitute, printed)]
+    places = (0, len(names[0]) - 2, len(names[0]), len(names[1]) - 2)
+    return struct.pack(f"<4H{len(flags)}I", *places, *flags) + b"".join(names)
+
+
+#: Of a file in a cloud.
+CLOUD = 0x9000001A
+LINK, MOUNT_POINT = reparse_data("wof", "wof", 1), reparse_data("\\??\\C:\\x", "C:\\x")
 
 
 def spelled(path: Names) -> str:
@@ -191,3 +205,45 @@ class NotRead(Volumes):
         rows = imports(script)
         self.assertEqual({path for path in rows if "/d" not in path}, {"/", "/folder"})
         self.assertEqual(max(path.count("/") for path in rows), 64)
+
+    def test_reparse_points(self) -> None:
+        """What ntfs-3g shows as a link is read and written, unless it is one. Of a folder nothing in it is shown."""
+        for name, tag, data in (("cloud", CLOUD, bytes(8)), ("link", 0xA000000C, LINK), ("wof", 0x80000017, bytes(8))):
+            self.volume.folder.joinpath(name).touch()
+            self.reparse((name,), tag, data)
+        os.mkdir(self.volume.at(("mounted",)))
+        self.reparse(("mounted",), 0xA0000003, MOUNT_POINT)
+        os.mkdir(self.volume.at(("online",)))
+        self.reparse(("online",), CLOUD, bytes(8))
+        self.volume.unmount()
+        self.volume.mount()
+        blob = form(sid_bytes(BA), sid_bytes(SY), acl_bytes([entry_bytes(allow(WD, 1, 0))]), PRESENT | PROTECTED)
+        for name in ("cloud", "online", "wof"):
+            self.volume.put((name,), blob)
+        script, table = self.read("script", says="2 skipped")
+        why = "a reparse point hides what is in it"
+        self.assertEqual({path: cells[:3] for path, cells in table.items()}, {
+            "/link": ["skipped", "/link", "a link"],
+            "/mounted": ["skipped", "/mounted", "a link"],
+            "/online": ["unlisted", "/online", why],
+        })  # fmt: skip
+        kinds = {path: kind for path, (kind, _) in imports(script).items() if path != "/"}
+        self.assertEqual(kinds, {"/cloud": "object", "/online": "container", "/wof": "object"})
+        self.write("changed", script + "dacl /wof D:P(A;;FR;;;SY)\ndacl /cloud D:P(A;;FR;;;SY)\npublish\n")
+        self.runs(0, "write", "changed", self.volume.folder, says="2 nodes written")
+        self.assertEqual(read_form(self.volume.get(("wof",)))[0], "O:BAG:SYD:P(A;;FR;;;SY)")
+        self.runs(0, "undo", "changed.journal")
+        self.assertEqual(read_form(self.volume.get(("wof",)))[0], read_form(blob)[0])
+
+    def reparse(self, path: Names, tag: int, data: bytes) -> None:
+        os.setxattr(self.volume.at(path), "system.ntfs_reparse_data", struct.pack("<IHH", tag, len(data), 0) + data)
+
+    def test_names_of_one_file(self) -> None:
+        """Each further one has a row, and the descriptor of the file."""
+        self.volume.folder.joinpath("a").touch()
+        os.mkdir(self.volume.at(("d",)))
+        for name in ("b", "d/c"):
+            os.link(self.volume.at(("a",)), self.volume.folder / name)
+        self.volume.folder.joinpath("alone").touch()
+        lines = self.runs(0, "read", self.volume.folder, "script", says="2 further names of files")
+        self.assertEqual([line for line in lines if line.startswith("linked")], ["linked\t/b\t/a", "linked\t/d/c\t/a"])
