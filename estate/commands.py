@@ -14,7 +14,7 @@ import people as people_of
 import questions
 from errors import Invalid, Stopped
 from forms import Attribute
-from gaps import Gap, summed_up
+from gaps import Coverage
 from journal import Journal, Step, locked_journal, write_journal
 from matrix import Matrix
 from names import read_names
@@ -106,8 +106,8 @@ def plan(arguments: argparse.Namespace, table: Table) -> int:
         for change in script.changes():
             count += 1
             table.row("change", {"path": spelled(change.path), "before": change.before, "after": change.after})
-        gaps = script.gaps_of_changes(())
-    return _answered(table, "planned", f"{plural(count, 'node')} of the script would change", {"nodes": count}, gaps)
+        about = Coverage(count, script.gaps_of_changes(()))
+    return _answered(table, "planned", f"{plural(count, 'node')} of the script would change", {"nodes": count}, about)
 
 
 def _planned(script: Script, volume: Volume, arguments: argparse.Namespace, table: Table) -> Plan:
@@ -171,23 +171,22 @@ def _by_journal(
 
 
 def _answered(
-    table: Table, what: str, text: str, cells: dict[str, Cell], gaps: list[Gap], status: int = 0
+    table: Table, what: str, text: str, cells: dict[str, Cell], about: Coverage, status: int = 0
 ) -> int:
-    """The end of an answer about a script's tree, with a row for each node of the source that it isn't about, and the
+    """The end of an answer: a row for each node of the source that it isn't about, how many nodes it is about, and the
     status."""
-    for gap in gaps:
+    for gap in about.gaps:
         table.row(gap.what, gap.cells)
-    left_out = f"; left out: {summed_up(gaps)}" if gaps else ""
-    table.end(what, text + left_out, cells | {"left_out": len(gaps)})
-    return LEFT_OUT if gaps else status
+    table.end(what, f"{text}; {about.text}", cells | about.cells)
+    return LEFT_OUT if about.gaps else status
 
 
 def lint(arguments: argparse.Namespace, table: Table) -> int:
     """Findings about the lists of a script's nodes."""
     with read_script(arguments.script) as script:
         count = questions.lint(script, table)
-        gaps = script.gaps_below(())
-    return _answered(table, "linted", plural(count, "finding"), {"findings": count}, gaps, 1 if count else 0)
+        about = script.covered(())
+    return _answered(table, "linted", plural(count, "finding"), {"findings": count}, about, 1 if count else 0)
 
 
 def who(arguments: argparse.Namespace, table: Table) -> int:
@@ -197,9 +196,9 @@ def who(arguments: argparse.Namespace, table: Table) -> int:
         assumed = questions.assumed_groups(arguments.words, arguments.only_given, table)
         count = questions.who(script, arguments.path, [arguments.mask, *arguments.words, *assumed], table)
         users = None if people is None else people_of.who(script, path, arguments.mask, people, table)
-        gaps = script.gaps_at(path)
+        about = Coverage(1, script.gaps_at(path))
     text = f"{plural(count, 'line')}{_of_users(users)}"
-    return _answered(table, "answered", text, _cells(users, lines=count), gaps)
+    return _answered(table, "answered", text, _cells(users, lines=count), about)
 
 
 def _people(arguments: argparse.Namespace, words: list[str]) -> AbstractContextManager[People | None]:
@@ -234,9 +233,9 @@ def _asking(arguments: argparse.Namespace, table: Table) -> list[str]:
 def find(arguments: argparse.Namespace, table: Table) -> int:
     """The nodes that grant a user rights."""
     with read_script(arguments.script) as script:
-        gaps = script.gaps_below(questions.node_of(script, arguments.path))
+        about = script.covered(questions.node_of(script, arguments.path))
         count = questions.find(script, arguments.path, _asking(arguments, table), table)
-    return _answered(table, "found", plural(count, "node"), {"nodes": count}, gaps)
+    return _answered(table, "found", plural(count, "node"), {"nodes": count}, about)
 
 
 def why(arguments: argparse.Namespace, table: Table) -> int:
@@ -245,18 +244,19 @@ def why(arguments: argparse.Namespace, table: Table) -> int:
         text = questions.text_on(volume, arguments.path)
     is_granted = questions.why(text, arguments.path, _asking(arguments, table), table)
     text = "granted" if is_granted else "denied"
-    return _answered(table, "answered", text, {"granted": int(is_granted)}, [], 0 if is_granted else 1)
+    return _answered(table, "answered", text, {"granted": int(is_granted)}, Coverage(1, []), 0 if is_granted else 1)
 
 
 def review(arguments: argparse.Namespace, table: Table) -> int:
     """What a script's changes grant and take away, of all possible users, and of those of a file of accounts."""
     with read_script(arguments.script) as script, _people(arguments, arguments.words) as people:
         path = questions.node_of(script, arguments.path)
-        gaps = script.gaps_of_changes(path)
+        changed = sum(change.path[: len(path)] == path for change in script.changes())
+        about = Coverage(changed, script.gaps_of_changes(path))
         count = questions.review(script, arguments.path, arguments.words, table)
         users = None if people is None else people_of.review(script, path, people, table)
     text = f"{plural(count, 'node')} where somebody gains or loses rights{_of_users(users)}"
-    return _answered(table, "reviewed", text, _cells(users, nodes=count), gaps, 1 if count or users else 0)
+    return _answered(table, "reviewed", text, _cells(users, nodes=count), about, 1 if count or users else 0)
 
 
 def report(arguments: argparse.Namespace, table: Table) -> int:
@@ -265,13 +265,15 @@ def report(arguments: argparse.Namespace, table: Table) -> int:
     names, title = read_names(arguments.names), arguments.title or arguments.script
     with read_script(arguments.script) as script, _people(arguments, []) as people:
         matrix = None if people is None else Matrix(script, people)
-        gaps = script.gaps_below(())
+        about = script.covered(())
         count = Report(script, names, matrix).write(arguments.file, title)
         text, cells = f"{plural(count, 'node')} in {arguments.file}", _cells(None, nodes=count)
         if matrix is not None and arguments.matrix is not None:
-            rows = matrix.write(arguments.matrix, gaps)
+            rows = matrix.write(arguments.matrix, about.gaps)
             text, cells = f"{text}, {plural(rows, 'node')} in {arguments.matrix}", cells | {"rows": rows}
-    return _answered(table, "written", text, cells, gaps if matrix is None else gaps + matrix.cut)
+    if matrix is not None:
+        about = Coverage(about.nodes, about.gaps + matrix.cut)
+    return _answered(table, "written", text, cells, about)
 
 
 def _check_files(arguments: argparse.Namespace) -> None:

@@ -1,7 +1,6 @@
 """Where the tree of a script isn't what its source has. `read` writes a comment for each such node, and an answer about
 the tree names those that its question is about."""
 
-from collections.abc import Iterable
 from dataclasses import dataclass
 
 from paths import Path, names_in, spelled
@@ -92,17 +91,52 @@ def count_in(comment: str) -> int | None:
     return int(count) if count != comment and count.isascii() and count.isdecimal() else None
 
 
-def summed_up(gaps: Iterable[Gap]) -> str:
-    """How many nodes these are, in words."""
-    counts: dict[str, int] = {}
-    for gap in gaps:
-        counts[gap.what] = counts.get(gap.what, 0) + gap.nodes
-    texts = {
-        "differs": f"{plural(counts.get('differs', 0), 'node')} that the source has otherwise",
-        "skipped": f"{plural(counts.get('skipped', 0), 'node')} that couldn't be read",
-        "unlisted": f"what is in {plural(counts.get('unlisted', 0), 'folder')}",
-        "files": f"{plural(counts.get('files', 0), 'file')} without a line",
-        "cut": f"{plural(counts.get('cut', 0), 'node')} of the table of users",
-        "unknown": "it isn't known which nodes",
-    }
-    return ", ".join(text for what, text in texts.items() if what in counts)
+@dataclass(frozen=True, slots=True)
+class Coverage:
+    """What an answer is about: how many of the script's nodes, and where the source has more or other ones."""
+
+    nodes: int
+    gaps: list[Gap]
+
+    @property
+    def of(self) -> int:
+        """How many nodes the source has there, as far as that is known."""
+        return self.nodes + self._count("skipped") + self._count("files")
+
+    @property
+    def answered(self) -> int:
+        """How many of them are as the source has them, for sure."""
+        return 0 if UNKNOWN in self.gaps else self.nodes - self._count("differs") - self._count("cut")
+
+    @property
+    def text(self) -> str:
+        """The end of what is said about an answer."""
+        whys = self._whys()
+        text = f"of {plural(self.of, 'node')} {self.answered:,} answered"
+        if not whys:
+            return f"{text}, none left out"
+        left = self.of - self.answered
+        return f"{text}; {f'{left:,} ' if left else ''}can't be: {', '.join(whys)}"
+
+    @property
+    def cells(self) -> dict[str, Cell]:
+        return {"of": self.of, "answered": self.answered, "left_out": len(self.gaps)}
+
+    def _count(self, what: str) -> int:
+        return sum(gap.nodes for gap in self.gaps if gap.what == what)
+
+    def _whys(self) -> list[str]:
+        """Why nodes are left out, each with their number."""
+        texts = {
+            "differs": "{count:,} that the source has otherwise",
+            "skipped": "{count:,} that couldn't be read",
+            "files": "{files} without a line",
+            "cut": "{count:,} of the table of users",
+            "unlisted": "what is in {folders}",
+            "unknown": "it isn't known which the source has otherwise",
+        }
+        counts = {what: self._count(what) for what in texts if any(gap.what == what for gap in self.gaps)}
+        return [
+            texts[what].format(count=count, files=plural(count, "file"), folders=plural(count, "folder"))
+            for what, count in counts.items()
+        ]

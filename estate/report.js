@@ -319,10 +319,9 @@ const gapOf = ([index, path, why]) => {
   return make("p", {}, link, `: ${why}`);
 };
 
-if (data.leftOut) {
+if (data.gaps.length) {
   const part = document.getElementById("left-out");
   part.hidden = false;
-  part.querySelector("summary").textContent = `This page leaves out: ${data.leftOut}`;
   addSome(part.querySelector("div"), data.gaps, gapOf, 0);
 }
 

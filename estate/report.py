@@ -11,7 +11,7 @@ from typing import Any
 
 from hudarin import Sid, mask
 
-from gaps import Gap, summed_up
+from gaps import Gap
 from matrix import Matrix
 from numbering import Numbers
 from paths import Path, spelled
@@ -47,17 +47,16 @@ class Report:
         folders = sum(node.is_container for node in self.script.nodes.values())
         counts = {"folder": folders, "file": len(nodes) - folders}
         said = [plural(count, what) for what, count in counts.items()]
-        gaps = self.script.gaps_below(())
+        about = self.script.covered(())
         changes = self._changes(numbers)
         data: dict[str, Any] = {
-            "sum": ", ".join(said),
+            "sum": f"{', '.join(said)}: {about.text}",
             "nodes": nodes,
             "lists": self._made,
             "accesses": list(self._accesses.numbers),
             "changed": sum(1 for _ in self.script.changes()),
             "changes": changes,
-            "leftOut": summed_up(gaps),
-            "gaps": [_gap(gap, numbers) for gap in gaps if gap.what != "files"],
+            "gaps": [_gap(gap, numbers) for gap in about.gaps if gap.what != "files"],
             "sids": self._named(),
         }
         if self.matrix is not None:

@@ -6,7 +6,7 @@ from dataclasses import dataclass, field
 from hudarin import Descriptor, Refused, Sid, Store, View, WholeEntry
 
 from errors import Failed, Invalid
-from gaps import UNKNOWN, Gap, count_in, gap_of
+from gaps import UNKNOWN, Coverage, Gap, count_in, gap_of
 from inheritance import Chain
 from others import FOR_CHILDREN, INHERITED, others_of, whole_of
 from paths import Path, parsed, spelled
@@ -105,6 +105,10 @@ class Script:
                 yield Change(path, node.is_container, node.text, node.whole, str(before), str(after))
 
     # What the source has otherwise
+
+    def covered(self, top: Path) -> Coverage:
+        """What an answer about the nodes at and below a path is about."""
+        return Coverage(sum(path[: len(top)] == top for path in self.nodes), self.gaps_below(top))
 
     def gaps_at(self, path: Path) -> list[Gap]:
         """What the source has otherwise of a node itself."""

@@ -166,7 +166,7 @@ class Untrusted(Case):
         lines = self.runs(0, "plan", "--json", "script", says="1 node")
         change = {"what": "change", "path": "/a", "before": "O:BAG:SYD:AI(A;ID;FA;;;BA)"}
         self.assertEqual(json.loads(lines[0]), change | {"after": "O:SYG:SYD:AI(A;ID;FA;;;BA)"})
-        self.assertEqual(json.loads(lines[1]), {"what": "planned", "nodes": 1, "left_out": 0})
+        self.assertEqual(json.loads(lines[1]), {"what": "planned", "nodes": 1, "of": 1, "answered": 1, "left_out": 0})
 
     def test_journals(self) -> None:
         """A journal that was cut or changed is refused, before any node is read."""

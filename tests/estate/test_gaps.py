@@ -16,7 +16,8 @@ from trees import BA, FULL, SY, WD, allow
 from second import ID
 
 USER = "S-1-5-21-1-2-3-1001"
-EVERYONE = "O:BAG:SYD:AI(A;ID;FA;;;WD)"
+#: Its own entries aren't in a tree's order, and it inherited otherwise than its folder passes down.
+EVERYONE = "O:BAG:SYD:AI(A;;FR;;;BU)(D;;0x1;;;BG)(A;ID;FA;;;WD)"
 #: An alias of a domain, which isn't known.
 UNKNOWN = "O:BAG:SYD:(A;;FA;;;DA)"
 #: A file that was moved here, a folder whose descriptor isn't supported, and a file in it.
@@ -29,7 +30,9 @@ ROWS = (
     ("C:\\s\\d", FILE),
 )
 MOVED = "differs\t/a/moved\tit inherits otherwise than its folder passes down"
-SUM = "left out: 1 node that the source has otherwise, 2 nodes that couldn't be read"
+SUM = "of 6 nodes 3 answered; 3 can't be: 1 that the source has otherwise, 2 that couldn't be read"
+ONE = "of 1 node 0 answered; 1 can't be: 1 that the source has otherwise"
+NONE = "of {} answered, none left out"
 ASSUMED = "assumed\tS-1-1-0 S-1-5-11"
 
 
@@ -54,24 +57,25 @@ class Answers(Sources):
         """At and below the path that is asked about: elsewhere the status is 0."""
         rows = self.runs(4, "find", "script", "/", USER, "0x2", says=f"0 nodes; {SUM}")
         self.assertEqual(rows, [ASSUMED, MOVED, self.skipped])
-        rows = self.runs(4, "find", "script", "/a", USER, "0x2", says="left out: 1 node that the source has otherwise")
+        says = "0 nodes; of 2 nodes 1 answered; 1 can't be: 1 that the source has otherwise"
+        rows = self.runs(4, "find", "script", "/a", USER, "0x2", says=says)
         self.assertEqual(rows, [ASSUMED, MOVED])
-        self.assertEqual(self.runs(0, "find", "script", "/d", USER, "0x2"), [ASSUMED])
+        self.assertEqual(self.runs(0, "find", "script", "/d", USER, "0x2", says=NONE.format("1 node 1")), [ASSUMED])
         self.runs(2, "find", "script", "/b/c", USER, "0x2", says="no such node: its descriptor isn't supported")
         last = self.runs(4, "find", "--json", "script", "/", USER, "0x2")[-1]
-        self.assertEqual(json.loads(last), {"what": "found", "nodes": 0, "left_out": 2})
+        self.assertEqual(json.loads(last), {"what": "found", "nodes": 0, "of": 6, "answered": 3, "left_out": 2})
 
     def test_who(self) -> None:
-        rows = self.runs(4, "who", "script", "/a/moved", "0x2", says="1 line; left out: 1 node")
+        rows = self.runs(4, "who", "script", "/a/moved", "0x2", says=f"1 line; {ONE}")
         self.assertEqual(rows, [ASSUMED, "who\t/a/moved\t0x2\tS-1-5-32-544", MOVED])
-        self.runs(0, "who", "script", "/a", "0x2", says="1 line")
+        self.runs(0, "who", "script", "/a", "0x2", says=f"1 line; {NONE.format('1 node 1')}")
 
     def test_lint_and_the_report(self) -> None:
         """A finding doesn't hide that nodes are left out: the status is 4 all the same."""
         self.assertEqual(self.runs(4, "lint", "script", says=f"0 findings; {SUM}"), [MOVED, self.skipped])
         self.assertEqual(self.runs(4, "report", "script", "page", says=SUM), [MOVED, self.skipped])
         data = json.loads((self.room / "page").read_text().partition('application/json">')[2].partition("<")[0])
-        self.assertEqual(data["leftOut"], SUM.removeprefix("left out: "))
+        self.assertEqual(data["sum"], f"2 folders, 2 files: {SUM}")
         self.assertEqual([gap[:2] for gap in data["gaps"]], [[2, "/a/moved"], [-1, "/b"]])
         self.assertIn("not read, and 1 node below: its descriptor isn't supported", data["gaps"][1][2])
         self.assertEqual([node[8] for node in data["nodes"]], ["", "", MOVED.split("\t")[2], ""])
@@ -84,14 +88,17 @@ class Answers(Sources):
     def test_review_and_plan(self) -> None:
         """Of nodes that change, or whose folder passes down other entries; a change elsewhere leaves nothing out."""
         self.write("elsewhere", self.script + "dacl /d D:P\npublish\n")
-        self.runs(1, "review", "elsewhere", says="1 node where somebody gains or loses rights")
-        self.runs(0, "plan", "elsewhere")
+        none = NONE.format("1 node 1")
+        self.runs(1, "review", "elsewhere", says=f"1 node where somebody gains or loses rights; {none}")
+        self.runs(0, "plan", "elsewhere", says=none)
         self.write("changed", self.script + "dacl / D:P(A;OICI;FR;;;BA)\npublish\n")
         self.assertEqual(self.runs(4, "review", "changed", says=SUM)[-2:], [MOVED, self.skipped])
         self.assertEqual(self.runs(4, "plan", "changed", says=SUM)[-2:], [MOVED, self.skipped])
         self.assertEqual(self.runs(4, "review", "changed", "/a")[-1:], [MOVED])
-        self.write("same", self.script + "dacl /a/moved D:P(A;;FA;;;BA)\npublish\n")
-        self.assertEqual(self.runs(4, "review", "same", says="0 nodes where"), [MOVED])
+        same = "dacl /a/moved D:P(D;;0x1;;;BG)(A;;FR;;;BU)(A;;FA;;;BA)\npublish\n"
+        self.write("same", self.script + same)
+        rows = self.runs(4, "review", "same", says=f"0 nodes where somebody gains or loses rights; {ONE}")
+        self.assertEqual(rows, [MOVED])
 
     def test_a_script_that_lost_its_comments(self) -> None:
         """It doesn't pass for one that leaves nothing out."""
@@ -99,7 +106,7 @@ class Answers(Sources):
         for text in (whole, self.script.replace(f"# {self.skipped}\n", ""), self.script.replace("# rows\t2\n", "")):
             self.write("lost", text)
             for words in (("find", "lost", "/d", USER, "0x2"), ("who", "lost", "/d", "0x2"), ("lint", "lost")):
-                rows = self.runs(4, *words, says="it isn't known which nodes")
+                rows = self.runs(4, *words, says="it isn't known which")
                 self.assertIn("unknown\t/\tthe script doesn't say where its source has more or other nodes", rows[-1])
             self.runs(4, "review", "lost")
 
@@ -112,10 +119,12 @@ class Parts(Sources):
         file = "O:BAG:SYD:AI(A;ID;FA;;;BA)(A;ID;FA;;;WD)"
         script = self.read(("C:\\s", folder), ("C:\\s\\f", file), words=("--folders",))
         self.assertIn("# files\t/\t1\n# rows\t1\npublish\n", script)
-        rows = self.runs(4, "find", "script", "/", USER, "0x2", says="0 nodes; left out: 1 file without a line")
+        says = "0 nodes; of 2 nodes 1 answered; 1 can't be: 1 file without a line"
+        rows = self.runs(4, "find", "script", "/", USER, "0x2", says=says)
         self.assertEqual(rows, [ASSUMED, "files\t/\t1"])
         self.write("changed", script + "dacl / D:P(A;OICI;FA;;;BA)\npublish\n")
-        rows = self.runs(4, "review", "changed", says="0 nodes where somebody gains or loses rights; left out: 1 file")
+        says = "0 nodes where somebody gains or loses rights; of 2 nodes 1 answered; 1 can't be: 1 file without a line"
+        rows = self.runs(4, "review", "changed", says=says)
         self.assertEqual(rows, ["files\t/\t1"])
 
     def test_a_null_list_with_flags(self) -> None:
@@ -134,7 +143,8 @@ class Parts(Sources):
         head = "open 1 O:BAG:SYD:P(A;OICI;FA;;;BA)\nimport container /a O:BAG:SYD:(A;OICIID;FA;;;BA)\n"
         row = "unlisted\t/a\tit can't be listed: Input/output error"
         self.write("script", f"{head}# {row}\n# rows\t1\npublish\n")
-        self.assertEqual(self.runs(4, "find", "script", "/a", "BA", "FA", says="what is in 1 folder")[-1], row)
+        says = "1 node; of 1 node 1 answered; can't be: what is in 1 folder"
+        self.assertEqual(self.runs(4, "find", "script", "/a", "BA", "FA", says=says)[-1], row)
         self.write("changed", (self.room / "script").read_text() + "dacl / D:P(A;OICI;FR;;;BA)\npublish\n")
         self.assertEqual(self.runs(4, "review", "changed")[-1], row)
 
@@ -205,7 +215,7 @@ class Ntfs(Volumes):
         (folder / "none" / "below").touch()
         self.volume.put(("none",), blob_of(0, NO_SID_ENTRY))
         self.read("script")
-        rows = self.runs(4, "find", "script", "/", USER, "0x2", says="2 nodes that couldn't be read")
+        rows = self.runs(4, "find", "script", "/", USER, "0x2", says="2 that couldn't be read")
         self.assertEqual(rows[:3], [ASSUMED, "found\t/null", MOVED.replace("/a/moved", "/moved")])
         self.assertRegex(rows[3], r"^skipped\t/none\t.*\t1$")
         self.runs(4, "who", "script", "/moved", "FA")

@@ -81,7 +81,7 @@ class Asked(Case):
         *_, person, end = map(json.loads, self.runs(0, "who", *words, says="1 line, 1 user of the accounts"))
         wanted = {"what": "person", "path": "/", "rights": "0x1", "name": BOB, "sid": ALICE}
         self.assertEqual(person, wanted | {"by": '0x1 by entry 1 (A;;0x1;;;"staff") as "staff"'})
-        self.assertEqual(end, {"what": "answered", "lines": 1, "users": 1, "left_out": 0})
+        self.assertEqual(end, {"what": "answered", "lines": 1, "users": 1, "of": 1, "answered": 1, "left_out": 0})
 
     def test_find(self) -> None:
         """The user's groups come by themselves, and nothing is assumed."""

@@ -47,7 +47,7 @@ class Questions(Case):
             [
                 {"what": "assumed", "groups": "S-1-1-0 S-1-5-11"},
                 {"what": "who", "path": "/", "rights": "0x2", "to": '"admins"'},
-                {"what": "answered", "lines": 1, "left_out": 0},
+                {"what": "answered", "lines": 1, "of": 1, "answered": 1, "left_out": 0},
             ],
         )
         self.runs(2, "who", "before", "/none", "0x1", says="/none: the script has no such node")

@@ -112,9 +112,9 @@ class Report(Case):
         """Above both pages, with links to the nodes that are there, which have a mark."""
         page = self.small()
         self.assertEqual(
-            page.value("document.querySelector('#left-out summary').innerText"),
-            "This page leaves out: 1 node that the source has otherwise, 3 nodes that couldn't be read, "
-            "1,204 files without a line",
+            page.value("document.getElementById('sum').innerText"),
+            "5 folders, 1 file: of 1,213 nodes 5 answered; 1,208 can't be: 1 that the source has otherwise, "
+            "3 that couldn't be read, 1,204 files without a line",
         )
         page.value("document.getElementById('left-out').open = true")
         self.assertEqual(

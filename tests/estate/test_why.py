@@ -88,7 +88,7 @@ class Why(Case):
         rows = list(map(json.loads, self.why(1, "--json", "/", ALICE, "0x1", "--only-given")))
         self.assertEqual(rows[0], {"what": "assumed", "groups": "none"})
         self.assertEqual(rows[1], {"what": "why", "path": "/", "reason": "denied 0x1"})
-        self.assertEqual(rows[-1], {"what": "answered", "granted": 0, "left_out": 0})
+        self.assertEqual(rows[-1], {"what": "answered", "granted": 0, "of": 1, "answered": 1, "left_out": 0})
 
     def test_refusals(self) -> None:
         self.why(2, "plans", ALICE, "0x1", says="plans: a path begins with '/'")
