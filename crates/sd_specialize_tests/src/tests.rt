@@ -29,7 +29,7 @@ pub(crate) fn spelled(alloc: Global, text: &str) -> Result<String, AllocError> {
             '~' => out.push_str("bf967aba-0de6-11d0-a285-00aa003049e2")?,
             '^' => out.push_str("77b5b886-944a-11d1-aebd-0000f80367c1")?,
             '$' => out.push_str("bf967a49-0de6-11d0-a285-00aa003049e2")?,
-            '`' => out.push_str("S-1-0xFFFFFFFFFFFF-0-")?,
+            '`' => out.push_str("S-1-0xffffffffffff-0-")?,
             '#' => out.push_str("bf967950-0de6-11d0-a285-00aa003049e2")?,
             _ => out.push(c)?,
         }
