@@ -1,4 +1,9 @@
 pub mod Alone
+pub mod Denied
+pub mod Fit
 pub mod Grants
 pub mod Kept
+pub mod Passed
+pub mod Spelled
+pub mod Tokens
 pub mod Turns

@@ -10,7 +10,7 @@ use Rattle.sd_commands.specs.declared.settings.Settings.{Settings}
 use Rattle.sd_named.specs.declared.word.NamedWord.{NamedWord}
 use Rattle.sd_people.specs.Asked.{EachAsked}
 use Rattle.sd_people.specs.Lines.{Told}
-use Rattle.sd_people.specs.People.{AreTold, IsOfUser, Said, further}
+use Rattle.sd_people.specs.People.{AreTold, IsGrantedNothing, IsOfUser, Said, further, passed}
 
 module _ (rows : List AccountRow) (settings : Settings) (words : List NamedWord) (each : EachAsked) where
   -- what is said of one user more
@@ -21,6 +21,14 @@ module _ (rows : List AccountRow) (settings : Settings) (words : List NamedWord)
   one_more users i d told more new left some low are is whole =
       let taken = ap named (take_more users i d low) ∙ map-append named_user (take i users) (get_or users i d ∷ []) in
       rw (whole, taken) (further (named (take i users)) told left (named_user (get_or users i d)) more some are is)
+
+  -- and where one user more is passed over
+  pub one_passed : (users : List (SidValue × Bor (List ℕ))) (i : ℕ) (d : SidValue × Bor (List ℕ)) (told : List Told) (left : Bool)
+      → i < length users → AreTold rows settings words each (named (take i users)) told left
+      → IsGrantedNothing rows settings words each (get_or users i d).0 → AreTold rows settings words each (named (take (i + 1) users)) told left
+  one_passed users i d told left low are nothing =
+      let taken = ap named (take_more users i d low) ∙ map-append named_user (take i users) (get_or users i d ∷ []) in
+      rw taken (passed (named (take i users)) told left (named_user (get_or users i d)) are nothing)
 
 place_named : (users : List (SidValue × Bor (List ℕ))) (i : ℕ) (user : SidValue × Bor (List ℕ))
     → get_or (named users) i (named_user user) ≡ named_user (get_or users i user)

@@ -23,6 +23,7 @@ use Rattle.sd_people.specs.Change.{all_granted, changes, granted_mask}
 use Rattle.sd_people.specs.Lines.{Told, User, leaves_out, left_out}
 use Rattle.sd_people.specs.Names.{AreNames}
 use Rattle.sd_people.specs.Naming.{NamesOf, named_line, named_told, sids_named}
+use Rattle.sd_people.specs.Passed.{GrantsNothing}
 use Rattle.sd_people.specs.Way.{AreGranted}
 use Rattle.sd_people.specs.declared.people.People.{People}
 use Rattle.sd_people.specs.declared.people.People.TheVariants as people
@@ -75,13 +76,23 @@ IsOfUser rows settings words (Changed old new) user said = (before : AnswerValue
 
 -- ---- all users
 
--- what is said of the users in turn, of whom none has a fault for an answer
+-- whatever `why` answers of the user, nothing is granted to it (that there is an answer would take a walk over its groups)
+abbrev pub IsGrantedNothing : List AccountRow → Settings → List NamedWord → EachAsked → SidValue → Type 0
+IsGrantedNothing rows settings words (Granted text mask) user =
+    (answer : AnswerValue) → IsWhy rows settings text mask words user answer → GrantsNothing answer
+IsGrantedNothing rows settings words (Changed old new) user = ⊥
+
+-- what is said of the users in turn, of whom none has a fault for an answer; one to whom nothing is granted may be
+-- passed over
 pub data AreTold (rows : List AccountRow) (settings : Settings) (words : List NamedWord) (each : EachAsked)
     : List User → List Told → Bool → Type 0 where
   nobody : AreTold rows settings words each [] [] false
   further : (users : List User) (told : List Told) (left : Bool) (user : User) (more : List Told) (some : Bool)
       → AreTold rows settings words each users told left → IsOfUser rows settings words each user (Said more some)
       → AreTold rows settings words each (users ++ user ∷ []) (told ++ more) (left || some)
+  passed : (users : List User) (told : List Told) (left : Bool) (user : User)
+      → AreTold rows settings words each users told left → IsGrantedNothing rows settings words each user.0
+      → AreTold rows settings words each (users ++ user ∷ []) told left
 
 -- what is said of all of them; or the answer to one of them that is a fault
 abbrev pub IsOfUsers : List AccountRow → Settings → List NamedWord → EachAsked → List User → PeopleValue → Type 0

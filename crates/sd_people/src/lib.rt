@@ -22,6 +22,7 @@ mod names;
 mod naming;
 mod people;
 mod sids;
+mod wanted;
 mod way;
 
 pub use asking::{PeopleQuestion, by_people};

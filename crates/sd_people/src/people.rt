@@ -1,16 +1,19 @@
 //! What is said about each user.
-ghost use Rattle.std.specs.Prelude.{◌≡◌, ◌||◌, IfOk, Some};
+ghost use Rattle.std.specs.Prelude.{◌≡◌, ◌||◌, IfOk, List, Some, [], true};
 ghost use Rattle.sd_answer.specs.Word.{texts};
 ghost use Rattle.sd_accounts.specs.Accounts.{rows_of};
 ghost use Rattle.sd_accounts.specs.Users.{named};
 ghost use Rattle.sd_commands.specs.Answer.{answer_of};
-ghost use Rattle.sd_people.specs.Asked.{Changed, Granted, each_of};
-ghost use Rattle.sd_people.specs.People.{IsOfPeople, IsOfUser, IsOfUsers, IsWhy, SaysChange, people_of};
+ghost use Rattle.sd_named.specs.declared.word.NamedWord.{NamedWord};
+ghost use Rattle.sd_people.specs.Asked.{Changed, EachAsked, Granted, each_of};
+ghost use Rattle.sd_people.specs.Passed.{IsFit};
+ghost use Rattle.sd_people.specs.People.{IsGrantedNothing, IsOfPeople, IsOfUser, IsOfUsers, IsWhy, SaysChange, people_of};
 
 use crate::asking::OfEach;
 use crate::change::{ALL_GRANTED, changes, granted_mask};
 use crate::granted::{grants_of, leaves_out};
-use sd_accounts::Accounts;
+use crate::wanted::search_for;
+use sd_accounts::{Accounts, Search};
 use sd_commands::{Answer, Outcome, Settings, answer_question, words_for};
 use sd_line::{Line, Part};
 use sd_named::{NamedError, NamedWords, Naming, lent};
@@ -50,12 +53,33 @@ pub(crate) fn people_asked(
     let all = words_for(alloc, settings.logon, words)?;
     let words = naming.named_words(&all)?;
     let users = accounts.users(alloc)?;
+    let mut search = search_in(alloc, accounts, settings, each, &all)?;
     let asker = Asker {
         naming,
         settings,
         words: &words,
     };
-    Ok(asker.of_all(each, &users)?)
+    Ok(asker.of_all(each, &users, &mut search)?)
+}
+
+/// A search by which users are passed over, for what a descriptor grants users without words.
+fn search_in<'a>(
+    alloc: Global,
+    accounts: &'a Accounts,
+    settings: &Settings,
+    each: OfEach<'_>,
+    words: &[&str],
+) -> Result<Option<Search<'a>>, AllocError>
+    ensures { IfOk result (λ search. (ones : List NamedWord) → (words.now ≡ [] → ones ≡ [])
+        → IsFit (rows_of accounts.now) settings.now ones (each_of each.entry) search) }
+{
+    if !words.is_empty() {
+        return Ok(None);
+    }
+    match each {
+        OfEach::Granted { text, mask } => search_for(alloc, accounts, settings, text, mask),
+        OfEach::Changed { .. } => Ok(None),
+    }
 }
 
 #[derive(Clone, Copy)]
@@ -67,13 +91,24 @@ struct Asker<'a> {
 
 impl Asker<'_> {
     /// What is said of the users in turn; or the first answer that is a fault.
-    fn of_all(&self, each: OfEach<'_>, users: &[(Sid, &str)]) -> Result<People, AllocError>
+    fn of_all(
+        &self,
+        each: OfEach<'_>,
+        users: &[(Sid, &str)],
+        search: &mut Option<Search<'_>>,
+    ) -> Result<People, AllocError>
+        requires fit { IsFit (rows_of self.now.naming.accounts.now) self.now.settings.now self.now.words.now
+            (each_of each) search.old }
         ensures { IfOk result (λ people. IsOfUsers (rows_of self.now.naming.accounts.now) self.now.settings.now
             self.now.words.now (each_of each.entry) (named users.now) (people_of people)) }
     {
         let mut told = Vec::new(self.naming.alloc);
         let mut left = false;
         for user in users {
+            let passed = self.passes_over(search, &user.0)?;
+            if passed {
+                continue;
+            }
             match self.of_user(each, &user.0, user.1)? {
                 People::Fault(answer) => return Ok(People::Fault(answer)),
                 People::Told {
@@ -86,6 +121,24 @@ impl Asker<'_> {
             }
         }
         Ok(People::Told { told, left })
+    }
+
+    /// Whether nothing is granted to the user, as the search says without asking `why`.
+    fn passes_over(&self, search: &mut Option<Search<'_>>, user: &Sid) -> Result<bool, AllocError>
+        ensures passed { (each : EachAsked) → IsFit (rows_of self.now.naming.accounts.now) self.now.settings.now
+            self.now.words.now each search.old → IfOk result (λ passed. passed ≡ true
+            → IsGrantedNothing (rows_of self.now.naming.accounts.now) self.now.settings.now self.now.words.now each
+            user.now) }
+        ensures fit { (each : EachAsked) → IsFit (rows_of self.now.naming.accounts.now) self.now.settings.now
+            self.now.words.now each search.old → IsFit (rows_of self.now.naming.accounts.now) self.now.settings.now
+            self.now.words.now each search.new }
+    {
+        let Some(search) = search else {
+            return Ok(false);
+        };
+        let has_logon = self.settings.logon.is_some();
+        let starts = self.naming.starts(has_logon, user, self.words)?;
+        Ok(!search.finds(&starts)?)
     }
 
     fn of_user(&self, each: OfEach<'_>, user: &Sid, name: &str) -> Result<People, AllocError>

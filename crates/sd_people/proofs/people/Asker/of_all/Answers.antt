@@ -3,12 +3,12 @@ use Rattle.std.proofs.Common.{subst}
 use Rattle.sd_accounts.specs.Accounts.{rows_of}
 use Rattle.sd_accounts.specs.Users.{named_user}
 use Rattle.sd_people.specs.Asked.{each_of}
-use Rattle.sd_people.specs.People.{IsOfUser, Said, nobody, people_of}
-use Rattle.sd_people.proofs.Turns.{at_place, one_more}
+use Rattle.sd_people.specs.People.{IsGrantedNothing, IsOfUser, Said, nobody, people_of}
+use Rattle.sd_people.proofs.Turns.{at_place, one_more, one_passed}
 use Rattle.sd_people.proofs.people.Asker.of_all.Goals as goal
 
 pub loop-user-init : goal.loop-user-init
-loop-user-init c = rw c.new-told.ensures.items nobody
+loop-user-init c = record { told = rw c.new-told.ensures.items nobody; fit = c.requires.fit }
 
 pub returns-in-Fault : goal.returns-in-Fault
 returns-in-Fault c =
@@ -26,6 +26,22 @@ loop-user-preserved c =
     let user = c.user-item.result in
     let said = subst (λ p. IsOfUser rows asker.settings.now asker.words.now each (named_user user) (people_of p)) c.in-Told.is c.in_ok-answer.ensures in
     let is = subst (λ u. IsOfUser rows asker.settings.now asker.words.now each (named_user u) (Said c.in-Told.more.items c.in-Told.some)) c.user-item.is said in
-    rw c.either-left.ensures
-    (one_more rows asker.settings.now asker.words.now each c.args.users.now c.loop-user.user-index user c.loop-user.told.items c.in-Told.more.items
-    c.append.new.self.items c.loop-user.left c.in-Told.some c.loop-user-test.true c.loop-user.invariant is c.in_ok-append-in-Told.ensures.items)
+    record {
+      told = rw c.either-left.ensures
+          (one_more rows asker.settings.now asker.words.now each c.args.users.now c.loop-user.user-index user c.loop-user.told.items c.in-Told.more.items
+          c.append.new.self.items c.loop-user.left c.in-Told.some c.loop-user-test.true c.loop-user.invariant.told is c.in_ok-append-in-Told.ensures.items);
+      fit = c.passes_over.ensures.fit each c.loop-user.invariant.fit;
+    }
+
+pub loop-user-preserved-then-passed : goal.loop-user-preserved-then-passed
+loop-user-preserved-then-passed c =
+    let asker = c.args.self.now in
+    let rows = rows_of asker.naming.accounts.now in
+    let each = each_of c.args.each in
+    let user = c.user-item.result in
+    let nothing = c.in_ok-passed.ensures.passed each c.loop-user.invariant.fit c.if-passed.true in
+    record {
+      told = one_passed rows asker.settings.now asker.words.now each c.args.users.now c.loop-user.user-index user c.loop-user.told.items c.loop-user.left
+          c.loop-user-test.true c.loop-user.invariant.told (subst (λ u. IsGrantedNothing rows asker.settings.now asker.words.now each u.0) c.user-item.is nothing);
+      fit = c.passes_over.ensures.fit each c.loop-user.invariant.fit;
+    }
