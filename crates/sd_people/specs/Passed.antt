@@ -38,7 +38,8 @@ pub record Speaks (settings : Settings) (text mask : List ℕ) (wanted : List Si
   pub entries : List Ace
   pub list : descriptor.dacl ≡ Entries entries
   pub owner : (sid : SidValue) → descriptor.owner ≡ Some sid → Contains wanted sid
-  pub allowed : AllByRecursion (λ (e : Ace). (not (is_inherit_only e) && is_allow e.kind) ≡ true → Contains wanted e.sid) entries
+  pub allowed : AllByRecursion (λ (e : Ace). (not (is_inherit_only e) && is_allow e.kind) ≡ true
+      → Contains wanted e.sid) entries
 
 -- whom an entry allows something, as it stands there, if it is an effective allow entry
 abbrev pub allowed_sid : Ace → Option SidValue

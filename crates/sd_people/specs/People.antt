@@ -76,7 +76,8 @@ IsOfUser rows settings words (Changed old new) user said = (before : AnswerValue
 
 -- ---- all users
 
--- whatever `why` answers of the user, nothing is granted to it (that there is an answer would take a walk over its groups)
+-- whatever `why` answers of the user, nothing is granted to it (that there is an answer would take a walk over its
+-- groups)
 abbrev pub IsGrantedNothing : List AccountRow → Settings → List NamedWord → EachAsked → SidValue → Type 0
 IsGrantedNothing rows settings words (Granted text mask) user =
     (answer : AnswerValue) → IsWhy rows settings text mask words user answer → GrantsNothing answer

@@ -7,7 +7,8 @@ ghost use Rattle.sd_commands.specs.Answer.{answer_of};
 ghost use Rattle.sd_named.specs.declared.word.NamedWord.{NamedWord};
 ghost use Rattle.sd_people.specs.Asked.{Changed, EachAsked, Granted, each_of};
 ghost use Rattle.sd_people.specs.Passed.{IsFit};
-ghost use Rattle.sd_people.specs.People.{IsGrantedNothing, IsOfPeople, IsOfUser, IsOfUsers, IsWhy, SaysChange, people_of};
+ghost use Rattle.sd_people.specs.People.{IsGrantedNothing, IsOfPeople, IsOfUser, IsOfUsers, IsWhy, SaysChange};
+ghost use Rattle.sd_people.specs.People.{people_of};
 
 use crate::asking::OfEach;
 use crate::change::{ALL_GRANTED, changes, granted_mask};
