@@ -122,6 +122,9 @@ diff -x --y
 --stdin --names diff D:
 --json each show
 --caret each --key diff D:
+each --pairs diff
+each --pairs -0 --key compare
+--names each --key --pairs compare WD
 print --caret
 print -- -h
 print -- --
@@ -315,6 +318,9 @@ REJECTED = r"""
 3 MissingArgument | diff D:
 3 MissingArgument | --stdin diff
 3 MissingArgument | each diff
+4 SurplusArgument | each --pairs diff D:
+3 NoPairs | each --pairs verdict SY 0x1
+3 NoPairs | each --pairs print
 3 SurplusArgument | show D: D:
 4 SurplusArgument | diff D: D: WD
 1 MisplacedOption | --whole each sid

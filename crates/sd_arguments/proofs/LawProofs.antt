@@ -1,6 +1,7 @@
 -- The proofs of the laws.
-use Rattle.std.proofs.Common.{◌≡◌, ◌+◌, ℕ, suc, List, [], ◌∷◌, length, Bool, true, false, Option, Some, None, ap, codes, option_map, refl, arith}
+use Rattle.std.proofs.Common.{◌≡◌, ◌+◌, ℕ, List, [], ◌∷◌, ◌++◌, length, Bool, true, false, Option, Some, None, ap, codes, option_map, refl, arith}
 use Rattle.std.proofs.lemmas.Bool.{le-leb}
+use Rattle.std.proofs.lemmas.List.{length-append}
 use Rattle.std.specs.Prelude.{if◌then◌else◌}
 use Rattle.std.specs.Option.{option_and_then}
 use Rattle.std.specs.Borrow.{Bor}
@@ -8,8 +9,8 @@ use Rattle.sd_usage.specs.Table.{command_named, option_named, takes_count, takes
 use Rattle.sd_usage.specs.declared.row.CommandName.{CommandName}
 use Rattle.sd_usage.specs.declared.row.CommandName.TheVariants as names
 use Rattle.sd_usage.specs.declared.row.DescriptorCommand.TheVariants as questions
-use Rattle.sd_arguments.specs.CommandLine.{CallValue, InvocationValue, RequestValue, Ask, Runs, asked_by, first_call, request_by, text_request}
-use Rattle.sd_arguments.specs.Laws.{shows, AsksTheCommand, HelpStandsAlone, DashesKeepTexts, OptionsKeepTexts}
+use Rattle.sd_arguments.specs.CommandLine.{CallValue, InvocationValue, RequestValue, Ask, Runs, arguments_of_line, asked_by, first_call, request_by, text_request}
+use Rattle.sd_arguments.specs.Laws.{shows, AsksTheCommand, HelpStandsAlone, DashesKeepTexts, OptionsKeepTexts, with_more}
 use Rattle.sd_arguments.specs.Options.{OptionsValue}
 
 -- ---- help stands alone
@@ -52,29 +53,38 @@ options_keep_texts name option domain sid word dashes sddl user mask words names
 -- ---- what is asked of a text
 
 -- where a command takes so many arguments, and options may go before it
-by_takes : (Invoked : RequestValue → InvocationValue) (takes goes : Bool) (text : List ℕ) (given request : RequestValue)
-    → ((a b : RequestValue) → Invoked a ≡ Invoked b → a ≡ b)
-    → option_and_then (λ asked. if goes then Some (Invoked asked) else None) (if takes then Some given else None)
-    ≡ Some (Invoked request)
-    → (if takes then (if goes then Some (Ask (Some text) given) else None) else None) ≡ Some (Ask (Some text) request)
-by_takes Invoked true true text given request one is = ap (λ asked. Some (Ask (Some text) asked)) (one given request cc)
-by_takes Invoked true false text given request one is = cc
-by_takes Invoked false goes text given request one is = cc
+by_takes : (Invoked : RequestValue → InvocationValue) (more : List (Bor (List ℕ))) (fits takes goes : Bool)
+    (text : List ℕ) (given request : RequestValue) → ((a b : RequestValue) → Invoked a ≡ Invoked b → a ≡ b)
+    → option_and_then (λ asked. if goes then Some (Invoked asked) else None)
+    (if fits then (if takes then Some given else None) else None) ≡ Some (Invoked request)
+    → (if takes then (if goes then Some (Ask (Some text) (with_more more given)) else None) else None)
+    ≡ Some (Ask (Some text) (with_more more request))
+by_takes Invoked more true true true text given request one is =
+    ap (λ asked. Some (Ask (Some text) (with_more more asked))) (one given request cc)
+by_takes Invoked more true true false text given request one is = cc
+by_takes Invoked more true false goes text given request one is = cc
+by_takes Invoked more false takes goes text given request one is = cc
 
-by_name : (Invoked : RequestValue → InvocationValue) (name : CommandName) (call : CallValue) (text : Bor (List ℕ)) (request : RequestValue)
-    → ((a b : RequestValue) → Invoked a ≡ Invoked b → a ≡ b) → text_request Invoked name call ≡ Some (Invoked request)
-    → (if takes_count call.command (1 + length call.arguments)
-    then request_by name (record call { arguments = text ∷ call.arguments }) (text ∷ call.arguments)
-    else None) ≡ Some (Ask (Some text.now) request)
-by_name Invoked (names.Ask question) call text request one is = by_takes Invoked _ _ _ _ _ one is
-by_name Invoked names.Script call text request one is = cc
-by_name Invoked names.Serve call text request one is = cc
-by_name Invoked names.Audit call text request one is = cc
-by_name Invoked names.Each call text request one is = cc
+by_name : (Invoked : RequestValue → InvocationValue) (pairs : Bool) (name : CommandName) (call : CallValue)
+    (text : Bor (List ℕ)) (more : List (Bor (List ℕ))) (request : RequestValue)
+    → ((a b : RequestValue) → Invoked a ≡ Invoked b → a ≡ b)
+    → text_request pairs Invoked name call ≡ Some (Invoked request)
+    → (if takes_count call.command (arguments_of_line pairs + length call.arguments)
+    then request_by name (record call { arguments = text ∷ (more ++ call.arguments) })
+    (text ∷ (more ++ call.arguments))
+    else None) ≡ Some (Ask (Some text.now) (with_more more request))
+by_name Invoked pairs (names.Ask question) call text more request one is = by_takes Invoked more _ _ _ _ _ _ one is
+by_name Invoked pairs names.Script call text more request one is = cc
+by_name Invoked pairs names.Serve call text more request one is = cc
+by_name Invoked pairs names.Audit call text more request one is = cc
+by_name Invoked pairs names.Each call text more request one is = cc
 
 pub asks_the_command : (Invoked : RequestValue → InvocationValue)
     → ((a b : RequestValue) → Invoked a ≡ Invoked b → a ≡ b) → AsksTheCommand Invoked
-asks_the_command Invoked one call text request is =
-    let more : 1 + length call.arguments ≡ suc (length call.arguments) = omega arith in
-    let asked = by_name Invoked call.command.name call text request one is in
-    rw more at asked
+asks_the_command Invoked one pairs call text more request count is =
+    let len : length (more ++ call.arguments) ≡ length more + length call.arguments =
+    length-append more call.arguments in
+    let taken : arguments_of_line pairs + length call.arguments ≡ length (text ∷ (more ++ call.arguments)) =
+    omega arith in
+    let asked = by_name Invoked pairs call.command.name call text more request one is in
+    rw taken at asked

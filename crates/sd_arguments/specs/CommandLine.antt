@@ -11,7 +11,9 @@ use Rattle.sd_usage.specs.declared.row.Command.{Command}
 use Rattle.sd_usage.specs.declared.row.CommandName.{CommandName}
 use Rattle.sd_usage.specs.declared.row.CommandName.TheVariants as names
 use Rattle.sd_usage.specs.declared.row.OptionName.TheVariants.{Stdin}
+use Rattle.sd_usage.specs.declared.row.DescriptorCommand.TheVariants.{Compare}
 use Rattle.sd_usage.specs.declared.row.TextCommand.{TextCommand}
+use Rattle.sd_usage.specs.declared.row.TextCommand.TheVariants.{Descriptor, Diff}
 use Rattle.sd_arguments.specs.declared.command_line.Call.{Call}
 use Rattle.sd_arguments.specs.declared.command_line.ProgramRequest.{ProgramRequest}
 use Rattle.sd_arguments.specs.declared.command_line.ProgramRequest.TheVariants as asked
@@ -114,15 +116,30 @@ call_of call = record {
 abbrev pub asks : CallValue → InvocationValue → Option InvocationValue
 asks call invocation = if go_before call.name call.options call.words then Some invocation else None
 
--- what it asks of a text that the arguments follow: a command that answers a text, with as many as it takes
-abbrev pub request_after : CommandName → CallValue → Option RequestValue
-request_after (names.Ask question) call =
-    if takes_count call.command (1 + length call.arguments)
-    then Some (record { question = question; arguments = call.arguments }) else None
-request_after name call = None
+-- with pairs a line is the first two arguments of its command
+abbrev pub arguments_of_line : (pairs : Bool) → ℕ
+arguments_of_line pairs = if pairs then 2 else 1
 
-abbrev pub text_request : (RequestValue → InvocationValue) → CommandName → CallValue → Option InvocationValue
-text_request Invoked name call = option_and_then (λ request. asks call (Invoked request)) (request_after name call)
+-- the commands of two texts
+abbrev pub takes_pairs : TextCommand → Bool
+takes_pairs (Descriptor Compare) = true
+takes_pairs Diff = true
+takes_pairs question = false
+
+-- what it asks of a text, or with pairs of two, that the arguments follow: a command that answers a text, with as many
+-- as it takes
+abbrev pub request_after : (pairs : Bool) → CommandName → CallValue → Option RequestValue
+request_after pairs (names.Ask question) call =
+    if not pairs || takes_pairs question
+    then (if takes_count call.command (arguments_of_line pairs + length call.arguments)
+    then Some (record { question = question; arguments = call.arguments }) else None)
+    else None
+request_after pairs name call = None
+
+abbrev pub text_request : (pairs : Bool) → (RequestValue → InvocationValue) → CommandName → CallValue
+    → Option InvocationValue
+text_request pairs Invoked name call =
+    option_and_then (λ request. asks call (Invoked request)) (request_after pairs name call)
 
 -- the command that the arguments begin with, its own options, and its arguments
 abbrev pub call_in : OptionsValue → (words rest : List (Bor (List ℕ))) → Option CallValue
@@ -144,7 +161,7 @@ audit_by call word = option_and_then (λ n. asks call (Script (Audit n))) (worke
 -- what the command that these arguments begin with asks of each line
 abbrev pub each_by : CallValue → List (Bor (List ℕ)) → Option InvocationValue
 each_by call words =
-    option_and_then (λ called. text_request (Each call.given) called.command.name called)
+    option_and_then (λ called. text_request call.given.pairs (Each call.given) called.command.name called)
     (call_in call.options call.words words)
 
 -- what a command asks for with these arguments, as many as it takes
@@ -164,7 +181,7 @@ request_on call =
 -- what a command asks for with its arguments, or after `--stdin` what it asks of the input
 abbrev pub asked_by : CallValue → Option InvocationValue
 asked_by call =
-    if has call.options Stdin then text_request (Ask None) call.command.name call else request_on call
+    if has call.options Stdin then text_request false (Ask None) call.command.name call else request_on call
 
 -- the command after the options with which the words begin
 abbrev pub first_call : List (Bor (List ℕ)) → Option CallValue

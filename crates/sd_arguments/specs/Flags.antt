@@ -4,18 +4,20 @@ use Rattle.std.specs.Borrow.{Bor}
 use Rattle.sd_usage.specs.Table.{flag_named}
 use Rattle.sd_usage.specs.declared.row.Command.{Command}
 use Rattle.sd_usage.specs.declared.row.Flag.{Flag}
-use Rattle.sd_usage.specs.declared.row.Flag.TheVariants.{Ids, Key, Zero}
+use Rattle.sd_usage.specs.declared.row.Flag.TheVariants.{Ids, Key, Pairs, Zero}
 use Rattle.sd_arguments.specs.declared.flags.GivenFlags.{GivenFlags}
 
 abbrev pub is_given : GivenFlags → Flag → Bool
 is_given given Ids = given.ids
 is_given given Zero = given.zero
 is_given given Key = given.key
+is_given given Pairs = given.pairs
 
 abbrev pub with_flag : GivenFlags → Flag → GivenFlags
 with_flag given Ids = record given { ids = true }
 with_flag given Zero = record given { zero = true }
 with_flag given Key = record given { key = true }
+with_flag given Pairs = record given { pairs = true }
 
 -- those that its arguments begin with, each once, in any order, beside those that are given already, and the arguments
 -- after them

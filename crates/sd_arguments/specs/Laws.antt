@@ -1,5 +1,5 @@
 -- What follows from the table of commands and from the parser of a command line.
-use Rattle.std.specs.Prelude.{◌≡◌, ℕ, ◌≤◌, List, [], ◌∷◌, length, map, Bool, true, false, Option, Some, None}
+use Rattle.std.specs.Prelude.{◌≡◌, ℕ, ◌+◌, ◌≤◌, List, [], ◌∷◌, ◌++◌, length, map, Bool, true, false, Option, Some, None}
 use Rattle.std.specs.Prelude.{codes}
 use Rattle.std.specs.Option.{option_map_or}
 use Rattle.std.specs.Borrow.{Bor}
@@ -11,7 +11,7 @@ use Rattle.sd_usage.specs.declared.row.TextCommand.TheVariants.{Descriptor}
 use Rattle.sd_usage.specs.declared.option_table.TheConstants.{OPTIONS}
 use Rattle.sd_usage.specs.declared.table.TheConstants.{COMMANDS}
 use Rattle.sd_arguments.specs.CommandLine.{CallValue, CommandLineValue, InvocationValue, RequestValue, Ask, Each}
-use Rattle.sd_arguments.specs.CommandLine.{Runs, reading, request_on, text_request}
+use Rattle.sd_arguments.specs.CommandLine.{Runs, arguments_of_line, reading, request_on, text_request}
 use Rattle.sd_arguments.specs.Options.{no_options, with_value}
 use Rattle.sd_arguments.specs.declared.flags.GivenFlags.{GivenFlags}
 
@@ -49,11 +49,17 @@ OptionsKeepTexts = (name option domain sid word dashes sddl user mask : Bor (Lis
     (with_value (with_value no_options Names []) Domain sid.now)
     (Ask (Some sddl.now) (record { question = Descriptor Why; arguments = user ∷ mask ∷ words })))
 
--- what is asked so of a text is what the command asks with the text as its first argument
+-- the request with an argument more before its own, where there is one
+abbrev pub with_more : List (Bor (List ℕ)) → RequestValue → RequestValue
+with_more more request = record request { arguments = more ++ request.arguments }
+
+-- what is asked so of a text, or of two, is what the command asks with them as its first arguments
 abbrev pub AsksTheCommand : (RequestValue → InvocationValue) → Type 0
-AsksTheCommand Invoked = (call : CallValue) (text : Bor (List ℕ)) (request : RequestValue)
-    → text_request Invoked call.command.name call ≡ Some (Invoked request)
-    → request_on (record call { arguments = text ∷ call.arguments }) ≡ Some (Ask (Some text.now) request)
+AsksTheCommand Invoked = (pairs : Bool) (call : CallValue) (text : Bor (List ℕ)) (more : List (Bor (List ℕ)))
+    (request : RequestValue) → 1 + length more ≡ arguments_of_line pairs
+    → text_request pairs Invoked call.command.name call ≡ Some (Invoked request)
+    → request_on (record call { arguments = text ∷ (more ++ call.arguments) })
+    ≡ Some (Ask (Some text.now) (with_more more request))
 
 -- of each line
 abbrev pub EachAsksTheCommand : Type 0

@@ -1,7 +1,7 @@
 //! The parser of a command line: what its arguments ask for, by the table of commands and options.
 ghost use Rattle.std.specs.Prelude.{◌≡◌, is_some, option_map};
-ghost use Rattle.sd_arguments.specs.CommandLine.{arguments_in, asked_by, asked_by_words, asks, asks_input, audit_by};
-ghost use Rattle.sd_arguments.specs.CommandLine.{call_in, call_of, each_by, run_by};
+ghost use Rattle.sd_arguments.specs.CommandLine.{arguments_in, arguments_of_line, asked_by, asked_by_words, asks};
+ghost use Rattle.sd_arguments.specs.CommandLine.{asks_input, audit_by, call_in, call_of, each_by, run_by, takes_pairs};
 ghost use Rattle.sd_arguments.specs.CommandLine.{command_line_of, first_call, help_on, invocation_of, line_of, reading};
 ghost use Rattle.sd_arguments.specs.CommandLine.{request_after, request_of, request_on, shown_by, workers_of};
 ghost use Rattle.sd_arguments.specs.Laws.{shows};
@@ -12,7 +12,7 @@ use crate::flags::{GivenFlags, NO_FLAGS, flags_in};
 use crate::option_words::{misplaced_in, options_in};
 use crate::options::Options;
 use crate::usage_error::{UsageError, UsageErrorKind};
-use sd_usage::{Command, CommandName, OptionName, TextCommand, command_named};
+use sd_usage::{Command, CommandName, DescriptorCommand, OptionName, TextCommand, command_named};
 
 /// What a command line asks for, and with which options.
 #[derive(Clone, Copy)]
@@ -102,15 +102,19 @@ impl<'a> Call<'a> {
         UsageError::new(left, self.named, wrong)
     }
 
-    /// What a command that answers a text asks of one that the arguments follow.
-    fn request_after(self) -> Result<TextRequest<'a>, UsageError>
-        ensures { accepted request_of result ≡ request_after self.entry.command.name (call_of self.entry) }
+    /// What a command that answers a text asks of one, or of two with `pairs`, that the arguments follow.
+    fn request_after(self, pairs: bool) -> Result<TextRequest<'a>, UsageError>
+        ensures { accepted request_of result ≡ request_after pairs self.entry.command.name (call_of self.entry) }
     {
         let CommandName::Ask(question) = self.command.name else {
             return Err(UsageError::new(self.named, self.named, UsageErrorKind::NoText));
         };
-        if !self.command.takes_count(1 + self.arguments.len()) {
-            return Err(self.miscounted(1 + self.arguments.len()));
+        if pairs && !takes_pairs(question) {
+            return Err(UsageError::new(self.named, self.named, UsageErrorKind::NoPairs));
+        }
+        let count = arguments_of_line(pairs) + self.arguments.len();
+        if !self.command.takes_count(count) {
+            return Err(self.miscounted(count));
         }
         Ok(TextRequest {
             question,
@@ -163,7 +167,7 @@ impl<'a> Call<'a> {
         ensures { accepted invocation_of result ≡ each_by (call_of self.entry) self.entry.arguments.now }
     {
         let call = call_in(self.options, self.words, self.arguments)?;
-        let (given, request) = (self.given, call.request_after()?);
+        let (given, request) = (self.given, call.request_after(self.given.pairs)?);
         call.asks(Invocation::Each { given, request })
     }
 
@@ -174,7 +178,7 @@ impl<'a> Call<'a> {
         if !self.options.has(OptionName::Stdin) {
             return self.request_on();
         }
-        let request = self.request_after()?;
+        let request = self.request_after(false)?;
         self.asks(Invocation::Ask {
             text: None,
             request,
@@ -335,6 +339,23 @@ fn arguments_in<'a>(words: &'a [&'a str]) -> &'a [&'a str]
         [word, rest @ ..] if *word == "--" => rest,
         _ => words,
     }
+}
+
+/// How many arguments of a command a line is.
+fn arguments_of_line(pairs: bool) -> usize
+    ensures { result ≡ arguments_of_line pairs }
+{
+    if pairs { 2 } else { 1 }
+}
+
+/// Whether the command is of two texts.
+fn takes_pairs(question: TextCommand) -> bool
+    ensures { result ≡ takes_pairs question }
+{
+    matches!(
+        question,
+        TextCommand::Descriptor(DescriptorCommand::Compare) | TextCommand::Diff
+    )
 }
 
 /// A number of workers: 1 to 64, in one or two decimal digits.

@@ -10,6 +10,7 @@ pub struct GivenFlags {
     pub ids: bool,
     pub zero: bool,
     pub key: bool,
+    pub pairs: bool,
 }
 
 /// No option of the command's own is given.
@@ -17,6 +18,7 @@ pub(crate) const NO_FLAGS: GivenFlags = GivenFlags {
     ids: false,
     zero: false,
     key: false,
+    pairs: false,
 };
 
 impl GivenFlags {
@@ -27,6 +29,7 @@ impl GivenFlags {
             Flag::Ids => self.ids,
             Flag::Zero => self.zero,
             Flag::Key => self.key,
+            Flag::Pairs => self.pairs,
         }
     }
 
@@ -38,6 +41,10 @@ impl GivenFlags {
             Flag::Ids => GivenFlags { ids: true, ..self },
             Flag::Zero => GivenFlags { zero: true, ..self },
             Flag::Key => GivenFlags { key: true, ..self },
+            Flag::Pairs => GivenFlags {
+                pairs: true,
+                ..self
+            },
         }
     }
 }

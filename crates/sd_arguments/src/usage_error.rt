@@ -40,6 +40,8 @@ pub(crate) enum UsageErrorKind {
     TooManyTypes,
     /// The command of `each`, or after `--stdin`, answers no text.
     NoText,
+    /// `each` has pairs of texts, and its command is of one.
+    NoPairs,
     MissingArgument(Argument, Command),
     SurplusArgument(Command),
     NoWorkers(Command),
@@ -58,7 +60,8 @@ impl UsageErrorKind {
             UsageErrorKind::NoCommand => "COMMAND",
             UsageErrorKind::MisplacedOption(_)
             | UsageErrorKind::LacksObject
-            | UsageErrorKind::NoText => name,
+            | UsageErrorKind::NoText
+            | UsageErrorKind::NoPairs => name,
             UsageErrorKind::MissingArgument(argument, _) => argument_name(argument),
             _ => "",
         }
@@ -81,6 +84,7 @@ impl UsageErrorKind {
             }
             UsageErrorKind::TooManyTypes => "one object type too many, at most 5 (14 TooManyTypes)",
             UsageErrorKind::NoText => " doesn't answer a text (9 NoText)",
+            UsageErrorKind::NoPairs => " isn't about two texts, compare and diff are (16 NoPairs)",
             UsageErrorKind::MissingArgument(..) => " is missing (10 MissingArgument)",
             UsageErrorKind::SurplusArgument(_) => "one argument too many (11 SurplusArgument)",
             UsageErrorKind::NoWorkers(_) => "no number of workers, 1 to 64 (12 NoWorkers)",
@@ -145,7 +149,8 @@ fn hint(alloc: Global, name: &str, wrong: UsageErrorKind) -> Result<String, Allo
         | UsageErrorKind::ExcludedOption
         | UsageErrorKind::LacksWhole
         | UsageErrorKind::LacksObject
-        | UsageErrorKind::TooManyTypes => Ok(String::new(alloc)),
+        | UsageErrorKind::TooManyTypes
+        | UsageErrorKind::NoPairs => Ok(String::new(alloc)),
         UsageErrorKind::MisplacedOption(option) => {
             commands_hint(alloc, "it goes before ", Commands::Taking(option))
         }

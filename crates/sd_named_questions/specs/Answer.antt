@@ -1,5 +1,5 @@
 -- The answers to questions whose words name accounts.
-use Rattle.std.specs.Prelude.{◌≡◌, ◌⊎◌, ℕ, List, Option, None, Ok, Err}
+use Rattle.std.specs.Prelude.{◌≡◌, ◌⊎◌, ℕ, Bool, false, List, Option, None, Ok, Err}
 use Rattle.sd_answer.specs.Word.{texts}
 use Rattle.sd_accounts.specs.Row.{AccountRow}
 use Rattle.sd_usage.specs.declared.row.OptionName.TheVariants.{StrictStatus}
@@ -37,7 +37,7 @@ pub record AnswersByNames (rows : List AccountRow) (options : OptionsValue) (tex
   pub gives : GivesSettings options (Ok settings)
   pub own_text : Option (List ℕ)
   pub own : RequestValue
-  pub is_named : IsNamedRequest rows settings text request own_text own
+  pub is_named : IsNamedRequest rows settings text false request own_text own
   pub plain : AnswerValue
   pub answers : AnswersOnce input options own_text own plain
   pub by_people : AnswersByPeople (people_asked rows settings options own_text own) plain answer
@@ -49,14 +49,15 @@ AnswersNamed rows options text request input answer = AnswersByNames rows option
     ⊎ (IsBad options × AnswersOnce input options text request answer)
 
 -- the question that each line is asked: with SIDs in the place of names, unless an option's value isn't read
-abbrev pub IsOwn : List AccountRow → OptionsValue → RequestValue → RequestValue → Type 0
-IsOwn rows options request own =
-    ((settings : Settings) × GivesSettings options (Ok settings) × IsNamedRequest rows settings None request None own)
+abbrev pub IsOwn : List AccountRow → OptionsValue → (pairs : Bool) → RequestValue → RequestValue → Type 0
+IsOwn rows options pairs request own =
+    ((settings : Settings) × GivesSettings options (Ok settings)
+    × IsNamedRequest rows settings None pairs request None own)
     ⊎ (IsBad options × (own ≡ request))
 
 -- known bytes grow by the answers to each line
 abbrev pub AppendsEachNamed : List AccountRow → OptionsValue → GivenFlags → RequestValue → Option (List ℕ)
     → (old new : Option (List ℕ)) → List ℕ → ℕ → Type 0
 AppendsEachNamed rows options given request input old new told status = (own : RequestValue)
-    × IsOwn rows options request own
+    × IsOwn rows options given.pairs request own
     × AppendsWhole (has options StrictStatus) (AnswersEach options given own input) old new told status

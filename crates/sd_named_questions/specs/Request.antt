@@ -44,19 +44,25 @@ AreOfRest rows known is_sddl (first ∷ words) named = (own : List ℕ) × (rest
     × IsText rows known is_sddl first own × AreOfWords rows known words rest × (named ≡ own ∷ rest)
 AreOfRest rows known is_sddl arguments named = named ≡ arguments
 
--- the arguments of a command after its text, with SIDs in the place of names
-abbrev pub AreNamed : List AccountRow → Aliases → Option Logon → TextCommand → List (List ℕ) → List (List ℕ) → Type 0
-AreNamed rows known logon (Descriptor about.Verdict) = AreOfVerdict rows known logon
-AreNamed rows known logon (Descriptor about.Why) = AreOfVerdict rows known logon
-AreNamed rows known logon (Descriptor about.Who) = AreOfRest rows known false
-AreNamed rows known logon (Descriptor about.Compare) = AreOfRest rows known true
-AreNamed rows known logon (Descriptor about.Lint) = AreOfWords rows known
-AreNamed rows known logon question = λ arguments named. named ≡ arguments
+-- the arguments of `compare`: NEW and words, and of lines that are pairs the words alone
+abbrev pub AreOfCompare : List AccountRow → Aliases → (pairs : Bool) → List (List ℕ) → List (List ℕ) → Type 0
+AreOfCompare rows known true = AreOfWords rows known
+AreOfCompare rows known false = AreOfRest rows known true
+
+-- the arguments of a command after its text, or after a pair, with SIDs in the place of names
+abbrev pub AreNamed : List AccountRow → Aliases → Option Logon → (pairs : Bool) → TextCommand → List (List ℕ)
+    → List (List ℕ) → Type 0
+AreNamed rows known logon pairs (Descriptor about.Verdict) = AreOfVerdict rows known logon
+AreNamed rows known logon pairs (Descriptor about.Why) = AreOfVerdict rows known logon
+AreNamed rows known logon pairs (Descriptor about.Who) = AreOfRest rows known false
+AreNamed rows known logon pairs (Descriptor about.Compare) = AreOfCompare rows known pairs
+AreNamed rows known logon pairs (Descriptor about.Lint) = AreOfWords rows known
+AreNamed rows known logon pairs question = λ arguments named. named ≡ arguments
 
 -- the question of a text and of arguments with SIDs in the place of names
-pub record IsNamedRequest (rows : List AccountRow) (settings : Settings) (text : Option (List ℕ))
+pub record IsNamedRequest (rows : List AccountRow) (settings : Settings) (text : Option (List ℕ)) (pairs : Bool)
     (request : RequestValue) (own_text : Option (List ℕ)) (own : RequestValue) : Type 0 where
   pub question : own.question ≡ request.question
   pub is_given : IsGiven rows settings.aliases request.question text own_text
-  pub are_named : AreNamed rows settings.aliases settings.logon request.question (texts request.arguments)
-      (texts own.arguments)
+  pub are_named : AreNamed rows settings.aliases settings.logon pairs request.question
+      (texts request.arguments) (texts own.arguments)

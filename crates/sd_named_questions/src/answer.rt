@@ -78,7 +78,7 @@ pub fn answer_named<R: Read>(
         Ok(settings) => settings,
         Err(_) => return Ok(answer_to(alloc, options, text, request, reader)?),
     };
-    let own = named_request(alloc, accounts, &settings, text, request)?;
+    let own = named_request(alloc, accounts, &settings, text, false, request)?;
     let arguments = lent(alloc, &own.arguments)?;
     let question = PeopleQuestion {
         accounts,
@@ -117,7 +117,7 @@ pub fn answer_each_named<R: Read, W: Write>(
         Ok(settings) => settings,
         Err(_) => return Ok(answer_each(alloc, options, given, request, reader, writer)?),
     };
-    let own = named_request(alloc, accounts, &settings, None, request)?;
+    let own = named_request(alloc, accounts, &settings, None, given.pairs, request)?;
     let arguments = lent(alloc, &own.arguments)?;
     let request = TextRequest {
         question: request.question,

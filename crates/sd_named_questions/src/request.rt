@@ -3,7 +3,7 @@ ghost use Rattle.std.specs.Prelude.{◌≡◌, IfOk, ◌∷◌, map, option_map,
 ghost use Rattle.sd_answer.specs.Word.{texts};
 ghost use Rattle.sd_accounts.specs.Accounts.{rows_of};
 ghost use Rattle.sd_arguments.specs.CommandLine.{request_of};
-ghost use Rattle.sd_named_questions.specs.Request.{AreNamed, AreOfRest, AreOfVerdict, IsGiven, IsText};
+ghost use Rattle.sd_named_questions.specs.Request.{AreNamed, AreOfCompare, AreOfRest, AreOfVerdict, IsGiven, IsText};
 ghost use Rattle.sd_named_questions.specs.Request.{has_sddl};
 
 use sd_accounts::Accounts;
@@ -31,18 +31,20 @@ impl OwnRequest {
     }
 }
 
-/// The text and the arguments, with SIDs in the place of names. The errors are those of a name, and out of memory.
+/// The text and the arguments after it, or with `pairs` after it and another one, with SIDs in the place of names. The
+/// errors are those of a name, and out of memory.
 pub(crate) fn named_request(
     alloc: Global,
     accounts: &Accounts,
     settings: &Settings,
     text: Option<&str>,
+    pairs: bool,
     request: TextRequest<'_>,
 ) -> Result<OwnRequest, NamedError>
     ensures text { IfOk result (λ own. IsGiven (rows_of accounts.now) settings.now.aliases request.entry.question
         (option_map (λ text. text.now) text.entry) (option_map string_bytes own.text)) }
     ensures arguments { IfOk result (λ own. AreNamed (rows_of accounts.now) settings.now.aliases settings.now.logon
-        request.entry.question (texts request.entry.arguments.now) (map string_bytes own.arguments.items)) }
+        pairs request.entry.question (texts request.entry.arguments.now) (map string_bytes own.arguments.items)) }
 {
     let naming = Naming {
         alloc,
@@ -50,7 +52,7 @@ pub(crate) fn named_request(
         known: settings.aliases,
     };
     let text = given(naming, request.question, text)?;
-    let arguments = named_arguments(naming, settings.logon, request)?;
+    let arguments = named_arguments(naming, settings.logon, pairs, request)?;
     Ok(OwnRequest { text, arguments })
 }
 
@@ -88,14 +90,15 @@ fn own_text(naming: Naming<'_>, is_sddl: bool, text: &str) -> Result<String, All
     }
 }
 
-/// The arguments after a command's text, with SIDs in the place of names.
+/// The arguments after a command's text, or with `pairs` after its two, with SIDs in the place of names.
 fn named_arguments(
     naming: Naming<'_>,
     logon: Option<Logon>,
+    pairs: bool,
     request: TextRequest<'_>,
 ) -> Result<Vec<String>, NamedError>
     ensures { IfOk result (λ named. AreNamed (rows_of naming.entry.accounts.now) naming.entry.known logon
-        request.entry.question (texts request.entry.arguments.now) (map string_bytes named.items)) }
+        pairs request.entry.question (texts request.entry.arguments.now) (map string_bytes named.items)) }
 {
     let arguments = request.arguments;
     match request.question {
@@ -103,7 +106,7 @@ fn named_arguments(
             of_verdict(naming, logon, arguments)
         }
         TextCommand::Descriptor(DescriptorCommand::Who) => of_rest(naming, false, arguments),
-        TextCommand::Descriptor(DescriptorCommand::Compare) => of_rest(naming, true, arguments),
+        TextCommand::Descriptor(DescriptorCommand::Compare) => of_compare(naming, pairs, arguments),
         TextCommand::Descriptor(DescriptorCommand::Lint) => naming.of_words(arguments),
         _ => Ok(copies(naming.alloc, arguments)?),
     }
@@ -123,6 +126,22 @@ fn of_verdict(
     };
     let words = words_for(naming.alloc, logon, words)?;
     naming.of_user(logon.is_some(), user, mask, &words)
+}
+
+/// The arguments `NEW WORD..`, or with `pairs` the words alone.
+fn of_compare(
+    naming: Naming<'_>,
+    pairs: bool,
+    arguments: &[&str],
+) -> Result<Vec<String>, NamedError>
+    ensures { IfOk result (λ named. AreOfCompare (rows_of naming.entry.accounts.now) naming.entry.known pairs
+        (texts arguments.now) (map string_bytes named.items)) }
+{
+    if pairs {
+        naming.of_words(arguments)
+    } else {
+        of_rest(naming, true, arguments)
+    }
 }
 
 /// An argument, which may be a descriptor's text, and words.

@@ -1,4 +1,4 @@
--- What comes of the lines of `each`: what their keys are, and how all were answered.
+-- What comes of the lines of `each`: what their parts are, and how all were answered.
 use Rattle.std.specs.Prelude.{ℕ, ◌+◌, ◌==◌, nat_lt, Bool, not, ◌&&◌, List, length, take, drop, codes}
 use Rattle.std.specs.Prelude.{Option, Some, None}
 use Rattle.std.specs.List.{list_any, position_or_len}
@@ -8,23 +8,25 @@ use Rattle.sd_commands.specs.Diagnostic.{told_line}
 use Rattle.sd_commands.specs.declared.command_answer.Outcome.{Outcome}
 use Rattle.sd_commands.specs.declared.command_answer.Outcome.TheVariants.{Fault}
 
--- ---- keys
+-- ---- parts
 
--- how many bytes are before the first tab, or all
-abbrev pub key_len : List ℕ → ℕ
-key_len line = position_or_len (λ b. b == 9) line
+-- the place of the first tab, or the end
+abbrev pub tab_place : List ℕ → ℕ
+tab_place text = position_or_len (λ b. b == 9) text
+
+abbrev pub has_tab : List ℕ → Bool
+has_tab text = nat_lt (tab_place text) (length text)
+
+-- what stands before it, as a key or OLD, and after it
+abbrev pub before_tab : List ℕ → List ℕ
+before_tab text = take (tab_place text) text
+
+abbrev pub after_tab : List ℕ → List ℕ
+after_tab text = drop (tab_place text + 1) text
 
 -- a key is there: a tab ends it, and no line feed is in it
 abbrev pub has_key : List ℕ → Bool
-has_key line =
-    nat_lt (key_len line) (length line) && not (list_any (λ b. b == 10) (take (key_len line) line))
-
--- the key, and the text after its tab
-abbrev pub key_of : List ℕ → List ℕ
-key_of line = take (key_len line) line
-
-abbrev pub after_key : List ℕ → List ℕ
-after_key line = drop (key_len line + 1) line
+has_key line = has_tab line && not (list_any (λ b. b == 10) (before_tab line))
 
 -- ---- what comes of all
 

@@ -28,4 +28,4 @@ abbrev pub LeavesEach : OptionsValue → GivenFlags → RequestValue → Option 
     → Option (List ℕ) → RunError → Type 0
 LeavesEach options given request input left old new error =
     (said : Result Settings BadValue) × GivesSettings options said × LeavesAnswers (form_of given.zero)
-    (Prints (form_of given.zero) (AnswersNext given.key (style_of options) said request) None) input left old new error
+    (Prints (form_of given.zero) (AnswersNext given (style_of options) said request) None) input left old new error

@@ -4,6 +4,7 @@ use Rattle.std.specs.Prelude.{Option, Some, None, IfSome, if◌then◌else◌, M
 use Rattle.std.specs.Borrow.{Bor}
 use Rattle.std.specs.Str.{IsUtf8}
 use Rattle.sd_answer.specs.VerdictLines.{fault_line}
+use Rattle.sd_answer.specs.Word.{texts}
 use Rattle.sd_lines.specs.Answers.{PrintsAndLeaves}
 use Rattle.sd_lines.specs.Decoder.{decoded}
 use Rattle.sd_lines.specs.declared.ending.Ending.TheVariants as endings
@@ -29,7 +30,7 @@ use Rattle.sd_arguments.specs.declared.flags.GivenFlags.{GivenFlags}
 use Rattle.sd_arguments.specs.declared.options.BadValue.{BadValue}
 use Rattle.sd_arguments.specs.declared.options.BadValue.TheVariants.{NoAccounts, NoConcern, NoDomain, NoEdits, NoLogon}
 use Rattle.sd_arguments.specs.declared.options.BadValue.TheVariants.{NoMapping, NoNodes, NoSelf, NoType}
-use Rattle.sd_questions.specs.Each.{after_key, has_key, key_of, outcome_of_lines, told_of_lines, with_line}
+use Rattle.sd_questions.specs.Each.{after_tab, before_tab, has_key, has_tab, outcome_of_lines, told_of_lines, with_line}
 use Rattle.sd_questions.specs.Input.{is_blank, is_utf16, without_end}
 
 -- ---- values of options that aren't read
@@ -131,14 +132,29 @@ AnswersOnce input options text request answer =
 
 -- ---- of each line
 
--- the answer to a line's text is the one command's, but a blank line is a fault; no text is told of a line that is too
--- long
-abbrev pub AnswersTold : Result Settings BadValue → RequestValue → Option (List ℕ) → AnswerValue → Type 0
-AnswersTold settings request None answer = IsFault (fault_line (codes "long")) [] answer
-AnswersTold settings request (Some text) answer =
-    (IsUtf8 text × MatchBool (is_blank text) (IsFault (fault_line (codes "blank")) [] answer)
-    (MatchResult settings (λ said. AnswersText said request text answer)
-    (λ bad. IsBadValue bad answer)))
+-- the answer to a text is the one command's, but a blank one is a fault
+abbrev pub AnswersOne : Result Settings BadValue → RequestValue → List ℕ → AnswerValue → Type 0
+AnswersOne settings request text answer =
+    MatchBool (is_blank text) (IsFault (fault_line (codes "blank")) [] answer)
+    (MatchResult settings (λ said. AnswersText said request text answer) (λ bad. IsBadValue bad answer))
+
+-- the answer to a text before a tab, with what stands after that as the next argument; without a tab it is a fault
+abbrev pub AnswersPair : Result Settings BadValue → RequestValue → List ℕ → AnswerValue → Type 0
+AnswersPair settings request text answer = MatchBool (has_tab text)
+    ((arguments : List (Bor (List ℕ))) × (texts arguments ≡ after_tab text ∷ texts request.arguments)
+    × AnswersOne settings (record request { arguments = arguments }) (before_tab text) answer)
+    (IsFault (fault_line (codes "pair")) [] answer)
+
+abbrev pub AnswersUtf8 : (pairs : Bool) → Result Settings BadValue → RequestValue → List ℕ → AnswerValue → Type 0
+AnswersUtf8 true settings request text answer = AnswersPair settings request text answer
+AnswersUtf8 false settings request text answer = AnswersOne settings request text answer
+
+-- no text is told of a line that is too long
+abbrev pub AnswersTold : (pairs : Bool) → Result Settings BadValue → RequestValue → Option (List ℕ) → AnswerValue
+    → Type 0
+AnswersTold pairs settings request None answer = IsFault (fault_line (codes "long")) [] answer
+AnswersTold pairs settings request (Some text) answer =
+    (IsUtf8 text × AnswersUtf8 pairs settings request text answer)
     ⊎ ((IsUtf8 text → ⊥) × IsFault (fault_line (codes "utf8")) [] answer)
 
 -- what follows each answer: an empty line, where an answer may have several lines
@@ -152,27 +168,29 @@ after_answer Diff = text_line [] ∷ []
 after_answer question = []
 
 -- the lines of a line's answer, and what came of it
-abbrev pub AnswersLine : Result Settings BadValue → RequestValue → Option (List ℕ) → List LineOf → Outcome → Type 0
-AnswersLine settings request told lines outcome =
-    (answer : AnswerValue) × AnswersTold settings request told answer
+abbrev pub AnswersLine : (pairs : Bool) → Result Settings BadValue → RequestValue → Option (List ℕ) → List LineOf
+    → Outcome → Type 0
+AnswersLine pairs settings request told lines outcome =
+    (answer : AnswerValue) × AnswersTold pairs settings request told answer
     × (lines ≡ answer.lines ++ after_answer request.question) × (outcome ≡ answer.outcome)
 
 -- where lines have keys, the same of one that is a key, a tab and a text, with the key as the tag of the text's answer;
 -- one without a key is a fault
-abbrev pub AnswersLineIn : Bool → Result Settings BadValue → RequestValue → Option (List ℕ) → TagOf → List LineOf
-    → Outcome → Type 0
-AnswersLineIn true settings request (Some line) tag lines outcome = MatchBool (has_key line)
-    ((tag ≡ Some (codes "key", 9, key_of line)) × AnswersLine settings request (Some (after_key line)) lines outcome)
+abbrev pub AnswersLineIn : (keys pairs : Bool) → Result Settings BadValue → RequestValue → Option (List ℕ) → TagOf
+    → List LineOf → Outcome → Type 0
+AnswersLineIn true pairs settings request (Some line) tag lines outcome = MatchBool (has_key line)
+    ((tag ≡ Some (codes "key", 9, before_tab line))
+    × AnswersLine pairs settings request (Some (after_tab line)) lines outcome)
     ((tag ≡ None) × (lines ≡ fault_line (codes "key") ∷ after_answer request.question) × (outcome ≡ Fault))
-AnswersLineIn has_keys settings request told tag lines outcome =
-    (tag ≡ None) × AnswersLine settings request told lines outcome
+AnswersLineIn keys pairs settings request told tag lines outcome =
+    (tag ≡ None) × AnswersLine pairs settings request told lines outcome
 
 -- what is printed of a line's answer, in this style, and the worst outcome of the lines up to this one
-abbrev pub AnswersNext : Bool → Style → Result Settings BadValue → RequestValue → Option Outcome → Option (List ℕ)
-    → List ℕ → Option Outcome → Type 0
-AnswersNext has_keys style settings request before told text after =
+abbrev pub AnswersNext : GivenFlags → Style → Result Settings BadValue → RequestValue → Option Outcome
+    → Option (List ℕ) → List ℕ → Option Outcome → Type 0
+AnswersNext given style settings request before told text after =
     (tag : TagOf) × (lines : List LineOf) × (outcome : Outcome)
-    × AnswersLineIn has_keys settings request told tag lines outcome
+    × AnswersLineIn given.key given.pairs settings request told tag lines outcome
     × (text ≡ printed style tag lines) × (after ≡ with_line before outcome)
 
 -- the lines of an input, each of which a zero byte or a line feed ends. One that is too long is answered too
@@ -203,6 +221,6 @@ abbrev pub AnswersEach : OptionsValue → GivenFlags → RequestValue → Option
 AnswersEach options given request input answer =
     (settings : Result Settings BadValue) × GivesSettings options settings
     × (text : List ℕ) × (last : Option Outcome) × IfSome input (λ bytes. text ≡ bytes)
-    × PrintsAndLeaves (form_of given.zero) (AnswersNext given.key (style_of options) settings request) None text
+    × PrintsAndLeaves (form_of given.zero) (AnswersNext given (style_of options) settings request) None text
     answer.printed last
     × ((advice : List ℕ) × (answer.told ≡ told_of_lines last advice)) × (answer.outcome ≡ outcome_of_lines last)

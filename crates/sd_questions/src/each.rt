@@ -1,15 +1,16 @@
 //! The answers of one command to each line of an input.
-ghost use Rattle.std.specs.Prelude.{◌≡◌, ◌≢◌, ◌≤◌, ◌⊎◌, ◌||◌, ◌++◌, true, false, IfErr, IfNone, IfOk, IfSome, length};
-ghost use Rattle.std.specs.Prelude.{OnOk, option_map, string_bytes};
+ghost use Rattle.std.specs.Prelude.{◌≡◌, ◌≢◌, ◌≤◌, ◌⊎◌, ◌||◌, ◌∷◌, ◌++◌, true, false, IfErr, IfNone, IfOk, IfSome};
+ghost use Rattle.std.specs.Prelude.{OnOk, length, option_map, string_bytes};
 ghost use Rattle.std.specs.Io.KnownBytes.{Keeps};
 ghost use Rattle.sd_lines.specs.Watched.{has_failed, inner_of};
 ghost use Rattle.sd_lines.specs.Streams.{is_read_error, is_write_error};
 ghost use Rattle.sd_commands.specs.Answer.{answer_of, outcome_status};
 ghost use Rattle.sd_line.specs.Printed.{tag_of};
-ghost use Rattle.sd_questions.specs.TextAnswer.{AnswersLine, AnswersLineIn, AnswersNext, AnswersTold};
-ghost use Rattle.sd_questions.specs.TextAnswer.{AnswersEach, after_answer, form_of};
+ghost use Rattle.sd_answer.specs.Word.{texts};
+ghost use Rattle.sd_questions.specs.TextAnswer.{AnswersEach, AnswersLine, AnswersLineIn, AnswersNext};
+ghost use Rattle.sd_questions.specs.TextAnswer.{AnswersOne, AnswersPair, AnswersTold, after_answer, form_of};
 ghost use Rattle.sd_arguments.specs.CommandLine.{request_of};
-ghost use Rattle.sd_questions.specs.Each.{after_key, has_key, key_len, key_of, no_line_note};
+ghost use Rattle.sd_questions.specs.Each.{after_tab, before_tab, has_key, no_line_note, tab_place};
 ghost use Rattle.sd_questions.specs.Each.{told_of_lines, with_line};
 ghost use Rattle.sd_arguments.specs.Options.{has, options_of};
 ghost use Rattle.sd_questions.specs.Output.{AppendsWhole, LeavesEach};
@@ -45,8 +46,8 @@ struct Answered {
 /// A command with its arguments, under its options, that is asked of each line.
 #[derive(Clone, Copy)]
 struct LineQuestion<'a> {
-    /// Whether each line begins with a key and a tab.
-    has_keys: bool,
+    /// What parts each line has.
+    given: GivenFlags,
     /// How each answer is printed.
     style: Style,
     /// What its options say, or which of their values isn't read.
@@ -58,7 +59,7 @@ impl AnswersLines for LineQuestion<'_> {
     /// The worst outcome of the lines so far, if there was one.
     type State = Option<Outcome>;
 
-    ghost answers = { λ question before told printed after. AnswersNext question.has_keys question.style
+    ghost answers = { λ question before told printed after. AnswersNext question.given question.style
         question.settings (request_of question.request) before told printed after };
 
     fn answer(
@@ -86,11 +87,11 @@ impl LineQuestion<'_> {
         alloc: Global,
         line: Option<&'b [u8]>,
     ) -> Result<(Tag<'b>, Answered), AllocError>
-        ensures { IfOk result (λ answered. AnswersLineIn self.now.has_keys self.now.settings
+        ensures { IfOk result (λ answered. AnswersLineIn self.now.given.key self.now.given.pairs self.now.settings
             (request_of self.now.request) (option_map (λ bytes. bytes.now) line.entry)
             (tag_of answered.0) answered.1.lines.items answered.1.outcome) }
     {
-        if !self.has_keys {
+        if !self.given.key {
             return Ok((Tag::None, self.answer_line(alloc, line)?));
         }
         let Some(bytes) = line else {
@@ -105,8 +106,9 @@ impl LineQuestion<'_> {
 
     /// The answer to a line, and what follows it.
     fn answer_line(&self, alloc: Global, line: Option<&[u8]>) -> Result<Answered, AllocError>
-        ensures { IfOk result (λ answered. AnswersLine self.now.settings (request_of self.now.request)
-            (option_map (λ bytes. bytes.now) line.entry) answered.lines.items answered.outcome) }
+        ensures { IfOk result (λ answered. AnswersLine self.now.given.pairs self.now.settings
+            (request_of self.now.request) (option_map (λ bytes. bytes.now) line.entry) answered.lines.items
+            answered.outcome) }
     {
         self.ended(alloc, self.answer_told(alloc, line)?)
     }
@@ -129,8 +131,8 @@ impl LineQuestion<'_> {
 
     /// The answer to a line, of which there is no text where it is too long.
     fn answer_told(&self, alloc: Global, line: Option<&[u8]>) -> Result<Answer, AllocError>
-        ensures { IfOk result (λ answer. AnswersTold self.now.settings (request_of self.now.request)
-            (option_map (λ bytes. bytes.now) line.entry) (answer_of answer)) }
+        ensures { IfOk result (λ answer. AnswersTold self.now.given.pairs self.now.settings
+            (request_of self.now.request) (option_map (λ bytes. bytes.now) line.entry) (answer_of answer)) }
     {
         let Some(bytes) = line else {
             return fault(alloc, "long", String::new(alloc));
@@ -138,23 +140,69 @@ impl LineQuestion<'_> {
         let Ok(text) = from_utf8(bytes) else {
             return fault(alloc, "utf8", String::new(alloc));
         };
-        if is_blank(bytes) {
+        if self.given.pairs {
+            return self.answer_pair(alloc, text);
+        }
+        self.answer_one(alloc, self.request.arguments, text)
+    }
+
+    /// The answer to OLD, a tab and NEW.
+    fn answer_pair(&self, alloc: Global, text: &str) -> Result<Answer, AllocError>
+        ensures { IfOk result (λ answer. AnswersPair self.now.settings (request_of self.now.request) text.now
+            (answer_of answer)) }
+    {
+        let Some((old, new)) = text.split_once('\t') else {
+            return fault(alloc, "pair", String::new(alloc));
+        };
+        let arguments = with_new(alloc, new, self.request.arguments)?;
+        self.answer_one(alloc, &arguments, old)
+    }
+
+    /// The answer to a text, with these arguments after it.
+    fn answer_one(
+        &self,
+        alloc: Global,
+        arguments: &[&str],
+        text: &str,
+    ) -> Result<Answer, AllocError>
+        ensures { IfOk result (λ answer. AnswersOne self.now.settings
+            (record { question = self.now.request.question; arguments = arguments.now }) text.now
+            (answer_of answer)) }
+    {
+        if is_blank(text.as_bytes()) {
             return fault(alloc, "blank", String::new(alloc));
         }
+        let request = TextRequest {
+            question: self.request.question,
+            arguments,
+        };
         match &self.settings {
-            Ok(settings) => answer_text(alloc, settings, self.request, text),
+            Ok(settings) => answer_text(alloc, settings, request, text),
             Err(bad) => bad_value(alloc, *bad),
         }
     }
 }
 
+/// The arguments behind NEW.
+fn with_new<'x>(
+    alloc: Global,
+    new: &'x str,
+    arguments: &[&'x str],
+) -> Result<Vec<&'x str>, AllocError>
+    ensures { IfOk result (λ all. texts all.items ≡ new.entry.now ∷ texts arguments.entry.now) }
+{
+    let mut all = vec![in alloc; new]?;
+    all.extend_from_slice(arguments)?;
+    Ok(all)
+}
+
 /// The key of a line, and the text after its tab. `None`: no tab is there, or a line feed before it.
 fn parted(line: &[u8]) -> Option<(&[u8], &[u8])>
-    ensures some { IfSome result (λ parts. (has_key line.now ≡ true) × (parts.0.now ≡ key_of line.now)
-        × (parts.1.now ≡ after_key line.now)) }
+    ensures some { IfSome result (λ parts. (has_key line.now ≡ true) × (parts.0.now ≡ before_tab line.now)
+        × (parts.1.now ≡ after_tab line.now)) }
     ensures none { IfNone result (has_key line.now ≡ false) }
 {
-    let len = key_len(line);
+    let len = tab_place(line);
     if len < line.len() && !line[..len].contains(&b'\n') {
         Some((&line[..len], &line[len + 1..]))
     } else {
@@ -162,13 +210,13 @@ fn parted(line: &[u8]) -> Option<(&[u8], &[u8])>
     }
 }
 
-/// How many bytes are before the first tab, or all if there is none.
-fn key_len(line: &[u8]) -> usize
-    ensures len { result ≡ key_len line.now }
+/// The place of the first tab, or the end.
+fn tab_place(line: &[u8]) -> usize
+    ensures place { result ≡ tab_place line.now }
     ensures within { result ≤ length line.now }
 {
-    let len = line.iter().position(|byte| *byte == b'\t');
-    len.unwrap_or(line.len())
+    let place = line.iter().position(|byte| *byte == b'\t');
+    place.unwrap_or(line.len())
 }
 
 /// Adds what follows each answer: an empty line, where an answer may have several lines.
@@ -253,7 +301,7 @@ pub fn answer_each<R: Read, W: Write>(
     let note = told_line(alloc, "standard input", "no line")?;
     let advice = advice_on_each(alloc, options, request)?;
     let question = LineQuestion {
-        has_keys: given.key,
+        given,
         style: options.style(),
         settings: options.settings(),
         request,

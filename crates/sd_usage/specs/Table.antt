@@ -10,7 +10,7 @@ use Rattle.sd_usage.specs.declared.row.Arguments.{Arguments}
 use Rattle.sd_usage.specs.declared.row.Arguments.TheVariants as arguments
 use Rattle.sd_usage.specs.declared.row.Command.{Command}
 use Rattle.sd_usage.specs.declared.row.Flag.{Flag}
-use Rattle.sd_usage.specs.declared.row.Flag.TheVariants.{Ids, Key, Zero}
+use Rattle.sd_usage.specs.declared.row.Flag.TheVariants.{Ids, Key, Pairs, Zero}
 use Rattle.sd_usage.specs.declared.row.Flags.{Flags}
 use Rattle.sd_usage.specs.declared.row.Flags.TheVariants as flags
 use Rattle.sd_usage.specs.declared.row.OptionName.{OptionName}
@@ -65,14 +65,16 @@ abbrev pub flag_name : Flag → List ℕ
 flag_name Ids = codes "--ids"
 flag_name Zero = codes "-0"
 flag_name Key = codes "--key"
+flag_name Pairs = codes "--pairs"
 
 -- the command's own option that the text names
 abbrev pub flag_in : Flags → List ℕ → Option Flag
 flag_in flags.Nothing text = None
 flag_in (flags.One flag) text = if bytes_eq (flag_name flag) text then Some flag else None
-flag_in (flags.Two first second) text =
+flag_in (flags.Three first second third) text =
     if bytes_eq (flag_name first) text then Some first
-    else (if bytes_eq (flag_name second) text then Some second else None)
+    else (if bytes_eq (flag_name second) text then Some second
+    else (if bytes_eq (flag_name third) text then Some third else None))
 
 abbrev pub flag_named : Command → List ℕ → Option Flag
 flag_named command text = flag_in command.flags text

@@ -73,7 +73,7 @@ flag_text flag = codes " [" ++ flag_name flag ++ codes "]"
 abbrev pub flags_text : Flags → List ℕ
 flags_text flags.Nothing = []
 flags_text (flags.One flag) = flag_text flag
-flags_text (flags.Two flag other) = flag_text flag ++ flag_text other
+flags_text (flags.Three first second third) = flag_text first ++ (flag_text second ++ flag_text third)
 
 abbrev pub argument_text : Argument → List ℕ
 argument_text argument = codes " <" ++ argument_name argument ++ codes ">"

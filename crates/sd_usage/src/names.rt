@@ -126,9 +126,9 @@ fn flags_text(alloc: Global, flags: Flags) -> Result<String, AllocError>
     match flags {
         Flags::Nothing => Ok(String::new(alloc)),
         Flags::One(flag) => flag_text(alloc, flag),
-        Flags::Two(flag, other) => {
-            let (flag, other) = (flag.name(), other.name());
-            let text = format!(in alloc; " [{flag}] [{other}]")?;
+        Flags::Three(first, second, third) => {
+            let (first, second, third) = (first.name(), second.name(), third.name());
+            let text = format!(in alloc; " [{first}] [{second}] [{third}]")?;
             Ok(text)
         }
     }

@@ -338,7 +338,10 @@ and a tab, so that answers can be joined with what their lines came from:
   /a<TAB>D:(A;;FR;;;WD)                /a<TAB>granted 0x120089
 A key is any text without a tab and a line feed. A line without one is answered by 'fault key'.
 
-'-0' and '--key' go between 'each' and COMMAND, all other options before 'each'. After COMMAND
+With '--pairs' a line is OLD and NEW of 'compare' or 'diff', with a tab between them, after its key.
+One without that tab is answered by 'fault pair'.
+
+'-0', '--key' and '--pairs' go between 'each' and COMMAND, all other options before 'each'. After COMMAND
 everything is an argument, except a first '--', which is dropped.
 
 Statuses:

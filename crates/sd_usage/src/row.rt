@@ -153,7 +153,7 @@ pub struct Command {
 pub enum Flags {
     Nothing,
     One(Flag),
-    Two(Flag, Flag),
+    Three(Flag, Flag, Flag),
 }
 
 /// A command's own option.
@@ -165,6 +165,8 @@ pub enum Flag {
     Zero,
     /// `--key`.
     Key,
+    /// `--pairs`.
+    Pairs,
 }
 
 /// The arguments that a command requires.
@@ -337,8 +339,9 @@ impl Command {
         ensures { result ≡ flag_named self text.now }
     {
         match self.flags {
-            Flags::One(flag) | Flags::Two(flag, _) if flag.name() == text => Some(flag),
-            Flags::Two(_, flag) if flag.name() == text => Some(flag),
+            Flags::One(flag) | Flags::Three(flag, _, _) if flag.name() == text => Some(flag),
+            Flags::Three(_, flag, _) if flag.name() == text => Some(flag),
+            Flags::Three(_, _, flag) if flag.name() == text => Some(flag),
             _ => None,
         }
     }
@@ -353,6 +356,7 @@ impl Flag {
             Flag::Ids => "--ids",
             Flag::Zero => "-0",
             Flag::Key => "--key",
+            Flag::Pairs => "--pairs",
         }
     }
 }

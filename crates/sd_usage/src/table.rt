@@ -210,7 +210,7 @@ printf 'open 1 O:BAG:SYD:\\naddo /a O:BAG:SYD:(A;;FR;;;WD)\\npublish\\ncheck 0 /
         "each",
         Command {
             name: CommandName::Each,
-            flags: Flags::Two(Flag::Zero, Flag::Key),
+            flags: Flags::Three(Flag::Zero, Flag::Key, Flag::Pairs),
             arguments: Arguments::One(Argument::Command),
             repeated: Some(Argument::CommandArgument),
         },

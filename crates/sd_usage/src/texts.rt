@@ -78,6 +78,7 @@ pub(crate) fn flag_help(flag: Flag) -> &'static str {
         Flag::Ids => "Each line begins with an id, and so does each line of its answer",
         Flag::Zero => "Lines end with zero bytes",
         Flag::Key => "Each line begins with a key and a tab, and so does each line of its answer",
+        Flag::Pairs => "Each line is OLD and NEW of 'compare' or 'diff', with a tab between them",
     }
 }
 

@@ -66,7 +66,7 @@ fn described<'a>(
         .override_usage(texts.usage.as_str())
         .after_help(texts.notes.as_str())
         .next_line_help(has_words);
-    for flag in [Flag::Ids, Flag::Zero, Flag::Key] {
+    for flag in [Flag::Ids, Flag::Zero, Flag::Key, Flag::Pairs] {
         if row.1.flag_named(flag.name()).is_some() {
             described = described.arg(own_option(alloc, flag))?;
         }
@@ -93,6 +93,7 @@ fn own_option(alloc: Global, flag: Flag) -> Arg<'static> {
         Flag::Ids => option.long("ids"),
         Flag::Zero => option.short('0'),
         Flag::Key => option.long("key"),
+        Flag::Pairs => option.long("pairs"),
     }
 }
 

@@ -13,7 +13,7 @@ returns-in-Err-clause-ok g c =
 pub returns-clause-ok : goal.returns-clause-ok
 returns-clause-ok g c =
     let same = ap texts c.deref-2.ensures.value ∙ c.in_ok-arguments.ensures ∙ ap (λ all. map string_bytes all) c.deref.ensures.value in
-    let named = subst (λ all. AreNamed (rows_of c.args.accounts.now) c.in-Ok.settings.aliases c.in-Ok.settings.logon c.args.request.question
+    let named = subst (λ all. AreNamed (rows_of c.args.accounts.now) c.in-Ok.settings.aliases c.in-Ok.settings.logon c.args.given.pairs c.args.request.question
     (texts c.args.request.arguments.now) all) (sym same) c.in_ok-own.ensures.arguments in (
       record { question = c.args.request.question; arguments = c.deref-2.result.now },
       inl (

@@ -1,5 +1,5 @@
 -- The question is asked with SIDs in the place of names, of all tokens and of people.
-use Rattle.std.proofs.Common.{Bor, List, ap, inl, map, option_map, refl, string_bytes, subst, sym, ◌∙◌, ℕ}
+use Rattle.std.proofs.Common.{Bor, List, ap, false, inl, map, option_map, refl, string_bytes, subst, sym, ◌∙◌, ℕ}
 use Rattle.sd_answer.specs.Word.{texts}
 use Rattle.sd_accounts.specs.Accounts.{rows_of}
 use Rattle.sd_commands.specs.Answer.{answer_of}
@@ -13,7 +13,7 @@ returns g c =
     let rows = rows_of c.args.accounts.now in
     let asks = c.args.request.question in
     let same = ap texts c.deref-3.ensures.value ∙ c.in_ok-arguments.ensures ∙ ap (λ all. map string_bytes all) c.deref.ensures.value in
-    let named = subst (λ all. AreNamed rows c.in-Ok.settings.aliases c.in-Ok.settings.logon asks (texts c.args.request.arguments.now) all)
+    let named = subst (λ all. AreNamed rows c.in-Ok.settings.aliases c.in-Ok.settings.logon false asks (texts c.args.request.arguments.now) all)
     (sym same) c.in_ok-own.ensures.arguments in
     let given = subst (λ own. IsGiven rows c.in-Ok.settings.aliases asks (option_map (λ (text : Bor (List ℕ)). text.now) c.args.text) own)
     (sym c.text.ensures) c.in_ok-own.ensures.text in
