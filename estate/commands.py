@@ -262,11 +262,12 @@ def review(arguments: argparse.Namespace, table: Table) -> int:
 def report(arguments: argparse.Namespace, table: Table) -> int:
     """The nodes of a script as a page, and what users of a file of accounts are granted as CSV."""
     _check_files(arguments)
-    names, title = read_names(arguments.names), arguments.title or arguments.script
+    accounts_too = [] if arguments.accounts is None else [arguments.accounts]
+    names, title = read_names(arguments.names + accounts_too), arguments.title or arguments.script
     with read_script(arguments.script) as script, _people(arguments, []) as people:
         matrix = None if people is None else Matrix(script, people)
         about = script.covered(())
-        count = Report(script, names, matrix).write(arguments.file, title)
+        count = Report(script, names, matrix).write(arguments.file, title, arguments.script)
         text, cells = f"{plural(count, 'node')} in {arguments.file}", _cells(None, nodes=count)
         if matrix is not None and arguments.matrix is not None:
             rows = matrix.write(arguments.matrix, about.gaps)

@@ -57,7 +57,6 @@
     return make("tr", {}, make("th", { scope: "row" }, linkTo(node)), ...cells);
   };
 
-  const counted = (count, what) => `${count.toLocaleString("en")} ${what}${count === 1 ? "" : "s"}`;
   const table = make("table", { "aria-labelledby": "people-title" });
   const under = make("p");
   let [words, columnCount, rowCount] = ["", COLUMNS_AT_ONCE, AT_ONCE];

@@ -54,18 +54,20 @@ def _ran(words: list[str], lines: Iterable[str] = ()) -> str:
     return asked.stdout
 
 
-def _each(words: list[str], texts: Iterable[str], option: str, end: str = "") -> dict[str, list[str]]:
+def _each(words: list[str], texts: Iterable[str], options: list[str], end: str = "") -> dict[str, list[str]]:
     """The lines that a command of `sdstore each` answers about each text, of which it is asked once; `end` is the line
     after each answer. No text is an option of the program: each is a line of its input."""
     distinct = list(dict.fromkeys(texts))
     ends = f"\n{end}\n"
-    answers = _ran([option, "each", *words], distinct).removesuffix(ends).split(ends) if distinct else []
+    answers = _ran([*options, "each", *words], distinct).removesuffix(ends).split(ends) if distinct else []
     return dict(zip(distinct, (answer.split("\n") for answer in answers), strict=True))
 
 
-def _each_object(words: list[str], texts: Iterable[str]) -> dict[str, list[dict[str, Any]]]:
+def _each_object(
+    words: list[str], texts: Iterable[str], options: tuple[str, ...] = ()
+) -> dict[str, list[dict[str, Any]]]:
     """The same as the objects of `--json`."""
-    answers = _each(words, texts, "--json", '{"text":""}')
+    answers = _each(words, texts, ["--json", *options], '{"text":""}')
     return {text: list(map(json.loads, lines)) for text, lines in answers.items()}
 
 
@@ -90,8 +92,14 @@ def lint(script: Script, table: Table) -> int:
 
 def findings_of(texts: Iterable[str]) -> dict[str, list[str]]:
     """What `sdstore --risks lint` finds about each text."""
-    found = _each(["lint"], texts, "--risks")
+    found = _each(["lint"], texts, ["--risks"])
     return {text: [line for line in lines if line != "clean"] for text, lines in found.items()}
+
+
+def kinds_of_findings(texts: Iterable[str]) -> dict[str, list[str]]:
+    """The kind of each of them, as docs/JSON.md names it."""
+    found = _each_object(["lint"], texts, ("--risks",))
+    return {text: [line["answer"] for line in lines if line["answer"] != "clean"] for text, lines in found.items()}
 
 
 # Groups that nobody gives

@@ -4,10 +4,10 @@ const data = JSON.parse(document.getElementById("data").textContent);
 const { sids, lists, nodes, accesses, changes } = data;
 // A node is [depth, name, isContainer, owner, group, list, files, access, differs], where `differs` says why the source
 // has another list, or nothing. A list is [kind, entries, findings], whose kind is 0 for one that inherits, 1 for a
-// protected one, 2 for a null one. An entry is [isDeny, rights, applies, isInherited, sid]. An access has who can read,
-// write and change permissions: each is a list of [subject, isOwner, unless], and a subject is a SID's number or a
-// word. A change is [node, differences], and a difference is [isGain, rights, by], where `by` is a token: a list of
-// [subject, state].
+// protected one, 2 for a null one. An entry is [isDeny, rights, applies, isInherited, sid], and a finding [kind, text],
+// whose kind is "null", "risk", "doubtful" or "tidy". An access has who can read, write and change permissions: each is
+// a list of [subject, isOwner, unless], and a subject is a SID's number or a word. A change is [node, differences], and
+// a difference is [isGain, rights, by], where `by` is a token: a list of [subject, state].
 const [DEPTH, NAME, CONTAINER, OWNER, GROUP, LIST, FILES, ACCESS, DIFFERS] = [0, 1, 2, 3, 4, 5, 6, 7, 8];
 const STATES = { deny: "for denies alone", restrict: "as a restricting SID" };
 const AT_ONCE = 200;
@@ -48,15 +48,41 @@ const pathOf = (index) => {
 const nameOf = (sid) => sids[sid][1] || sids[sid][0];
 const hasOwn = (list) => list[1].some((entry) => !entry[3]);
 
-// What stands beside a node's name: a word each, so that nothing is said by colour alone.
+const counted = (count, what) => `${count.toLocaleString("en")} ${what}${count === 1 ? "" : "s"}`;
+
+// What a node may be: what the summary calls such nodes, how grave that is, and what stands beside its name, or nothing
+// if it isn't so. Nothing is said by colour alone.
+const findingsOf = (index, kind) => lists[nodes[index][LIST]][2].filter((finding) => finding[0] === kind);
+const kindOf = (index) => lists[nodes[index][LIST]][0];
+const isUnknown = sids.map(([sid, name]) => data.named && sid.startsWith("S-1-5-21-") && name === "");
+const hasUnknown = lists.map((list) => list[1].some((entry) => !entry[3] && isUnknown[entry[4]]));
+const countedAs = (index, kind, what) => {
+  const { length } = findingsOf(index, kind);
+  return length ? what(length) : "";
+};
+const KINDS = {
+  null: ["without a DACL", "grave", (index) => (kindOf(index) === 2 ? "no DACL: everything is granted" : "")],
+  risk: ["open to many", "grave", (index) => countedAs(index, "risk", (count) => counted(count, "risk"))],
+  differs: ["with another list in the source", "warn",
+    (index) => (nodes[index][DIFFERS] ? "another list in the source" : "")],
+  doubtful: ["with doubtful entries", "warn",
+    (index) => countedAs(index, "doubtful", (count) => counted(count, "finding"))],
+  unknown: ["with accounts that have no name", "warn",
+    (index) => (isUnknown[nodes[index][OWNER]] || hasUnknown[nodes[index][LIST]] ? "unknown account" : "")],
+  blocked: ["with blocked inheritance", "", (index) => (kindOf(index) === 1 ? "inheritance blocked" : "")],
+  own: ["with entries of their own", "", (index) => (
+    parents[index] >= 0 && kindOf(index) === 0 && hasOwn(lists[nodes[index][LIST]]) ? "own entries" : "")],
+  tidy: ["to tidy up", "", (index) => countedAs(index, "tidy", (count) => `${count} to tidy up`)],
+};
+
+// How many nodes below each one are grave.
+const isGrave = (index) => Object.values(KINDS).some(([, grave, mark]) => grave === "grave" && mark(index));
+const below = nodes.map(() => 0);
+for (let index = nodes.length - 1; index > 0; index--) below[parents[index]] += below[index] + Number(isGrave(index));
+
 const marksOf = (index) => {
-  const list = lists[nodes[index][LIST]];
-  const marks = [];
-  if (list[0] === 2) marks.push(["null", "no DACL: everything is granted"]);
-  if (list[0] === 1) marks.push(["blocked", "inheritance blocked"]);
-  if (parents[index] >= 0 && list[0] === 0 && hasOwn(list)) marks.push(["own", "own entries"]);
-  if (list[2].length) marks.push(["lint", list[2].length === 1 ? "1 finding" : `${list[2].length} findings`]);
-  if (nodes[index][DIFFERS]) marks.push(["differs", "another list in the source"]);
+  const marks = Object.values(KINDS).map(([, grave, mark]) => [grave, mark(index)]).filter(([, mark]) => mark);
+  if (below[index]) marks.push(["grave", `${counted(below[index], "node")} at risk below`]);
   return marks;
 };
 
@@ -69,7 +95,7 @@ const itemOf = (index, position, size) => {
   const node = nodes[index];
   const name = parents[index] < 0 ? "/" : node[NAME];
   const marks = marksOf(index);
-  if (node[FILES]) marks.push(["files", `${node[FILES].toLocaleString("en")} files`]);
+  if (node[FILES]) marks.push(["files", counted(node[FILES], "file")]);
   const row = make("div", { class: "row" }, make("span", { class: "name" }, name));
   for (const [kind, text] of marks) row.append(make("span", { class: `mark ${kind}` }, text));
   const item = make("li", {
@@ -210,6 +236,10 @@ const accessOf = (access) => {
   return table;
 };
 
+const findingsIn = (title, findings) => (findings.length ? [
+  make("h3", {}, title), make("ul", {}, ...findings.map(([, text]) => make("li", {}, text))),
+] : []);
+
 const showNode = (index) => {
   const node = nodes[index];
   const list = lists[node[LIST]];
@@ -226,60 +256,18 @@ const showNode = (index) => {
   const details = make("dl");
   for (const [name, value] of facts) details.append(make("dt", {}, name), make("dd", {}, value));
   const parts = [details];
-  if (list[2].length) {
-    const findings = list[2].map((text) => make("li", {}, text));
-    parts.push(make("h3", { class: "lint" }, "Findings"), make("ul", {}, ...findings));
-  }
+  parts.push(...findingsIn("Findings", list[2].filter(([kind]) => kind !== "tidy")));
+  if (changesAt.has(index)) parts.push(changesOf(changesAt.get(index)));
   parts.push(accessOf(accesses[node[ACCESS]]));
   if (list[1].length) parts.push(tableOf(list));
   else if (list[0] !== 2) parts.push(make("p", {}, "The list is empty: nothing is granted, but to the owner."));
+  parts.push(...findingsIn("Tidy up", list[2].filter(([kind]) => kind === "tidy")));
   document.getElementById("details").replaceChildren(...parts);
 };
 
-// Search: a node is found by its path, its owner, and the entries that it has itself.
-const texts = sids.map(([sid, name]) => `${sid} ${name}`.toLowerCase());
-const find = (words, isMarked) => {
-  const known = texts.map((text) => words !== "" && text.includes(words));
-  const inList = lists.map((list) => list[1].some((entry) => !entry[3] && known[entry[4]]));
-  const found = [];
-  nodes.forEach((node, index) => {
-    if (isMarked && !marksOf(index).length) return;
-    const isNamed = words === "" || known[node[OWNER]] || inList[node[LIST]];
-    if (isNamed || pathOf(index).toLowerCase().includes(words)) found.push(index);
-  });
-  return found;
-};
-
-const search = () => {
-  const words = document.getElementById("words").value.trim().toLowerCase();
-  const isMarked = document.getElementById("marked").checked;
-  const results = document.getElementById("results");
-  results.hidden = words === "" && !isMarked;
-  if (results.hidden) return;
-  const found = find(words, isMarked);
-  const some = found.length > FOUND_AT_ONCE ? `, of which ${FOUND_AT_ONCE} are listed` : "";
-  document.getElementById("results-title").textContent = `${found.length.toLocaleString("en")} found${some}`;
-  document.getElementById("found").replaceChildren(...found.slice(0, FOUND_AT_ONCE).map((index) => {
-    const link = make("button", { type: "button" }, pathOf(index));
-    link.addEventListener("click", () => { const item = reveal(index); choose(item); focus(item); });
-    return make("li", {}, link);
-  }));
-};
-
-let waiting = 0;
-const soon = () => { clearTimeout(waiting); waiting = setTimeout(search, 150); };
-document.getElementById("words").addEventListener("input", soon);
-document.getElementById("marked").addEventListener("change", search);
-document.getElementById("search").addEventListener("submit", (event) => { event.preventDefault(); search(); });
-
-// The second page: what the changes of the script grant and take away.
-const tokenOf = (by) => by.map(([subject, state]) => (
-  subjectOf(subject) + (state ? ` (${STATES[state]})` : "")
-)).join(" and ");
-
 // What leads from another page to a node of the first one.
-const linkTo = (index) => {
-  const link = make("button", { type: "button" }, pathOf(index));
+const linkTo = (index, text = pathOf(index)) => {
+  const link = make("button", { type: "button" }, text);
   link.addEventListener("click", () => {
     openPage(false);
     const item = reveal(index);
@@ -287,17 +275,6 @@ const linkTo = (index) => {
     focus(item);
   });
   return link;
-};
-
-const changeOf = ([index, differences]) => {
-  const link = linkTo(index);
-  const heads = ["Change", "Rights", "For example a user who is"];
-  const table = make("table", {}, make("tr", {}, ...heads.map((text) => make("th", { scope: "col" }, text))));
-  for (const [isGain, rights, by] of differences) {
-    const kind = make("td", { class: isGain ? "own" : "lost" }, isGain ? "Gained" : "Lost");
-    table.append(make("tr", {}, kind, make("td", {}, rights), make("td", {}, tokenOf(by))));
-  }
-  return make("section", {}, make("h3", {}, link), table);
 };
 
 // Puts the first items into an element, and a button for more.
@@ -311,12 +288,71 @@ const addSome = (element, items, itemOf, from) => {
   }
 };
 
+// Search: a node is found by its path, its owner, and the entries that it has itself; or by whom it grants a right.
+const texts = sids.map(([sid, name]) => `${sid} ${name}`.toLowerCase());
+const find = (words, right, kind) => {
+  const known = texts.map((text) => words !== "" && text.includes(words));
+  const isSubject = (subject) => (typeof subject === "number" ? known[subject] : subject.includes(words));
+  const inList = lists.map((list) => list[1].some((entry) => !entry[3] && known[entry[4]]));
+  const inAccess = accesses.map((access) => right !== "" && access[right].some(([subject]) => isSubject(subject)));
+  const isFound = (node, index) => {
+    if (words === "") return true;
+    if (right !== "") return inAccess[node[ACCESS]];
+    return known[node[OWNER]] || inList[node[LIST]] || pathOf(index).toLowerCase().includes(words);
+  };
+  const found = [];
+  nodes.forEach((node, index) => {
+    if ((kind === null || KINDS[kind][2](index)) && isFound(node, index)) found.push(index);
+  });
+  return found;
+};
+
+const search = () => {
+  const words = document.getElementById("words").value.trim().toLowerCase();
+  const pressed = document.querySelector("#kinds [aria-pressed=true]");
+  const results = document.getElementById("results");
+  results.hidden = words === "" && pressed === null;
+  if (results.hidden) return;
+  const found = find(words, document.getElementById("right").value, pressed && pressed.dataset.kind);
+  const some = found.length > FOUND_AT_ONCE ? `, of which ${FOUND_AT_ONCE} are listed` : "";
+  document.getElementById("results-title").textContent = `${found.length.toLocaleString("en")} found${some}`;
+  const items = found.slice(0, FOUND_AT_ONCE).map((index) => make("li", {}, linkTo(index)));
+  document.getElementById("found").replaceChildren(...items);
+  document.getElementById("direct").hidden = document.getElementById("right").value === "";
+};
+
+let waiting = 0;
+const soon = () => { clearTimeout(waiting); waiting = setTimeout(search, 150); };
+document.getElementById("words").addEventListener("input", soon);
+document.getElementById("right").addEventListener("change", search);
+document.getElementById("search").addEventListener("submit", (event) => { event.preventDefault(); search(); });
+
+// The summary: how many nodes are of each kind, and a press lists them.
+const kindButton = (kind) => {
+  const [text, grave, mark] = KINDS[kind];
+  const count = nodes.filter((_, index) => mark(index)).length;
+  const button = make("button", { type: "button", class: count ? grave : "", "aria-pressed": "false" },
+    make("strong", {}, count.toLocaleString("en")), ` ${text}`);
+  button.disabled = count === 0;
+  button.dataset.kind = kind;
+  button.addEventListener("click", () => {
+    const isPressed = button.getAttribute("aria-pressed") === "true";
+    for (const other of document.querySelectorAll("#kinds button")) other.setAttribute("aria-pressed", "false");
+    button.setAttribute("aria-pressed", String(!isPressed));
+    search();
+  });
+  return make("li", {}, button);
+};
+
+document.getElementById("made").textContent = data.made;
+document.getElementById("sum").textContent = data.sum;
+const kinds = Object.keys(KINDS).filter((kind) => kind !== "unknown" || data.named);
+document.getElementById("kinds").append(...kinds.map(kindButton));
+
 // What the source has otherwise, above both pages: a gap is [node or -1, path, why].
 const gapOf = ([index, path, why]) => {
   if (index < 0) return make("p", {}, `${path}: ${why}`);
-  const link = make("button", { type: "button" }, path);
-  link.addEventListener("click", () => { openPage(false); const item = reveal(index); choose(item); focus(item); });
-  return make("p", {}, link, `: ${why}`);
+  return make("p", {}, linkTo(index, path), `: ${why}`);
 };
 
 if (data.gaps.length) {
@@ -325,29 +361,4 @@ if (data.gaps.length) {
   addSome(part.querySelector("div"), data.gaps, gapOf, 0);
 }
 
-const openPage = (isOfChanges) => {
-  document.getElementById("changes-page").hidden = !isOfChanges;
-  document.getElementById("folders-page").hidden = isOfChanges;
-  document.getElementById("search").hidden = isOfChanges;
-  const [current, other] = isOfChanges ? ["to-changes", "to-folders"] : ["to-folders", "to-changes"];
-  document.getElementById(current).setAttribute("aria-current", "page");
-  document.getElementById(other).removeAttribute("aria-current");
-};
 
-if (data.changed) {
-  const [changed, count] = [data.changed, changes.length].map((number) => number.toLocaleString("en"));
-  document.getElementById("pages").hidden = false;
-  document.getElementById("changes-sum").textContent =
-    `${changed} nodes have another descriptor; on ${count} of them somebody gains or loses rights.`;
-  document.getElementById("to-folders").addEventListener("click", () => openPage(false));
-  document.getElementById("to-changes").addEventListener("click", () => openPage(true));
-  addSome(document.getElementById("changes"), changes, changeOf, 0);
-}
-
-document.getElementById("sum").textContent = data.sum;
-tree.append(itemOf(0, 1, 1));
-setOpen(items.get(0), true);
-current = items.get(0);
-current.tabIndex = 0;
-choose(current);
-document.documentElement.dataset.ready = String(Math.round(performance.now()));

@@ -5,6 +5,9 @@ import base64
 import hashlib
 import html
 import json
+import os
+import time
+from collections.abc import Iterable
 from dataclasses import dataclass, field
 from pathlib import Path as File
 from typing import Any
@@ -13,9 +16,10 @@ from hudarin import Sid, mask
 
 from gaps import Gap
 from matrix import Matrix
+from names import WELL_KNOWN
 from numbering import Numbers
 from paths import Path, spelled
-from questions import Difference, Grant, findings_of, grants_of, reviewed
+from questions import Difference, Grant, findings_of, grants_of, kinds_of_findings, reviewed
 from rights import NAMED, in_words
 from script import Script
 from sddl import Entry, Parts, parts_of
@@ -25,6 +29,11 @@ from atomic_file import atomic_file
 _HERE = File(__file__).resolve().parent
 #: What is asked about each node, in the order in which the page shows it: read, write, change permissions.
 _ASKED = (0x1, 0x2, 0x40000)
+#: The findings that open a node to many, and those that nobody need hurry to mend; any other is doubtful.
+_KINDS = {"no DACL": "null", "null DACL": "null", "risky grant": "risk", "risky grant below": "risk"}
+_KINDS |= dict.fromkeys(("no right", "not inherited", "repeated", "no effect"), "tidy")
+#: The parts of the page's script, in their order.
+_SCRIPT = ("report", "changes", "start")
 
 
 @dataclass(slots=True)
@@ -40,8 +49,8 @@ class Report:
     _made: list[list[Any]] = field(default_factory=list)
     _accesses: Numbers = field(default_factory=Numbers)
 
-    def write(self, name: str, title: str) -> int:
-        """Writes the report, and returns how many nodes it has."""
+    def write(self, name: str, title: str, source: str) -> int:
+        """Writes the report on the source, and returns how many nodes it has."""
         numbers = {path: number for number, path in enumerate(sorted(self.script.nodes))}
         nodes = self._nodes(list(numbers))
         folders = sum(node.is_container for node in self.script.nodes.values())
@@ -50,6 +59,8 @@ class Report:
         about = self.script.covered(())
         changes = self._changes(numbers)
         data: dict[str, Any] = {
+            "made": f"Made {_now()} of {safe(source)}",
+            "named": bool(self.names),
             "sum": f"{', '.join(said)}: {about.text}",
             "nodes": nodes,
             "lists": self._made,
@@ -66,7 +77,7 @@ class Report:
 
     def _nodes(self, paths: list[Path]) -> list[list[Any]]:
         texts = {path: self.script.descriptor(path) for path in paths}
-        findings = findings_of(texts.values())
+        findings = _findings(texts.values())
         grants = [grants_of(texts.values(), rights) for rights in _ASKED]
         differing = {gap.path: gap.why for gap in self.script.gaps if gap.what == "differs"}
         nodes: list[list[Any]] = []
@@ -100,9 +111,9 @@ class Report:
         return self._sids.of(Sid.from_text(text).full)
 
     def _named(self) -> list[list[str]]:
-        return [[sid, safe(self.names.get(sid, ""))] for sid in self._sids.numbers]
+        return [[sid, safe(self.names.get(sid, WELL_KNOWN.get(sid, "")))] for sid in self._sids.numbers]
 
-    def _list(self, text: str, parts: Parts, findings: list[str]) -> int:
+    def _list(self, text: str, parts: Parts, findings: list[tuple[str, str]]) -> int:
         number = self._lists.get(text)
         if number is None:
             number = self._lists[text] = len(self._made)
@@ -117,8 +128,8 @@ class Report:
         return [int(entry.kind == "D"), named, _applies(entry), int(entry.is_inherited), self._sid(sid)]
 
     def _put(self, name: str, title: str, data: dict[str, Any]) -> None:
-        parts = ("report",) if self.matrix is None else ("report", "matrix")
-        style, script = (_joined(parts, kind) for kind in ("css", "js"))
+        more = () if self.matrix is None else ("matrix",)
+        style, script = _joined(("report", *more), "css"), _joined((*_SCRIPT, *more), "js")
         page = (_HERE / "report.html").read_text("utf-8")
         digest = base64.b64encode(hashlib.sha256(script.encode()).digest()).decode()
         # ('<' ends the element that has the data, wherever it is)
@@ -134,6 +145,20 @@ class Report:
 def _joined(parts: tuple[str, ...], kind: str) -> str:
     """The files of this kind, one after the other."""
     return "".join((_HERE / f"{part}.{kind}").read_text("utf-8") for part in parts)
+
+
+def _findings(texts: Iterable[str]) -> dict[str, list[tuple[str, str]]]:
+    """What is found about each text: as what, and in words."""
+    distinct = list(dict.fromkeys(texts))
+    said, kinds = findings_of(distinct), kinds_of_findings(distinct)
+    grave = {text: [_KINDS.get(kind, "doubtful") for kind in found] for text, found in kinds.items()}
+    return {text: list(zip(grave[text], said[text], strict=True)) for text in distinct}
+
+
+def _now() -> str:
+    """The time, or that of SOURCE_DATE_EPOCH, by which what is made twice has the same bytes."""
+    seconds = os.environ.get("SOURCE_DATE_EPOCH", "")
+    return time.strftime("%Y-%m-%d %H:%M UTC", time.gmtime(int(seconds) if seconds.isdecimal() else None))
 
 
 def _gap(gap: Gap, numbers: dict[Path, int]) -> list[Any]:

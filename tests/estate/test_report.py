@@ -3,7 +3,8 @@
 import unittest
 
 import chromium
-from rig import Case, needs_program
+from rig import TOP, Case, needs_program
+from names import WELL_KNOWN
 
 USER = "S-1-5-21-1-2-3-1001"
 OTHER = "S-1-5-21-1-2-3-1002"
@@ -43,6 +44,14 @@ class Report(Case):
     def items(self, page: chromium.Page) -> list[str]:
         return list(page.value("shown().map((item) => item.querySelector('.row').innerText)"))
 
+    def to_tree(self, page: chromium.Page) -> None:
+        """Presses Tab until an item of the tree has the focus."""
+        for _ in range(20):
+            page.key("Tab")
+            if page.value("document.activeElement.getAttribute('role')") == "treeitem":
+                return
+        self.fail("no Tab leads to the tree")
+
     def focused(self, page: chromium.Page) -> str:
         return str(page.value("document.activeElement.querySelector('.name').textContent"))
 
@@ -57,7 +66,7 @@ class Report(Case):
 
     def test_the_tree_by_keys(self) -> None:
         page = self.small()
-        page.key("Tab", "Tab", "Tab", "Tab")
+        self.to_tree(page)
         self.assertEqual(self.focused(page), "/")
         self.assertEqual(len(self.items(page)), 3)
         page.key("ArrowDown", "ArrowRight", "ArrowRight")
@@ -74,24 +83,25 @@ class Report(Case):
 
     def test_what_a_node_shows(self) -> None:
         page = self.small()
-        page.key("Tab", "Tab", "Tab", "Tab", "ArrowDown", "ArrowRight", "Enter")
+        self.to_tree(page)
+        page.key("ArrowDown", "ArrowRight", "Enter")
         marks = [text.split("\n")[1:] for text in self.items(page)]
         self.assertEqual(
             marks,
             [
-                ["inheritance blocked"],
-                ["own entries", "2 findings"],
+                ["inheritance blocked", "1 node at risk below"],
+                ["own entries", "2 to tidy up", "1 node at risk below"],
                 ["inheritance blocked", "1,204 files"],
-                ["no DACL: everything is granted", "1 finding"],
+                ["no DACL: everything is granted"],
                 [],
             ],
         )
         self.assertEqual(
             self.rows(page, "#details table:first-of-type"),
             [
-                "Read\tS-1-5-32-544\nCORP\\alice",
-                'Write\tS-1-5-32-544 unless in CORP\\</script><img src=x onerror="alert(1)">',
-                "Change permissions\tS-1-5-32-544 as the owner",
+                "Read\tBUILTIN\\Administrators\nCORP\\alice",
+                'Write\tBUILTIN\\Administrators unless in CORP\\</script><img src=x onerror="alert(1)">',
+                "Change permissions\tBUILTIN\\Administrators as the owner",
             ],
         )
         rows = self.rows(page, "#details table:last-of-type")
@@ -101,7 +111,7 @@ class Report(Case):
             rows[4].split("\t"),
             ["Allow", f"CORP\\alice\n{USER}\n", "read and execute", "this, folders and files", "inherited"],
         )
-        self.assertIn("repeats entry 1", page.value("document.querySelector('#details ul').innerText"))
+        self.assertIn("repeats entry 1", page.value("document.querySelector('#details > ul').innerText"))
 
     def rows(self, page: chromium.Page, table: str) -> list[str]:
         texts = page.value(f"[...document.querySelectorAll('{table} tr')].map((row) => row.innerText.trim())")
@@ -138,23 +148,31 @@ class Report(Case):
         change = f"dacl /plain D:(D;OICI;0x2;;;{OTHER})(A;OICI;0x1200a9;;;BU)\nprotect /%3Cb%3E%0A\npublish\n"
         page = self.page(SCRIPT + change, "--names", "names")
         page.value("document.getElementById('to-changes').click()")
-        titles = page.value("[...document.querySelectorAll('#changes h3')].map((one) => one.innerText)")
-        self.assertEqual(titles, ["/plain", "/plain/file"])
         self.assertEqual(
             page.value("document.getElementById('changes-sum').innerText"),
             "3 nodes have another descriptor; on 2 of them somebody gains or loses rights.",
         )
         other = 'CORP\\</script><img src=x onerror="alert(1)">'
         self.assertEqual(
-            self.rows(page, "#changes section:first-child"),
+            page.value("[...document.querySelectorAll('#changes summary')].map((one) => one.innerText)"),
             [
-                "Change\tRights\tFor example a user who is",
-                "Gained\tread and execute\tS-1-5-32-545",
-                f"Lost\twrite or add files\tS-1-5-32-544 and {other} (for denies alone)",
+                "A user who is BUILTIN\\Users gains read and execute on 2 nodes",
+                f"A user who is BUILTIN\\Administrators and {other} (for denies alone) loses write or add files on 2 nodes",
             ],
         )
-        page.value("document.querySelectorAll('#changes h3 button')[1].click()")
+        page.value("document.querySelector('#changes summary').click()")
+        links = page.value("[...document.querySelectorAll('#changes [open] button')].map((one) => one.innerText)")
+        self.assertEqual(links, ["/plain", "/plain/file"])
+        page.value("document.querySelectorAll('#changes [open] button')[1].click()")
         self.assertEqual(self.focused(page), "file")
+        self.assertEqual(
+            self.rows(page, "#details table:first-of-type"),
+            [
+                "Change\tRights\tFor example a user who is",
+                "Gained\tread and execute\tBUILTIN\\Users",
+                f"Lost\twrite or add files\tBUILTIN\\Administrators and {other} (for denies alone)",
+            ],
+        )
         self.assertEqual(page.faults(), [])
 
     def test_the_search(self) -> None:
@@ -162,13 +180,80 @@ class Report(Case):
         page = self.small()
         for words, found in (("alice", ["/"]), (OTHER, ["/<b>\\n", "/<b>\\n/none"]), ("PLAIN/", ["/plain/file"])):
             page.value(f"document.getElementById('words').value = {words!r}; search()")
-            self.assertEqual(
-                page.value("[...document.querySelectorAll('#found button')].map((one) => one.textContent)"), found
-            )
+            self.assertEqual(self.found(page), found)
         page.value("document.querySelector('#found button').click()")
         self.assertEqual(self.focused(page), "file")
-        page.value("document.getElementById('words').value = ''; document.getElementById('marked').click()")
-        self.assertEqual(page.value("document.getElementById('results-title').textContent"), "5 found")
+
+    def test_whom_a_right_is_granted_to(self) -> None:
+        """By the names that the lines of `sdstore who` have, and the page says so: a group's members aren't found."""
+        page = self.small()
+        for words, right, found in (
+            ("alice", 0, ["/", "/<b>\\n", "/plain", "/plain/file"]),
+            ("alice", 1, []),
+            ("everyone", 1, ["/<b>\\n/none"]),
+        ):
+            page.value(f"document.getElementById('right').value = {right}")
+            page.value(f"document.getElementById('words').value = {words!r}; search()")
+            self.assertEqual(self.found(page), found)
+            self.assertFalse(page.value("document.getElementById('direct').hidden"))
+
+    def found(self, page: chromium.Page) -> list[str]:
+        return list(page.value("[...document.querySelectorAll('#found button')].map((one) => one.textContent)"))
+
+    def test_the_summary(self) -> None:
+        """When and of what it was made, and how many nodes are of each kind; a press lists them, another one doesn't."""
+        page = self.small()
+        made = page.value("document.getElementById('made').textContent")
+        self.assertRegex(made, r"\AMade \d{4}-\d\d-\d\d \d\d:\d\d UTC of script\Z")
+        self.assertEqual(
+            page.value("[...document.querySelectorAll('#kinds button')].map((one) => one.textContent)"),
+            [
+                "1 without a DACL",
+                "0 open to many",
+                "1 with another list in the source",
+                "0 with doubtful entries",
+                "0 with accounts that have no name",
+                "2 with blocked inheritance",
+                "1 with entries of their own",
+                "1 to tidy up",
+            ],
+        )
+        press = "document.querySelector('#kinds [data-kind=blocked]').click()"
+        page.value(press)
+        self.assertEqual(self.found(page), ["/", "/<b>\\n/in"])
+        page.value(press)
+        self.assertTrue(page.value("document.getElementById('results').hidden"))
+        self.assertEqual(page.faults(), [])
+
+    def test_risks_and_unknown_accounts(self) -> None:
+        """An account of a domain without a name is counted only where names are given; a risk also in the folders above."""
+        script = f"""\
+open 1 O:BAG:SYD:P(A;OICI;FA;;;BA)
+import container /a O:BAG:SYD:(A;OICIID;FA;;;BA)
+import container /a/b O:BAG:SYD:(A;OICI;0x1301bf;;;AU)(A;OICI;FR;;;{USER})(A;OICIID;FA;;;BA)
+# rows	0
+publish
+"""
+        self.write("names", f"{OTHER} CORP\\other\n")
+        page = self.page(script, "--names", "names")
+        page.value("setOpen(items.get(1), true)")
+        self.assertEqual(
+            [text.split("\n")[1:] for text in self.items(page)],
+            [
+                ["inheritance blocked", "1 node at risk below"],
+                ["1 node at risk below"],
+                ["6 risks", "unknown account", "own entries"],
+            ],
+        )
+        self.assertNotIn("no name", self.page(script).value("document.getElementById('kinds').textContent"))
+
+    def test_a_narrow_window_and_paper(self) -> None:
+        page = self.small()
+        page.ask("Emulation.setDeviceMetricsOverride", width=400, height=800, deviceScaleFactor=1, mobile=True)
+        page.value("document.getElementById('left-out').open = true; setOpen(items.get(1), true)")
+        self.assertLessEqual(page.value("document.documentElement.scrollWidth"), 400)
+        page.ask("Emulation.setEmulatedMedia", media="print")
+        self.assertEqual(page.value("getComputedStyle(document.getElementById('search')).display"), "none")
 
     def test_what_is_read_aloud(self) -> None:
         """The browser's own tree for screen readers has names and levels of items, and of fields."""
@@ -177,9 +262,11 @@ class Report(Case):
         said = {(node["role"]["value"], node.get("name", {}).get("value", "")) for node in nodes if not node["ignored"]}
         for wanted in (
             ("tree", "Folders"),
-            ("treeitem", "/, inheritance blocked"),
-            ("treeitem", "<b>\\n, own entries, 2 findings"),
-            ("searchbox", "Search names, SIDs and paths"),
+            ("treeitem", "/, inheritance blocked, 1 node at risk below"),
+            ("treeitem", "<b>\\n, own entries, 2 to tidy up, 1 node at risk below"),
+            ("searchbox", "Search"),
+            ("combobox", "Where to search"),
+            ("button", "1 without a DACL"),
             ("columnheader", "Rights"),
             ("heading", "/"),
         ):
@@ -208,6 +295,14 @@ class Report(Case):
         ready = page.value("document.documentElement.dataset.ready")
         print(f"a report of {FOLDERS:,} folders opens in {ready} ms, with {seconds:.2f} s of a processor")
         self.assertLess(seconds, SECONDS)
+
+
+class Names(unittest.TestCase):
+    def test_what_windows_has_everywhere(self) -> None:
+        """The names that need no file are those of the program."""
+        table = (TOP / "crates/sd_named/src/well_known.rt").read_text("utf-8").replace("\\\\", "\\")
+        rows = (line.split(" ", 2) for line in table.splitlines() if line.startswith(("group ", "user ")))
+        self.assertEqual(WELL_KNOWN, {sid: name for _, sid, name in rows})
 
 
 def contrast(*colours: str) -> float:
