@@ -192,15 +192,12 @@ def review(script: Script, path_text: str, words: list[str], table: Table) -> in
 
 def reviewed(script: Script, words: list[str]) -> Iterator[tuple[Path, list[Difference]]]:
     """Each node on which a user gains or loses rights, by `sdstore compare`, in the order of the paths."""
-    changes = list(script.changes())
-    olds: dict[str, list[str]] = {}
-    for change in changes:
-        olds.setdefault(change.after, []).append(change.before)
-    answers = {new: _each_object(["compare", "--", new, *words], texts) for new, texts in olds.items()}
-    for change in changes:
-        lines = [line for line in answers[change.after][change.before] if line.get("answer") not in _OF_NO_NODE]
+    pairs = {change.path: f"{change.before}\t{change.after}" for change in script.changes()}
+    answers = _each_object(["--pairs", "compare", "--", *words], pairs.values())
+    for path, pair in pairs.items():
+        lines = [line for line in answers[pair] if line.get("answer") not in _OF_NO_NODE]
         if lines:
-            yield change.path, list(map(_difference, lines))
+            yield path, list(map(_difference, lines))
 
 
 def _difference(line: dict[str, Any]) -> Difference:
