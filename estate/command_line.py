@@ -5,6 +5,7 @@ import os
 import sys
 from collections.abc import Callable, Sequence
 
+import asking
 import commands
 from errors import EstateError
 from names import read_names, shown_by
@@ -14,8 +15,8 @@ _DESCRIPTION = "Reads the descriptors of file systems into scripts for sdstore, 
 _END = """\
 statuses: 0 done, and an answer leaves nothing out; 1 a node is skipped by read, has a finding, gains or loses rights,
 denies them, or forbids the write, or an account may be missing; 2 invalid arguments or input; 3 a read or write failed;
-4 the answer, or the write, leaves nodes out, which rows name. The table is on standard output, messages are on standard
-error."""
+4 the answer, or the write, leaves nodes out, which rows name; of ask that of the worst answer. The table
+is on standard output, messages are on standard error."""
 
 
 def main(words: Sequence[str] | None = None) -> int:
@@ -64,8 +65,12 @@ def _parser() -> argparse.ArgumentParser:
     _add_journal(command("undo", commands.undo, "restore what a write replaced"))
     lint = command("lint", commands.lint, "print what is doubtful in the lists of a script's nodes")
     lint.add_argument("script", metavar="SCRIPT")
-    _add_who(command("who", commands.who, "print whom a node grants rights, of all possible users"))
-    _add_find(command("find", commands.find, "print the nodes at and below a path that grant a user rights"))
+    _add_who(command("who", asking.who, "print whom a node grants rights, of all possible users"))
+    _add_find(command("find", asking.find, "print the nodes at and below a path that grant a user rights"))
+    ask = command("ask", asking.ask, "answer each line of standard input, a question as who and find take it")
+    ask.add_argument("script", metavar="SCRIPT")
+    _add_only_given(ask)
+    _add_people(ask)
     _add_why(command("why", commands.why, "print whether a node of a volume grants a user rights, by all that it has"))
     _add_review(command("review", commands.review, "print what a script's changes grant and take away, node by node"))
     report = command("report", commands.report, "write a page of a script's folders, as they are after its changes")

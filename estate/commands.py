@@ -4,7 +4,6 @@ import argparse
 import dataclasses
 import os
 from collections.abc import Callable, Iterable
-from contextlib import AbstractContextManager, nullcontext
 
 from hudarin import Descriptor, Refused, Sid
 
@@ -12,6 +11,8 @@ import accounts as accounts_file
 import icacls as icacls_file
 import people as people_of
 import questions
+from answers import LEFT_OUT, answered, counts_of, of_users, people_in
+from asking import asking_as
 from errors import Invalid, Stopped
 from forms import Attribute
 from gaps import Coverage
@@ -19,20 +20,17 @@ from journal import Journal, Step, locked_journal, write_journal
 from matrix import Matrix
 from names import read_names
 from paths import spelled
-from people import People, require_own_groups
+from people import require_own_groups
 from planning import Leave, Plan
 from progress import Progress
 from report import Report
 from reading import MAX_SCRIPT_BYTES, Counts, Reading
 from script import Script, read_script
-from table import Cell, Table, plural, say
+from table import Table, plural, say
 from texts import Assumed, TextFile
 from volumes import Volume
 from atomic_file import atomic_file
 from writing import Move, apply, backward, check_target, forward
-
-#: The status of a command that leaves nodes out, whatever else it found: its rows name them.
-LEFT_OUT = 4
 
 ATTRIBUTES = {"ntfs": Attribute.NTFS, "samba": Attribute.SAMBA}
 
@@ -107,7 +105,7 @@ def plan(arguments: argparse.Namespace, table: Table) -> int:
             count += 1
             table.row("change", {"path": spelled(change.path), "before": change.before, "after": change.after})
         about = Coverage(count, script.gaps_of_changes(()))
-    return _answered(table, "planned", f"{plural(count, 'node')} of the script would change", {"nodes": count}, about)
+    return answered(table, "planned", f"{plural(count, 'node')} of the script would change", {"nodes": count}, about)
 
 
 def _planned(script: Script, volume: Volume, arguments: argparse.Namespace, table: Table) -> Plan:
@@ -170,93 +168,37 @@ def _by_journal(
     return 0
 
 
-def _answered(
-    table: Table, what: str, text: str, cells: dict[str, Cell], about: Coverage, status: int = 0
-) -> int:
-    """The end of an answer: a row for each node of the source that it isn't about, how many nodes it is about, and the
-    status."""
-    for gap in about.gaps:
-        table.row(gap.what, gap.cells)
-    table.end(what, f"{text}; {about.text}", cells | about.cells)
-    return LEFT_OUT if about.gaps else status
-
-
 def lint(arguments: argparse.Namespace, table: Table) -> int:
     """Findings about the lists of a script's nodes."""
     with read_script(arguments.script) as script:
         count = questions.lint(script, table)
         about = script.covered(())
-    return _answered(table, "linted", plural(count, "finding"), {"findings": count}, about, 1 if count else 0)
-
-
-def who(arguments: argparse.Namespace, table: Table) -> int:
-    """Whom a node grants rights, of all possible users, and of those of a file of accounts."""
-    with read_script(arguments.script) as script, _people(arguments, arguments.words) as people:
-        path = questions.node_of(script, arguments.path)
-        assumed = questions.assumed_groups(arguments.words, arguments.only_given, table)
-        count = questions.who(script, arguments.path, [arguments.mask, *arguments.words, *assumed], table)
-        users = None if people is None else people_of.who(script, path, arguments.mask, people, table)
-        about = Coverage(1, script.gaps_at(path))
-    text = f"{plural(count, 'line')}{_of_users(users)}"
-    return _answered(table, "answered", text, _cells(users, lines=count), about)
-
-
-def _people(arguments: argparse.Namespace, words: list[str]) -> AbstractContextManager[People | None]:
-    """The users of the file of accounts, if there is one: no argument gives or takes groups of theirs then."""
-    if arguments.accounts is None:
-        return nullcontext()
-    require_own_groups(words, getattr(arguments, "only_given", False))
-    return People(arguments.accounts)
-
-
-def _of_users(count: int | None) -> str:
-    """How many users an answer is about, in words, if there is a file of accounts."""
-    return "" if count is None else f", {plural(count, 'user')} of the accounts"
-
-
-def _cells(users: int | None, **counts: Cell) -> dict[str, Cell]:
-    """The counts of an answer, and of its users if there is a file of accounts."""
-    return counts if users is None else {**counts, "users": users}
-
-
-def _asking(arguments: argparse.Namespace, table: Table) -> list[str]:
-    """The user, the rights, and what the user has: the groups of its account, or those that are assumed."""
-    user, words = arguments.user, arguments.words
-    with _people(arguments, words) as people:
-        if people is not None:
-            own, *groups = (sid.full for sid in people.sids(user))
-            return [own, arguments.mask, *groups, *words]
-    assumed = questions.assumed_groups([user, *words], arguments.only_given, table)
-    return [user, arguments.mask, *words, *assumed]
-
-
-def find(arguments: argparse.Namespace, table: Table) -> int:
-    """The nodes that grant a user rights."""
-    with read_script(arguments.script) as script:
-        about = script.covered(questions.node_of(script, arguments.path))
-        count = questions.find(script, arguments.path, _asking(arguments, table), table)
-    return _answered(table, "found", plural(count, "node"), {"nodes": count}, about)
+    return answered(table, "linted", plural(count, "finding"), {"findings": count}, about, 1 if count else 0)
 
 
 def why(arguments: argparse.Namespace, table: Table) -> int:
     """Whether a node of a volume grants a user rights, by the descriptor that the disk has, and for which reasons."""
     with _volume(arguments.folder, arguments) as volume:
         text = questions.text_on(volume, arguments.path)
-    is_granted = questions.why(text, arguments.path, _asking(arguments, table), table)
+    with people_in(arguments.accounts) as people:
+        words = asking_as(arguments.user, arguments.mask, arguments.words, people, arguments.only_given, table)
+    is_granted = questions.why(text, arguments.path, words, table)
     text = "granted" if is_granted else "denied"
-    return _answered(table, "answered", text, {"granted": int(is_granted)}, Coverage(1, []), 0 if is_granted else 1)
+    return answered(table, "answered", text, {"granted": int(is_granted)}, Coverage(1, []), 0 if is_granted else 1)
 
 
 def review(arguments: argparse.Namespace, table: Table) -> int:
     """What a script's changes grant and take away, of all possible users, and of those of a file of accounts."""
-    with read_script(arguments.script) as script, _people(arguments, arguments.words) as people:
+    if arguments.accounts is not None:
+        require_own_groups(arguments.words, False)
+    with read_script(arguments.script) as script, people_in(arguments.accounts) as people:
         path = questions.node_of(script, arguments.path)
         changed = sum(change.path[: len(path)] == path for change in script.changes())
         about = Coverage(changed, script.gaps_of_changes(path))
         count = questions.review(script, arguments.path, arguments.words, table)
         users = None if people is None else people_of.review(script, path, people, table)
-    text = f"{plural(count, 'node')} where somebody gains or loses rights{_of_users(users)}"
-    return _answered(table, "reviewed", text, _cells(users, nodes=count), about, 1 if count or users else 0)
+    text = f"{plural(count, 'node')} where somebody gains or loses rights{of_users(users)}"
+    return answered(table, "reviewed", text, counts_of(users, nodes=count), about, 1 if count or users else 0)
 
 
 def report(arguments: argparse.Namespace, table: Table) -> int:
@@ -264,17 +206,17 @@ def report(arguments: argparse.Namespace, table: Table) -> int:
     _check_files(arguments)
     accounts_too = [] if arguments.accounts is None else [arguments.accounts]
     names, title = read_names(arguments.names + accounts_too), arguments.title or arguments.script
-    with read_script(arguments.script) as script, _people(arguments, []) as people:
+    with read_script(arguments.script) as script, people_in(arguments.accounts) as people:
         matrix = None if people is None else Matrix(script, people)
         about = script.covered(())
         count = Report(script, names, matrix).write(arguments.file, title, arguments.script)
-        text, cells = f"{plural(count, 'node')} in {arguments.file}", _cells(None, nodes=count)
+        text, cells = f"{plural(count, 'node')} in {arguments.file}", counts_of(None, nodes=count)
         if matrix is not None and arguments.matrix is not None:
             rows = matrix.write(arguments.matrix, about.gaps)
             text, cells = f"{text}, {plural(rows, 'node')} in {arguments.matrix}", cells | {"rows": rows}
     if matrix is not None:
         about = Coverage(about.nodes, about.gaps + matrix.cut)
-    return _answered(table, "written", text, cells, about)
+    return answered(table, "written", text, cells, about)
 
 
 def _check_files(arguments: argparse.Namespace) -> None:

@@ -1,6 +1,6 @@
 """The users of a file of accounts: what descriptors grant each of them, by the groups that it really has."""
 
-from collections.abc import Iterator
+from collections.abc import Iterable, Iterator
 from functools import cached_property, reduce
 from itertools import product
 from operator import or_
@@ -62,7 +62,7 @@ def differing(before: Rights, after: Rights) -> dict[int, tuple[int, int]]:
     return dict(sorted(found.items()))
 
 
-def require_own_groups(words: list[str], only_given: bool) -> None:
+def require_own_groups(words: Iterable[str], only_given: bool) -> None:
     """Invalid if an argument beside a file of accounts gives users other groups than they have by it."""
     if only_given:
         raise Invalid("--only-given: by --accounts each user has the groups of a logon: leave out one of both")
@@ -217,6 +217,7 @@ def review(script: Script, top: Path, people: People, table: Table) -> int:
 
 
 def _say_differences(table: Table, path: Path, people: People, differences: dict[int, tuple[int, int]]) -> None:
+    """A row for what each user gains at a node, and one for what it loses, by the rights before and after."""
     for number, (had, has) in differences.items():
         _row(table, path, has & ~had, people.users[number], {"change": "gained"})
         _row(table, path, had & ~has, people.users[number], {"change": "lost"})

@@ -5,7 +5,7 @@ import os
 import re
 import shutil
 import subprocess
-from collections.abc import Iterable, Iterator
+from collections.abc import Callable, Iterable, Iterator
 from dataclasses import dataclass
 from pathlib import Path as File
 from typing import Any
@@ -112,7 +112,7 @@ _ANONYMOUS = "S-1-5-7"
 _OF_OTHERS = ("restrict", "device")
 
 
-def assumed_groups(words: list[str], only_given: bool, table: Table) -> list[str]:
+def assumed_groups(words: Iterable[str], only_given: bool, table: Table) -> list[str]:
     """The groups that a user of these arguments has on a file server besides, and a row that says so: none of
     Anonymous, and none that an argument has already, as one for denies alone."""
     sids = [_full(sid) for sid, _, state in (word.partition("=") for word in words) if state not in _OF_OTHERS]
@@ -141,10 +141,10 @@ class Grant:
     unless: tuple[str, ...]
 
 
-def who(script: Script, path_text: str, words: list[str], table: Table) -> int:
+def who(script: Script, path: Path, words: list[str], table: Table) -> int:
     """A row for each line of `sdstore who` about a node, as the tree is after the changes of the script, and how many
     there are."""
-    path = node_of(script, path_text)
+    _require_words(words)
     lines = _ran(["--json", "who", "--", script.descriptor(path), *words]).splitlines()
     grants = list(map(_grant, map(json.loads, lines)))
     for grant in grants:
@@ -208,21 +208,23 @@ def _difference(line: dict[str, Any]) -> Difference:
 # Where a user may do something
 
 
-def find(script: Script, path_text: str, words: list[str], table: Table) -> int:
-    """A row for each node at and below a path that grants a user the rights, as the tree is after the changes of the
-    script, and how many there are."""
+def find(asked: Callable[[str], list[str]], path: Path, words: list[str], table: Table) -> int:
+    """A row for each node at and below a path that grants a user the rights, and how many there are, by what
+    `sdstore serve` answers when it is asked."""
+    _require_words(words)
+    said, *paths = asked(" ".join(["find", "0", spelled(path), *words]))
+    if not said.endswith(" found"):
+        raise Invalid(f"sdstore find: {said}")
+    for each in paths:
+        table.row("found", {"path": each})
+    return len(paths)
+
+
+def _require_words(words: Iterable[str]) -> None:
+    """Invalid if one isn't a word of a line, or an argument, of the program."""
     for word in words:
         if not _WORD.fullmatch(word):
             raise Invalid(f"{word!a}: not an argument")
-    question = " ".join(["find", "0", spelled(node_of(script, path_text)), *words])
-    lines = _ran(["--percent", "serve"], [*script.remade(), question]).split("\n")
-    # (each line of the tree has one line of output, and an empty line ends that of the question)
-    said, *paths = lines[len(script.nodes) + 1 : -2]
-    if not said.endswith(" found"):
-        raise Invalid(f"sdstore find: {said}")
-    for path in paths:
-        table.row("found", {"path": path})
-    return len(paths)
 
 
 def node_of(script: Script, path_text: str) -> Path:

@@ -15,6 +15,8 @@ class Table:
     def __init__(self, as_json: bool, shown: Callable[[str], str], out: TextIO | None = None) -> None:
         """`shown` puts names in the place of SIDs, of each cell but paths and names: a folder may be named as a SID."""
         self._as_json, self._shown, self._out = as_json, shown, out or sys.stdout
+        #: What takes the message at the end of an answer.
+        self.says: Callable[[str], None] = say
 
     def row(self, what: str, cells: Mapping[str, Cell]) -> None:
         """One row, which says what it is first."""
@@ -29,7 +31,7 @@ class Table:
         """What was done, as a message; as JSON also in a row."""
         if self._as_json:
             self.row(what, cells)
-        say(text)
+        self.says(text)
 
     def _display(self, name: str, cell: Cell) -> Cell:
         return self._shown(cell) if isinstance(cell, str) and name not in ("path", "name") else cell
