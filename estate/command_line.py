@@ -7,6 +7,7 @@ from collections.abc import Callable, Sequence
 
 import asking
 import commands
+import diffing
 from errors import EstateError
 from names import read_names, shown_by
 from table import Table, say
@@ -15,8 +16,8 @@ _DESCRIPTION = "Reads the descriptors of file systems into scripts for sdstore, 
 _END = """\
 statuses: 0 done, and an answer leaves nothing out; 1 a node is skipped by read, has a finding, gains or loses rights,
 denies them, or forbids the write, or an account may be missing; 2 invalid arguments or input; 3 a read or write failed;
-4 the answer, or the write, leaves nodes out, which rows name; of ask that of the worst answer. The table
-is on standard output, messages are on standard error."""
+4 the answer, or the write, leaves nodes out, which rows name; of ask that of the worst answer; of diff 1 if somebody
+gains rights. The table is on standard output, messages are on standard error."""
 
 
 def main(words: Sequence[str] | None = None) -> int:
@@ -73,6 +74,7 @@ def _parser() -> argparse.ArgumentParser:
     _add_people(ask)
     _add_why(command("why", commands.why, "print whether a node of a volume grants a user rights, by all that it has"))
     _add_review(command("review", commands.review, "print what a script's changes grant and take away, node by node"))
+    _add_diff(command("diff", diffing.diff, "print what changed between two scripts, and who gains and loses by it"))
     report = command("report", commands.report, "write a page of a script's folders, as they are after its changes")
     report.add_argument("script", metavar="SCRIPT")
     report.add_argument("file", metavar="FILE", help="the HTML file to write")
@@ -191,6 +193,13 @@ def _add_review(review: argparse.ArgumentParser) -> None:
     review.add_argument("path", metavar="PATH", nargs="?", default="/", help="a node, with all below it")
     review.add_argument("words", metavar="ARG", nargs="*", help="groups that all users have, as sdstore who takes them")
     _add_people(review)
+
+
+def _add_diff(diff: argparse.ArgumentParser) -> None:
+    diff.add_argument("before", metavar="BEFORE", help="a script that estate read wrote")
+    diff.add_argument("after", metavar="AFTER", help="another one, of the same source")
+    diff.add_argument("--totals", action="store_true", help="leave out the rows of single nodes")
+    _add_people(diff)
 
 
 def _add_journal(parser: argparse.ArgumentParser) -> None:

@@ -212,11 +212,11 @@ def review(script: Script, top: Path, people: People, table: Table) -> int:
         if change.path[: len(top)] == top:
             differences = differing(people.rights(change.before), people.rights(change.after))
             found.update(differences)
-            _say_differences(table, change.path, people, differences)
+            say_differences(table, change.path, people, differences)
     return len(found)
 
 
-def _say_differences(table: Table, path: Path, people: People, differences: dict[int, tuple[int, int]]) -> None:
+def say_differences(table: Table, path: Path, people: People, differences: dict[int, tuple[int, int]]) -> None:
     """A row for what each user gains at a node, and one for what it loses, by the rights before and after."""
     for number, (had, has) in differences.items():
         _row(table, path, has & ~had, people.users[number], {"change": "gained"})
