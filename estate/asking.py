@@ -9,7 +9,7 @@ from typing import BinaryIO
 import people as people_of
 import questions
 from answers import answered, counts_of, of_users, people_in
-from errors import EstateError, Invalid
+from errors import EstateError, Failed, Invalid
 from gaps import Coverage
 from people import People, require_own_groups
 from script import Script, read_script
@@ -135,11 +135,18 @@ def _answer_line(asked: Asked, line: bytes | None, number: int, table: Table) ->
 def _lines(stream: BinaryIO) -> Iterator[bytes | None]:
     """The lines, without their ends; None is one that is too long."""
     most = _MAX_LINE_BYTES + len(b"\r\n")
-    while line := stream.readline(most):
+    while line := _read(stream, most):
         is_whole = line.endswith(b"\n") or len(line) < most
         while len(line) == most and not line.endswith(b"\n"):
-            line = stream.readline(most)
+            line = _read(stream, most)
         yield line.removesuffix(b"\n").removesuffix(b"\r") if is_whole else None
+
+
+def _read(stream: BinaryIO, most: int) -> bytes:
+    try:
+        return stream.readline(most)
+    except OSError as error:
+        raise Failed(f"standard input: {error.strerror}") from error
 
 
 def _words(line: bytes | None) -> list[str]:

@@ -17,7 +17,7 @@ from rights import in_few_words
 from script import read_script
 from sddl import Entry, Parts, parts_of
 from sides import Compared, Pair, Side, State
-from table import Cell, Table, plural
+from table import Cell, Table
 
 #: What a node that isn't there is compared as: without an owner and without an entry it grants nobody anything.
 _NOTHING = "D:"

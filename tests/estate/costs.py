@@ -48,9 +48,12 @@ def accounts_of(count: int) -> str:
     return "\n".join([*lines, ""])
 
 
-def run(room: Path, *words: str) -> None:
+def run(room: Path, *words: str, given: str = "") -> None:
+    """Measures a command, with the file `given` as its input."""
     began = time.monotonic()
-    process = subprocess.Popen([sys.executable, str(TOOL), *words], cwd=room)
+    with open(room / given if given else os.devnull, "rb") as lines:
+        out = subprocess.DEVNULL if given else None
+        process = subprocess.Popen([sys.executable, str(TOOL), *words], cwd=room, stdin=lines, stdout=out)
     _, status, used = os.wait4(process.pid, 0)
     seconds = time.monotonic() - began
     named = " ".join(words)
@@ -76,6 +79,11 @@ def main(files: int, users: int) -> None:
         # (a volume of more than 65,536 nodes has no whole script)
         script = "whole" if (room / "whole").exists() else "folders"
         run(room, "report", script, "page.html", "--accounts", "accounts", "--matrix", "sheet.csv")
+        (room / "questions").write_text("".join(f"find / {sid_text(user)} 0x2\n" for user in USERS * 8))
+        run(room, "ask", script, given="questions")
+        changed = (room / script).read_text() + "dacl / D:(A;OICI;FA;;;BA)(A;OICI;FX;;;AU)\npublish\n"
+        (room / "changed").write_text(changed)
+        run(room, "diff", "--totals", script, "changed")
         for made in ("page.html", "sheet.csv"):
             print(f"{made}: {(room / made).stat().st_size:,} bytes", flush=True)
 
