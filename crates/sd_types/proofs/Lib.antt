@@ -1,0 +1,10 @@
+pub mod Lists
+pub mod Chains
+pub mod Leaves
+pub mod Propagation
+pub mod Asked
+pub mod Same
+pub mod Judged
+pub mod Nodes
+pub mod Steps
+pub mod Parts

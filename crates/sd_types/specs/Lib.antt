@@ -1,0 +1,4 @@
+pub mod Tree
+pub mod Verdicts
+pub mod Propagation
+pub mod Laws
