@@ -177,6 +177,11 @@ class Asked(Case):
         answers = self.ask(3, f"find / {ALICE} 0x1\nwho\n", "script", SDSTORE="/bin/false")
         self.assertEqual(answers[0][1:], ["error\t1\tsdstore serve: 1", "end\t1\t3\tno answer"])
         self.assertEqual(answers[1][-1], "end\t2\t2\tno answer")
+        # (a tree without all of its nodes isn't asked)
+        refusing = self.write("refusing", "#!/bin/sh\nwhile read -r line; do echo refused 3 Exists; done\n")
+        refusing.chmod(0o755)
+        answers = self.ask(3, f"find / {ALICE} 0x1\n", "script", SDSTORE=str(refusing))
+        self.assertEqual(answers[0][1], "error\t1\tsdstore serve: refused 3 Exists")
         answers = self.ask(3, f"find / {ALICE} 0x1\n", "script", SDSTORE="/none")
         self.assertEqual(answers[0][1], "error\t1\t/none: No such file or directory")
 
