@@ -13,7 +13,7 @@ use std::process::Abort;
 use std::test::Fail;
 
 /// The client with the token and the level, whose claim Grade is 5.
-fn client_of(
+pub(crate) fn client_of(
     rt: &impl Abort,
     alloc: Global,
     token: Token,

@@ -1,4 +1,5 @@
-//! Tests of whole DACLs for one question, of labels, and of questions about whole descriptors.
+//! Tests of whole DACLs for one question, of labels, and of questions about whole descriptors and
+//! trees of object types.
 #![tactic(auto)]
 
 #[cfg(test)]
@@ -9,3 +10,5 @@ mod marked_tests;
 mod rows;
 #[cfg(test)]
 mod tests;
+#[cfg(test)]
+mod types_tests;

@@ -180,3 +180,51 @@ all of these
 D:(ZA;;FA;$;;PS;(@Resource.A == 1))S:(ML;;NW;;;HI)(RA;;;;;WD;(\"A\",TI,0,1)) | ~ $ | % | - | 8192 | 0x3 | denied 0x2
 D:(ZA;;FA;$;;PS;(@Resource.A == 1))S:(ML;;NW;;;HI)(RA;;;;;WD;(\"A\",TI,0,1)) | ~ $ | % | - | 8192 | 0x1 | granted 0x1
 ";
+
+/// Trees of object types: the levels of the nodes; a question about their types as in [`ROWS`]; the client's level; a
+/// mask; the verdict on each node ([MS-DTYP] 2.5.3.2, ObjectTypeList): in hexadecimal `+` what is granted, `-` what is
+/// missing, `!` what is reserved, and `0` where nothing is asked for.
+pub(crate) const TYPES: &str = "\
+what is allowed for the whole object is granted on each node
+0 1 2 1 | D:(A;;0x10;;;BU) | ~ ^ $ # | - | BU | 8192 | 0x10 | +10 +10 +10 +10
+0 1 2 1 | D:(OA;;0x10;~;;BU) | ~ ^ $ # | - | BU | 8192 | 0x10 | +10 +10 +10 +10
+an allow for a property set is handed down to its properties
+0 1 2 1 | D:(OA;;0x10;^;;BU) | ~ ^ $ # | - | BU | 8192 | 0x10 | -10 +10 +10 -10
+and one for a property up, where each of its siblings has it
+0 1 2 1 | D:(OA;;0x10;$;;BU) | ~ ^ $ # | - | BU | 8192 | 0x10 | -10 +10 +10 -10
+0 1 2 2 | D:(OA;;0x10;$;;BU) | ~ ^ $ # | - | BU | 8192 | 0x10 | -10 -10 +10 -10
+0 1 2 2 | D:(OA;;0x10;$;;BU)(OA;;0x10;#;;BU) | ~ ^ $ # | - | BU | 8192 | 0x10 | +10 +10 +10 +10
+0 | D:(OA;;0x10;~;;BU) | ~ | - | BU | 8192 | 0x10 | +10
+a deny for a property is handed up, and for another type it denies nothing
+0 1 2 1 | D:(OD;;0x10;$;;BU)(A;;0x10;;;BU) | ~ ^ $ # | - | BU | 8192 | 0x10 | -10 -10 -10 +10
+0 1 2 | D:(OD;;0x10;#;;BU)(A;;0x10;;;BU) | ~ ^ $ | - | BU | 8192 | 0x10 | +10 +10 +10
+a deny behind the allow denies what isn't granted yet
+0 1 2 1 | D:(A;;0x10;;;BU)(OD;;0x10;$;;BU) | ~ ^ $ # | - | BU | 8192 | 0x10 | +10 +10 +10 +10
+0 1 2 2 | D:(OA;;0x10;$;;BU)(OD;;0x10;^;;BU)(A;;0x10;;;BU) | ~ ^ $ # | - | BU | 8192 | 0x10 | -10 -10 +10 -10
+each right by itself
+0 1 2 1 | D:(A;;0x10;;;BU)(OA;;0x20;$;;BU) | ~ ^ $ # | - | BU | 8192 | 0x30 | -20 +30 +30 -20
+with MAXIMUM_ALLOWED what all leaves have
+0 1 2 1 | D:(A;;0x10;;;BU)(OA;;0x20;$;;BU) | ~ ^ $ # | - | BU | 8192 | 0x2000000 | +10 +30 +30 +10
+0 1 1 | D:(OA;;0x10;$;;BU)(OA;;0x20;#;;BU) | ~ $ # | - | BU | 8192 | 0x2000000 | -2000000 +10 +20
+0 1 1 | D:(OA;;0x30;$;;BU)(OA;;0x20;#;;BU) | ~ $ # | - | BU | 8192 | 0x2000010 | -10 +30 -10
+conditions, PRINCIPAL SELF, labels and owners as for a chain
+0 1 2 | D:(ZA;;0x10;$;;BU;(@User.Grade == 5)) | ~ ^ $ | - | BU | 8192 | 0x10 | +10 +10 +10
+0 1 | D:(OA;;0x10;$;;PS) | ~ $ | % | BU | 8192 | 0x10 | +10 +10
+0 1 | D:(A;;0x30;;;BU)S:(ML;;NW;;;HI) | ~ $ | - | BU | 8192 | 0x30 | -10 -10
+0 1 1 | O:%D: | ~ $ # | - | BU | 8192 | 0x20000 | +20000 +20000 +20000
+requests without a bit, and with a reserved one
+0 1 1 | D:(A;;0x10;;;BU) | ~ $ # | - | BU | 8192 | 0x0 | 0 0 0
+0 1 1 | D:(A;;0x10;;;BU) | ~ $ # | - | BU | 8192 | 0x200000 | !200000 !200000 !200000";
+
+/// Lists of nodes, each with its level and a byte of its type; how many are before the first that can't stand there,
+/// and why.
+pub(crate) const NO_TREES: &str = "\
+- | 0 1 NoClass
+1:1 | 0 2 LevelLeftOut
+0:1 2:2 | 1 2 LevelLeftOut
+0:1 1:2 3:3 | 2 2 LevelLeftOut
+0:1 0:2 | 1 3 SecondClass
+0:1 1:2 2:3 3:4 4:5 5:6 | 5 4 TooDeep
+0:1 1:2 1:2 | 2 5 Repeated
+0:1 1:1 | 1 5 Repeated
+0:1 1:2 2:3 1:4 2:5 | a tree";
