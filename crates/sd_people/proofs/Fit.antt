@@ -79,17 +79,6 @@ pub all_wanted : (owner : Option SidValue) (entries : List Ace) (wanted : List S
 all_wanted owner entries wanted into =
     allowed_wanted wanted entries (λ sid at. into sid (Contains-append_right (option_to_list owner) (filter_map allowed_sid entries) sid at))
 
-pub no_logon : (logon : Option Logon) → is_some logon ≡ false → logon ≡ None
-no_logon None e = refl
-no_logon (Some logon) e = absurd cc
-
--- ---- what it fits
-
-pub both_ok : {A E : Type 0} {P Q R : A → Type 0} (r : Result A E) → IfOk r P → IfOk r Q → ((x : A) → P x → Q x → R x) → IfOk r R
-both_ok (Ok x) p q made = made x p q
-both_ok (Err e) p q made = tt
-
-pub fit_for : (rows : List AccountRow) (settings : Settings) (text mask : List ℕ) (words : List NamedWord) (found : Option Search) → words ≡ []
-    → IfSome found (λ search. searched search ≡ rows) → IfSome found (λ search. Speaks settings text mask (wanted_by search)) → IsFit rows settings words (Granted text mask) found
-fit_for rows settings text mask words None empty is speaks = tt
-fit_for rows settings text mask words (Some search) empty is speaks = (empty, is, speaks)
+pub not_there : {A : Type 0} (one : Option A) → is_some one ≡ false → one ≡ None
+not_there None e = refl
+not_there (Some one) e = absurd cc

@@ -4,6 +4,8 @@ pub mod Fit
 pub mod Grants
 pub mod Kept
 pub mod Passed
+pub mod Read
+pub mod Ready
 pub mod Spelled
 pub mod Tokens
 pub mod Turns

@@ -62,7 +62,7 @@ use Rattle.sd_commands.specs.declared.settings.Settings.{Settings}
 use Rattle.sd_whole_parse.specs.Part.{IsPart, IsPartFault}
 use Rattle.sd_people.proofs.Denied.{IsNotAllowed, IsOutside, part_lines_denied, why_leaves_nothing}
 use Rattle.sd_people.proofs.Spelled.{full_spelled}
-use Rattle.sd_people.proofs.Tokens.{IsUnwanted, all_from, enabled_word, has_no_privileges, stands_for_none, words_of}
+use Rattle.sd_people.proofs.Tokens.{IsUnwanted, all_from, are_sids, enabled_word, has_no_privileges, stands_for_none, words_of}
 use Rattle.sd_people.specs.Passed.{GrantsNothing, Speaks}
 
 -- ---- a mask has a value or an error
@@ -87,17 +87,17 @@ mask_or_error (Names kind) (c ∷ text) mask error is bad told = joined_or_error
 -- ---- arguments
 
 module _ (user mask : List ℕ) (groups : List (List ℕ)) where
-  abbrev AreThree : List (Bor (List ℕ)) → Type 0
+  abbrev pub AreThree : List (Bor (List ℕ)) → Type 0
   AreThree arguments = (argument arguments 0 ≡ user) × (argument arguments 1 ≡ mask) × (texts (drop 2 arguments) ≡ groups)
 
-  are_three : (arguments : List (Bor (List ℕ))) → texts arguments ≡ user ∷ mask ∷ groups → AreThree arguments
+  pub are_three : (arguments : List (Bor (List ℕ))) → texts arguments ≡ user ∷ mask ∷ groups → AreThree arguments
   are_three [] e = absurd cc
   are_three (a ∷ []) e = absurd cc
   are_three (a ∷ b ∷ rest) e = (cc, cc, cc)
 
 -- ---- the groups of a user without words
 
-no_belongs : (rows : List AccountRow) (sid : SidValue) → Belongs rows [] sid → ⊥
+pub no_belongs : (rows : List AccountRow) (sid : SidValue) → Belongs rows [] sid → ⊥
 no_belongs rows _ (directly start group at in') = omega (arith, at.1)
 no_belongs rows _ (further between group belongs in') = no_belongs rows between belongs
 
@@ -223,7 +223,7 @@ module _ (settings : Settings) (text mask : List ℕ) (wanted : List SidValue) (
     where
       is_token : IsToken settings.aliases user (texts words) (token_of user (map enabled_word sids))
       is_token = subst (λ (ts : List (List ℕ)). IsToken settings.aliases user ts (token_of user (map enabled_word sids))) (sym same)
-          (map enabled_word sids, words_of settings.aliases wanted sids all, refl)
+          (map enabled_word sids, words_of settings.aliases sids (are_sids wanted sids all), refl)
 
       by : ((token : TokenValue) × IsToken settings.aliases user (texts words) token × P token) ⊎ IsWordFault settings words inner → P (token_of user (map enabled_word sids))
       by (inl (other, is_other, has)) = subst P (token_one settings.aliases user (texts words) other (token_of user (map enabled_word sids)) is_other is_token) has

@@ -39,10 +39,14 @@ word_of known sid is =
       ),
     )
 
-pub words_of : (known : Aliases) (wanted sids : List SidValue) → AllByRecursion (IsUnwanted wanted) sids
+pub words_of : (known : Aliases) (sids : List SidValue) → AllByRecursion IsSid sids
     → AreEach (IsWord known) (map (group_text roles.Enabled) sids) (map enabled_word sids)
-words_of known wanted [] all = refl
-words_of known wanted (sid ∷ sids) all = (word_of known sid all.0.0, words_of known wanted sids all.1)
+words_of known [] all = refl
+words_of known (sid ∷ sids) all = (word_of known sid all.0, words_of known sids all.1)
+
+pub are_sids : (wanted sids : List SidValue) → AllByRecursion (IsUnwanted wanted) sids → AllByRecursion IsSid sids
+are_sids wanted [] all = tt
+are_sids wanted (sid ∷ sids) all = (all.0.0, are_sids wanted sids all.1)
 
 -- ---- whom the token stands for
 

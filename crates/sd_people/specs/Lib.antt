@@ -5,4 +5,5 @@ pub mod Names
 pub mod Naming
 pub mod Passed
 pub mod People
+pub mod Reading
 pub mod Way

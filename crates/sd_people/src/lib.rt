@@ -21,6 +21,7 @@ mod granted;
 mod names;
 mod naming;
 mod people;
+mod reading;
 mod sids;
 mod wanted;
 mod way;

@@ -1,18 +1,22 @@
 //! What is said about each user.
-ghost use Rattle.std.specs.Prelude.{◌≡◌, ◌||◌, IfOk, List, Some, [], true};
+ghost use Rattle.std.specs.Prelude.{◌≡◌, ◌||◌, ℕ, IfOk, List, Some, [], drop, true};
 ghost use Rattle.sd_answer.specs.Word.{texts};
 ghost use Rattle.sd_accounts.specs.Accounts.{rows_of};
 ghost use Rattle.sd_accounts.specs.Users.{named};
 ghost use Rattle.sd_commands.specs.Answer.{answer_of};
 ghost use Rattle.sd_named.specs.declared.word.NamedWord.{NamedWord};
 ghost use Rattle.sd_people.specs.Asked.{Changed, EachAsked, Granted, each_of};
+ghost use Rattle.sd_people.specs.Change.{all_granted};
 ghost use Rattle.sd_people.specs.Passed.{IsFit};
 ghost use Rattle.sd_people.specs.People.{IsGrantedNothing, IsOfPeople, IsOfUser, IsOfUsers, IsWhy, SaysChange};
 ghost use Rattle.sd_people.specs.People.{people_of};
+ghost use Rattle.sd_people.specs.Reading.{AreReady, IsReadingOf, IsReady};
+ghost use Rattle.sd_commands.specs.declared.settings.Settings.{Settings};
 
 use crate::asking::OfEach;
 use crate::change::{ALL_GRANTED, changes, granted_mask};
 use crate::granted::{grants_of, leaves_out};
+use crate::reading::{Reading, Readings, token_with};
 use crate::wanted::search_for;
 use sd_accounts::{Accounts, Search};
 use sd_commands::{Answer, Outcome, Settings, answer_question, words_for};
@@ -54,32 +58,59 @@ pub(crate) fn people_asked(
     let all = words_for(alloc, settings.logon, words)?;
     let words = naming.named_words(&all)?;
     let users = accounts.users(alloc)?;
-    let mut search = search_in(alloc, accounts, settings, each, &all)?;
+    let readings = read_in(alloc, settings, each, &all)?;
+    let mut search = search_in(alloc, accounts, each, &readings)?;
     let asker = Asker {
         naming,
         settings,
         words: &words,
+        readings: &readings,
     };
     Ok(asker.of_all(each, &users, &mut search)?)
 }
 
-/// A search by which users are passed over, for what a descriptor grants users without words.
-fn search_in<'a>(
+/// What is read once for all users, where they have no words.
+fn read_in(
     alloc: Global,
-    accounts: &'a Accounts,
     settings: &Settings,
     each: OfEach<'_>,
     words: &[&str],
-) -> Result<Option<Search<'a>>, AllocError>
-    ensures { IfOk result (λ search. (ones : List NamedWord) → (words.now ≡ [] → ones ≡ [])
-        → IsFit (rows_of accounts.now) settings.now ones (each_of each.entry) search) }
+) -> Result<Readings, AllocError>
+    ensures { IfOk result (λ readings. (ones : List NamedWord) → (words.now ≡ [] → ones ≡ [])
+        → AreReady settings.now ones (each_of each.entry) readings) }
 {
     if !words.is_empty() {
-        return Ok(None);
+        return Ok(Readings {
+            first: None,
+            second: None,
+        });
     }
     match each {
-        OfEach::Granted { text, mask } => search_for(alloc, accounts, settings, text, mask),
-        OfEach::Changed { .. } => Ok(None),
+        OfEach::Granted { text, mask } => Ok(Readings {
+            first: Reading::of(alloc, settings, text, mask)?,
+            second: None,
+        }),
+        OfEach::Changed { old, new } => Ok(Readings {
+            first: Reading::of(alloc, settings, old, ALL_GRANTED)?,
+            second: Reading::of(alloc, settings, new, ALL_GRANTED)?,
+        }),
+    }
+}
+
+/// A search by which users are passed over, for what is read of a descriptor.
+fn search_in<'a>(
+    alloc: Global,
+    accounts: &'a Accounts,
+    each: OfEach<'_>,
+    readings: &Readings,
+) -> Result<Option<Search<'a>>, AllocError>
+    ensures { IfOk result (λ search. (settings : Settings) (ones : List NamedWord)
+        → AreReady settings ones (each_of each.entry) readings.now
+        → IsFit (rows_of accounts.now) settings ones (each_of each.entry) search) }
+{
+    match (each, &readings.first) {
+        (OfEach::Granted { .. }, Some(reading)) => search_for(alloc, accounts, reading),
+        _ => Ok(None),
     }
 }
 
@@ -88,6 +119,7 @@ struct Asker<'a> {
     naming: Naming<'a>,
     settings: &'a Settings,
     words: &'a NamedWords,
+    readings: &'a Readings,
 }
 
 impl Asker<'_> {
@@ -100,6 +132,7 @@ impl Asker<'_> {
     ) -> Result<People, AllocError>
         requires fit { IsFit (rows_of self.now.naming.accounts.now) self.now.settings.now self.now.words.now
             (each_of each) search.old }
+        requires ready { AreReady self.now.settings.now self.now.words.now (each_of each) self.now.readings.now }
         ensures { IfOk result (λ people. IsOfUsers (rows_of self.now.naming.accounts.now) self.now.settings.now
             self.now.words.now (each_of each.entry) (named users.now) (people_of people)) }
     {
@@ -143,6 +176,7 @@ impl Asker<'_> {
     }
 
     fn of_user(&self, each: OfEach<'_>, user: &Sid, name: &str) -> Result<People, AllocError>
+        requires ready { AreReady self.now.settings.now self.now.words.now (each_of each) self.now.readings.now }
         ensures { IfOk result (λ people. IsOfUser (rows_of self.now.naming.accounts.now) self.now.settings.now
             self.now.words.now (each_of each.entry) (user.now, name.now) (people_of people)) }
     {
@@ -154,11 +188,13 @@ impl Asker<'_> {
 
     /// What the descriptor grants the user of the mask.
     fn granted(&self, text: &str, mask: &str, user: &Sid, name: &str) -> Result<People, AllocError>
+        requires ready { IsReady self.now.settings.now self.now.words.now text.now mask.now
+            self.now.readings.now.first }
         ensures { IfOk result (λ people. IsOfUser (rows_of self.now.naming.accounts.now) self.now.settings.now
             self.now.words.now (Granted text.now mask.now) (user.now, name.now) (people_of people)) }
     {
         let alloc = self.naming.alloc;
-        let answer = self.why(text, mask, user)?;
+        let answer = self.why(&self.readings.first, text, mask, user)?;
         if matches!(answer.outcome, Outcome::Fault) {
             return Ok(People::Fault(answer));
         }
@@ -178,16 +214,52 @@ impl Asker<'_> {
 
     /// What the user gains and loses where the new descriptor takes the place of the old one.
     fn changed(&self, old: &str, new: &str, user: &Sid, name: &str) -> Result<People, AllocError>
+        requires old { IsReady self.now.settings.now self.now.words.now old.now all_granted
+            self.now.readings.now.first }
+        requires new { IsReady self.now.settings.now self.now.words.now new.now all_granted
+            self.now.readings.now.second }
         ensures { IfOk result (λ people. IsOfUser (rows_of self.now.naming.accounts.now) self.now.settings.now
             self.now.words.now (Changed old.now new.now) (user.now, name.now) (people_of people)) }
     {
-        let old = self.why(old, ALL_GRANTED, user)?;
-        let new = self.why(new, ALL_GRANTED, user)?;
+        let old = self.why(&self.readings.first, old, ALL_GRANTED, user)?;
+        let new = self.why(&self.readings.second, new, ALL_GRANTED, user)?;
         change_of(self.naming.alloc, user, name, old, new)
     }
 
     /// The answer to `why` for the user of this SID.
-    fn why(&self, text: &str, mask: &str, user: &Sid) -> Result<Answer, AllocError>
+    fn why(
+        &self,
+        reading: &Option<Reading>,
+        text: &str,
+        mask: &str,
+        user: &Sid,
+    ) -> Result<Answer, AllocError>
+        requires ready { IsReady self.now.settings.now self.now.words.now text.now mask.now reading.now }
+        ensures { IfOk result (λ answer. IsWhy (rows_of self.now.naming.accounts.now) self.now.settings.now text.now
+            mask.now self.now.words.now user.now (answer_of answer)) }
+    {
+        match reading {
+            Some(reading) => self.why_read(reading, user),
+            None => self.why_of_texts(text, mask, user),
+        }
+    }
+
+    /// The answer for a user without words, of what is read already.
+    fn why_read(&self, reading: &Reading, user: &Sid) -> Result<Answer, AllocError>
+        ensures { IfOk result (λ answer. (text mask : List ℕ) → self.now.words.now ≡ []
+            → IsReadingOf self.now.settings.now text mask reading.now
+            → IsWhy (rows_of self.now.naming.accounts.now) self.now.settings.now text mask self.now.words.now user.now
+            (answer_of answer)) }
+    {
+        let alloc = self.naming.alloc;
+        let starts = self.naming.starts(false, user, self.words)?;
+        let groups = self.naming.accounts.groups_of(alloc, &starts)?;
+        let token = token_with(alloc, user, after_first(&starts), &groups)?;
+        reading.answer(alloc, self.settings, &token)
+    }
+
+    /// The answer by texts: of a whole descriptor, of a user with words or by a logon, and a fault.
+    fn why_of_texts(&self, text: &str, mask: &str, user: &Sid) -> Result<Answer, AllocError>
         ensures { IfOk result (λ answer. IsWhy (rows_of self.now.naming.accounts.now) self.now.settings.now text.now
             mask.now self.now.words.now user.now (answer_of answer)) }
     {
@@ -197,6 +269,15 @@ impl Asker<'_> {
         let arguments = lent(alloc, &named)?;
         let question = TextCommand::Descriptor(DescriptorCommand::Why);
         answer_question(alloc, self.settings, question, text, &arguments)
+    }
+}
+
+fn after_first(sids: &[Sid]) -> &[Sid]
+    ensures { result.now ≡ drop 1 sids.now }
+{
+    match sids {
+        [_, rest @ ..] => rest,
+        [] => sids,
     }
 }
 

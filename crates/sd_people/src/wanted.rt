@@ -1,40 +1,30 @@
 //! Whom a plain descriptor may grant something: who has none of these SIDs is granted nothing, and isn't asked for.
-ghost use Rattle.std.specs.Prelude.{◌≡◌, IfOk, IfSome};
+ghost use Rattle.std.specs.Prelude.{◌≡◌, ℕ, List, IfOk, IfSome};
 ghost use Rattle.std.specs.Option.{option_to_list};
 ghost use Rattle.sd_accounts.specs.Accounts.{rows_of};
 ghost use Rattle.sd_accounts.specs.Search.{searched, wanted_by};
+ghost use Rattle.sd_commands.specs.declared.settings.Settings.{Settings};
 ghost use Rattle.sd_people.specs.Passed.{Speaks, allowed_sid, subjects};
+ghost use Rattle.sd_people.specs.Reading.{IsReadingOf};
 
+use crate::reading::Reading;
 use sd_accounts::{Accounts, Search};
 use sd_acl::{Ace, Dacl};
-use sd_commands::Settings;
-use sd_line::read_mask_in;
 use sd_sid::Sid;
-use sd_text::read_sddl_in;
 use std::alloc::{AllocError, Global};
 
 /// A search for the SIDs of which one has whoever the descriptor grants something ([MS-DTYP] 2.5.3.2). None where each
-/// user is to be asked: under `--whole` or a logon, where there is no list, and where the text or the mask is invalid.
+/// user is to be asked: where there is no list.
 pub(crate) fn search_for<'a>(
     alloc: Global,
     accounts: &'a Accounts,
-    settings: &Settings,
-    text: &str,
-    mask: &str,
+    reading: &Reading,
 ) -> Result<Option<Search<'a>>, AllocError>
     ensures searched { IfOk result (λ found. IfSome found (λ search. searched search ≡ rows_of accounts.now)) }
-    ensures speaks { IfOk result (λ found. IfSome found (λ search.
-        Speaks settings.now text.now mask.now (wanted_by search))) }
+    ensures speaks { IfOk result (λ found. IfSome found (λ search. (settings : Settings) (text mask : List ℕ)
+        → IsReadingOf settings text mask reading.now → Speaks settings text mask (wanted_by search))) }
 {
-    if settings.whole || settings.logon.is_some() {
-        return Ok(None);
-    }
-    let Ok(_mask) = read_mask_in(settings.spelling, mask) else {
-        return Ok(None);
-    };
-    let Ok(descriptor) = read_sddl_in(alloc, settings.aliases, text) else {
-        return Ok(None);
-    };
+    let descriptor = &reading.descriptor;
     let Dacl::List(list) = &descriptor.dacl else {
         return Ok(None);
     };

@@ -1,19 +1,10 @@
--- The arguments are those of the account.
-use Rattle.std.proofs.Common.{ap, map, string_bytes, subst, sym, ◌∙◌}
+-- Where there is a reading it is of these, and there are no words.
 use Rattle.std.proofs.lemmas.Result.{IfOk-weaker}
-use Rattle.sd_answer.specs.Word.{texts}
-use Rattle.sd_accounts.specs.Accounts.{rows_of}
-use Rattle.sd_named.specs.Arguments.{AreOfAccount}
+use Rattle.sd_people.proofs.Ready.{ready_read}
 use Rattle.sd_people.proofs.people.Asker.why.Goals as goal
 
-pub returns : goal.returns
-returns c =
+pub returns-in-Some : goal.returns-in-Some
+returns-in-Some c =
     let asker = c.args.self.now in
-    let same = ap texts c.deref-2.ensures.value ∙ c.in_ok-arguments.ensures ∙ ap (λ all. map string_bytes all) c.deref.ensures.value in
-    let are_of = subst (λ all. AreOfAccount (rows_of asker.naming.accounts.now) c.is_some-has_logon.result c.args.user.now c.args.mask.now asker.words.now all)
-    (sym same) c.in_ok-named.ensures in
-    IfOk-weaker c.answer_question.result _ _ (λ answer answers. record {
-      arguments = c.deref-2.result.now;
-      are_of = rw c.is_some-has_logon.ensures at are_of;
-      answers = answers;
-    }) c.answer_question.ensures
+    let is = ready_read asker.settings.now asker.words.now c.args.text.now c.args.mask.now c.args.reading.now c.in-Some.reading c.in-Some.is c.requires.ready in
+    IfOk-weaker c.why_read.result _ _ (λ answer says. says c.args.text.now c.args.mask.now is.0 is.1) c.why_read.ensures
