@@ -8,13 +8,13 @@ pub use Rattle.sd_analysis.specs.Compare.{is_reported}
 pub use Rattle.sd_analysis.specs.declared.compare_report.Change.{Change}
 pub use Rattle.sd_c.specs.Analysis.{AnswersCompare, AnswersLines, AreCompareLines, AreLinesOf, AreLintLines, AreWhoLines, BaseValue, Stops, bits_of, both_kept, descriptors_in, kept_in, no_comparison}
 pub use Rattle.sd_c.specs.CallAnswer.{not_read, unread, verdict_given}
-pub use Rattle.sd_c.specs.Edits.{HasNode}
+pub use Rattle.sd_c.specs.Edits.{HasNode, IsEdit, IsNoEdit}
 pub use Rattle.sd_c.specs.Explaining.{explained, no_part, part_told, parts_of, reasons_on}
 pub use Rattle.sd_c.specs.Handle.{unless}
 pub use Rattle.sd_c.specs.Kept.{asked_of, descriptor_in, is_kept, lines_in}
 pub use Rattle.sd_c.specs.Lines.{AreKept}
 pub use Rattle.sd_c.specs.Length.{dacl_end, descriptor_end, trustee_end}
-pub use Rattle.sd_c.specs.Publishing.{Begins, IsNotBegun, IsNotEdited, IsTreeReason, Limited, tree_reason}
+pub use Rattle.sd_c.specs.Publishing.{Begins, Edits, IsAllowed, IsEdited, IsNotBegun, IsNotEdited, IsTreeReason, Judges, Limited, tree_reason}
 pub use Rattle.sd_c.specs.Request.{RequestValue, group_read, groups_read, restricting_sid, sids_read, verdict_of, ◌>>=◌}
 pub use Rattle.sd_c.specs.Review.{AreChangesAt, AreChangesOf, IsNotReviewed, IsPublishedReview, IsReviewed, published_at}
 pub use Rattle.sd_c.specs.declared.analysis.CompareAnswer.{CompareAnswer}
@@ -24,6 +24,7 @@ pub use Rattle.sd_c.specs.declared.explaining.PartAnswer.{PartAnswer}
 pub use Rattle.sd_c.specs.declared.handle.Handle.{Handle}
 pub use Rattle.sd_c.specs.declared.handle.kept.Kept.{Kept}
 pub use Rattle.sd_c.specs.declared.mapping.Mapping.{Mapping}
+pub use Rattle.sd_c.specs.declared.not_done.NotDone.{NotDone}
 pub use Rattle.sd_c.specs.declared.review.NodeReview.{NodeReview}
 pub use Rattle.sd_c.specs.declared.stop.NotRead.{NotRead}
 pub use Rattle.sd_c.specs.declared.stop.NotRead.TheVariants.{DescriptorHandle, NewHandle}
@@ -33,6 +34,7 @@ pub use Rattle.sd_edit.specs.Answers.{IsError, descriptor_at, kind_at}
 pub use Rattle.sd_edit.specs.Descriptors.{is_protected, own_dacl, own_descriptor_of_row, own_list}
 pub use Rattle.sd_edit.specs.History.{history_of}
 pub use Rattle.sd_edit.specs.Journal.{opening_within, refusal, root_refusal}
+pub use Rattle.sd_edit.specs.declared.edit.Edit.{Edit}
 pub use Rattle.sd_edit.specs.declared.node.NodeDacl.{NodeDacl}
 pub use Rattle.sd_edit.specs.declared.refusal.EditRefusal.{EditRefusal}
 pub use Rattle.sd_edit.specs.declared.refusal.TreeError.{TreeError}

@@ -5,6 +5,7 @@ mod RestrictingLoop
 pub mod Front
 pub mod SealSteps
 mod Told
+mod Said
 mod Changes
 mod Unasked
 mod Reviewing

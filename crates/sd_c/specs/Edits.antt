@@ -13,8 +13,8 @@ use Rattle.sd_edit.specs.declared.edit.Edit.TheVariants.{AddContainer, AddObject
 use Rattle.sd_edit.specs.declared.edit.Edit.TheVariants.{ProtectKeeping, Move}
 use Rattle.sd_edit.specs.declared.node.NodeDacl.{NodeDacl}
 use Rattle.sd_c.specs.Written.{IsNotUtf8}
-use Rattle.sd_c.specs.declared.not_done.PathArgument.{PathArgument}
-use Rattle.sd_c.specs.declared.not_done.PathArgument.TheVariants as arguments
+use Rattle.sd_c.specs.declared.not_done.EditArgument.{EditArgument}
+use Rattle.sd_c.specs.declared.not_done.EditArgument.TheVariants as arguments
 use Rattle.sd_c.specs.declared.not_done.NotDone.{NotDone}
 use Rattle.sd_c.specs.declared.not_done.NotDone.TheVariants as reasons
 
@@ -65,7 +65,7 @@ IsNoKind kind value = (kind ≡ 0) ⊎ (8 < kind) ⊎ (((kind ≡ 6) ⊎ (kind �
 
 -- why they are those of none, part by part; out of memory only for a part that takes some: the root's path and a SID
 -- take none
-abbrev pub IsNoPath : PathArgument → List ℕ → NotDone → Type 0
+abbrev pub IsNoPath : EditArgument → List ℕ → NotDone → Type 0
 IsNoPath given bytes reasons.Memory = IsOkAnd (path_of bytes) (λ path. is_root path ≡ false)
 IsNoPath given bytes (reasons.Utf8 argument place) = (argument ≡ given) × IsNotUtf8 bytes place
 IsNoPath given bytes (reasons.Path argument fault) = (argument ≡ given) × (path_of bytes ≡ Err fault)
@@ -75,22 +75,21 @@ abbrev pub IsNoSid : List ℕ → NotDone → Type 0
 IsNoSid bytes (reasons.Sid fault) = sid_reading bytes ≡ Err fault
 IsNoSid bytes _ = ⊥
 
-abbrev pub IsNoDescriptor : List ℕ → NotDone → Type 0
-IsNoDescriptor bytes reasons.Memory = TakesMemory bytes
-IsNoDescriptor bytes (reasons.Descriptor fault) = descriptor_read bytes ≡ Err fault
-IsNoDescriptor bytes _ = ⊥
+abbrev pub IsNoDescriptor : EditArgument → List ℕ → NotDone → Type 0
+IsNoDescriptor given bytes reasons.Memory = TakesMemory bytes
+IsNoDescriptor given bytes (reasons.Descriptor argument fault) =
+    (argument ≡ given) × (descriptor_read bytes ≡ Err fault)
+IsNoDescriptor given bytes _ = ⊥
 
 abbrev pub IsNoNode : List ℕ → NotDone → Type 0
 IsNoNode bytes reasons.Memory = TakesMemory bytes ⊎ HasNode bytes
-IsNoNode bytes (reasons.Descriptor fault) = descriptor_read bytes ≡ Err fault
-IsNoNode bytes reasons.Parts = LacksTrustee bytes
-IsNoNode bytes _ = ⊥
+IsNoNode bytes (reasons.Parts argument) = (argument ≡ arguments.Value) × LacksTrustee bytes
+IsNoNode bytes why = IsNoDescriptor arguments.Value bytes why
 
 abbrev pub IsNoDacl : List ℕ → NotDone → Type 0
 IsNoDacl bytes reasons.Memory = TakesMemory bytes ⊎ ((dacl : NodeDacl) × IsDacl bytes dacl)
-IsNoDacl bytes (reasons.Descriptor fault) = descriptor_read bytes ≡ Err fault
-IsNoDacl bytes reasons.Parts = HasTrustee bytes
-IsNoDacl bytes _ = ⊥
+IsNoDacl bytes (reasons.Parts argument) = (argument ≡ arguments.Value) × HasTrustee bytes
+IsNoDacl bytes why = IsNoDescriptor arguments.Value bytes why
 
 -- why the value is invalid, by the kind of edit
 abbrev pub IsNoValue : ℕ → List ℕ → NotDone → Type 0
@@ -98,7 +97,7 @@ IsNoValue kind value why =
     (((kind ≡ 1) ⊎ (kind ≡ 2)) × IsNoNode value why)
     ⊎ (((kind ≡ 3) ⊎ (kind ≡ 4)) × IsNoSid value why)
     ⊎ ((kind ≡ 5) × IsNoDacl value why)
-    ⊎ ((kind ≡ 8) × IsNoPath arguments.Target value why)
+    ⊎ ((kind ≡ 8) × IsNoPath arguments.Value value why)
     ⊎ (IsNoKind kind value × (why ≡ reasons.EditKind))
 
 -- the first invalid argument is reported: the path, and then the number and the value

@@ -11,6 +11,7 @@ pub mod Kept
 pub mod Publishing
 pub mod Views
 pub mod Nodes
+pub mod Stored
 pub mod OverBytes
 pub mod Explaining
 pub mod Meaning

@@ -19,7 +19,7 @@ use Rattle.sd_c.specs.declared.handle.kept.Kept.{Kept}
 use Rattle.sd_c.specs.declared.nodes.NodeAnswer.{NodeAnswer}
 use Rattle.sd_c.specs.declared.not_done.NotDone.{NotDone}
 use Rattle.sd_c.specs.declared.not_done.NotDone.TheVariants as reasons
-use Rattle.sd_c.specs.declared.not_done.PathArgument.TheVariants as arguments
+use Rattle.sd_c.specs.declared.not_done.EditArgument.TheVariants as arguments
 use Rattle.sd_c.specs.Edits.{IsNoPath, IsNode}
 use Rattle.sd_c.specs.Kept.{view_in}
 use Rattle.sd_c.specs.Views.{IsNotFound, not_told}

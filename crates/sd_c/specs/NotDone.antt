@@ -8,17 +8,19 @@ use Rattle.sd_edit.specs.Refusals.{number_of}
 use Rattle.sd_edit.specs.declared.limits.LimitsError.{LimitsError}
 use Rattle.sd_edit.specs.declared.limits.LimitsError.TheVariants as limits
 use Rattle.sd_c.specs.declared.call_answer.CheckAnswer.{CheckAnswer}
-use Rattle.sd_c.specs.declared.not_done.PathArgument.{PathArgument}
-use Rattle.sd_c.specs.declared.not_done.PathArgument.TheVariants as arguments
+use Rattle.sd_c.specs.declared.not_done.EditArgument.{EditArgument}
+use Rattle.sd_c.specs.declared.not_done.EditArgument.TheVariants as arguments
 use Rattle.sd_c.specs.declared.not_done.NotDone.{NotDone}
 use Rattle.sd_c.specs.declared.not_done.NotDone.TheVariants.{Memory, StoreHandle, ViewHandle, TokenHandle, MappingBits}
 use Rattle.sd_c.specs.declared.not_done.NotDone.TheVariants.{EditKind, Utf8, Path, Descriptor, Parts, Sid, Refused}
-use Rattle.sd_c.specs.declared.not_done.NotDone.TheVariants.{Limits, NoNode}
+use Rattle.sd_c.specs.declared.not_done.NotDone.TheVariants.{Limits, NoNode, NothingKept}
 use Rattle.sd_c.specs.CallAnswer.{unread}
 
-abbrev pub argument_number : PathArgument → ℕ
+abbrev pub argument_number : EditArgument → ℕ
 argument_number arguments.Path = 12
-argument_number arguments.Target = 13
+argument_number arguments.Value = 13
+argument_number arguments.Kept = 23
+argument_number arguments.Offer = 24
 
 -- the nodes or the edits
 abbrev pub limits_argument : LimitsError → ℕ
@@ -37,8 +39,9 @@ not_done (Limits fault) = unread 19 (limits_argument fault) (limits_error_number
 not_done EditKind = unread 12 11 0 0
 not_done (Utf8 argument place) = unread 3 (argument_number argument) 0 place
 not_done (Path argument fault) = unread 13 (argument_number argument) (path_error_number fault) 0
-not_done (Descriptor fault) = unread 5 13 (wire_fault_number fault) 0
-not_done Parts = unread 14 13 0 0
+not_done (Descriptor argument fault) = unread 5 (argument_number argument) (wire_fault_number fault) 0
+not_done (Parts argument) = unread 14 (argument_number argument) 0 0
 not_done (Sid fault) = unread 6 13 (sid_error_number fault) 0
 not_done (Refused refusal) = unread 15 0 (number_of refusal) 0
 not_done NoNode = unread 16 12 0 0
+not_done NothingKept = unread 18 0 0 0

@@ -21,7 +21,7 @@ use Rattle.sd_c.specs.declared.not_done.NotDone.{NotDone}
 use Rattle.sd_c.specs.declared.not_done.NotDone.TheVariants as reasons
 use Rattle.sd_c.specs.declared.stop.NotRead.TheVariants.{MappingBits}
 use Rattle.sd_c.specs.CallAnswer.{unread}
-use Rattle.sd_c.specs.Edits.{IsEdit, IsNoEdit, IsNoNode, IsNode, HasNode}
+use Rattle.sd_c.specs.Edits.{IsNoNode, IsNode, HasNode}
 use Rattle.sd_c.specs.Kept.{IsSame, store_in, view_in}
 use Rattle.sd_c.specs.Length.{length_told}
 use Rattle.sd_c.specs.NotDone.{not_done}
@@ -82,41 +82,40 @@ Begins root mapping limits old new answer =
 abbrev pub with_edit : VersionsValue → Edit → VersionsValue
 with_edit v edit = record v { pending = v.pending ++ edit ∷ [] }
 
--- the edit of the arguments, which nothing refuses, is the last of the store's pending ones
-abbrev pub IsEdited : ℕ → List ℕ → List ℕ → Kept → Kept → Type 0
-IsEdited kind path value old new =
-    (v : VersionsValue) × (edit : Edit) × (store_in old ≡ Some v) × IsEdit kind path value edit
+-- an edit that the arguments say, which nothing refuses, is the last of the store's pending ones
+abbrev pub IsEdited : (Edit → Type 0) → Kept → Kept → Type 0
+IsEdited Says old new =
+    (v : VersionsValue) × (edit : Edit) × (store_in old ≡ Some v) × Says edit
     × (refusal v.opening (accepted v) edit ≡ None)
     × (store_in new ≡ Some (with_edit v edit))
 
--- why it hasn't: no store is kept, an argument is invalid, the tree refuses the edit, or out of memory
-abbrev pub IsNotEdited : ℕ → List ℕ → List ℕ → Kept → NotDone → Type 0
-IsNotEdited kind path value old why =
+-- why it hasn't: no store is kept, the arguments say no edit, the tree refuses it, or out of memory
+abbrev pub IsNotEdited : (Edit → Type 0) → (NotDone → Type 0) → Kept → NotDone → Type 0
+IsNotEdited Says SaysNone old why =
     ((store_in old ≡ None) × (why ≡ reasons.StoreHandle))
-    ⊎ (IsSome (store_in old) × IsNoEdit kind path value why)
-    ⊎ ((v : VersionsValue) × (edit : Edit) × (store_in old ≡ Some v) × IsEdit kind path value edit
+    ⊎ (IsSome (store_in old) × SaysNone why)
+    ⊎ ((v : VersionsValue) × (edit : Edit) × (store_in old ≡ Some v) × Says edit
     × IsTreeReason (refusal v.opening (accepted v) edit) why)
 
 -- the edit is made, or why not is returned and nothing has changed
-abbrev pub Edits : ℕ → List ℕ → List ℕ → Handle → Handle → CheckAnswer → Type 0
-Edits kind path value old new answer =
-    ((old.is_there ≡ 1) × (new.is_there ≡ 1) × IsEdited kind path value old.seal.kept new.seal.kept
-    × (answer ≡ unread 0 0 0 0))
-    ⊎ ((why : NotDone) × (old.is_there ≡ 1) × IsNotEdited kind path value old.seal.kept why × Remains old new
+abbrev pub Edits : (Edit → Type 0) → (NotDone → Type 0) → Handle → Handle → CheckAnswer → Type 0
+Edits Says SaysNone old new answer =
+    ((old.is_there ≡ 1) × (new.is_there ≡ 1) × IsEdited Says old.seal.kept new.seal.kept × (answer ≡ unread 0 0 0 0))
+    ⊎ ((why : NotDone) × (old.is_there ≡ 1) × IsNotEdited Says SaysNone old.seal.kept why × Remains old new
     × (answer ≡ not_done why))
     ⊎ ((old.is_there ≡ 0) × (new ≡ old) × (answer ≡ not_done reasons.StoreHandle))
 
--- nothing refuses the edit of the arguments
-abbrev pub IsAllowed : ℕ → List ℕ → List ℕ → Kept → Type 0
-IsAllowed kind path value store =
-    (v : VersionsValue) × (edit : Edit) × (store_in store ≡ Some v) × IsEdit kind path value edit
+-- nothing refuses an edit that the arguments say
+abbrev pub IsAllowed : (Edit → Type 0) → Kept → Type 0
+IsAllowed Says store =
+    (v : VersionsValue) × (edit : Edit) × (store_in store ≡ Some v) × Says edit
     × (refusal v.opening (accepted v) edit ≡ None)
 
 -- the edit would be made, or why not is returned
-abbrev pub Judges : ℕ → List ℕ → List ℕ → Handle → CheckAnswer → Type 0
-Judges kind path value store answer =
-    ((store.is_there ≡ 1) × IsAllowed kind path value store.seal.kept × (answer ≡ unread 0 0 0 0))
-    ⊎ ((why : NotDone) × (store.is_there ≡ 1) × IsNotEdited kind path value store.seal.kept why
+abbrev pub Judges : (Edit → Type 0) → (NotDone → Type 0) → Handle → CheckAnswer → Type 0
+Judges Says SaysNone store answer =
+    ((store.is_there ≡ 1) × IsAllowed Says store.seal.kept × (answer ≡ unread 0 0 0 0))
+    ⊎ ((why : NotDone) × (store.is_there ≡ 1) × IsNotEdited Says SaysNone store.seal.kept why
     × (answer ≡ not_done why))
     ⊎ ((store.is_there ≡ 0) × (answer ≡ not_done reasons.StoreHandle))
 

@@ -18,7 +18,7 @@ use Rattle.sd_c.specs.declared.handle.kept.Kept.{Kept}
 use Rattle.sd_c.specs.declared.handle.kept.Kept.TheVariants as kinds
 use Rattle.sd_c.specs.declared.not_done.NotDone.{NotDone}
 use Rattle.sd_c.specs.declared.not_done.NotDone.TheVariants as reasons
-use Rattle.sd_c.specs.declared.not_done.PathArgument.TheVariants as arguments
+use Rattle.sd_c.specs.declared.not_done.EditArgument.TheVariants as arguments
 use Rattle.sd_c.specs.declared.stop.NotRead.TheVariants.{TokenHandle}
 use Rattle.sd_c.specs.declared.views.ViewAnswer.{ViewAnswer}
 use Rattle.sd_c.specs.CallAnswer.{unwritten, verdict_given}
@@ -105,8 +105,9 @@ IsNoFormAt view path why =
 abbrev pub not_told : NotDone → Written
 not_told why = unwritten (not_done why)
 
-abbrev pub WritesNode : Handle → List ℕ → List ℕ → List ℕ → Written → Type 0
-WritesNode view path old new told =
-    ((bytes : List ℕ) × (view.is_there ≡ 1) × IsFormAt view.seal.kept path bytes × Writes bytes old new told)
-    ⊎ ((why : NotDone) × (view.is_there ≡ 1) × IsNoFormAt view.seal.kept path why × (new ≡ old) × (told ≡ not_told why))
+-- right bytes are written, or the buffer is too small for them; or nothing, for a reason that holds
+abbrev pub TellsBytes : (List ℕ → Type 0) → (NotDone → Type 0) → Handle → List ℕ → List ℕ → Written → Type 0
+TellsBytes Right Holds view old new told =
+    ((bytes : List ℕ) × (view.is_there ≡ 1) × Right bytes × Writes bytes old new told)
+    ⊎ ((why : NotDone) × (view.is_there ≡ 1) × Holds why × (new ≡ old) × (told ≡ not_told why))
     ⊎ ((view.is_there ≡ 0) × (new ≡ old) × (told ≡ not_told reasons.ViewHandle))

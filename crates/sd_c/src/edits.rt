@@ -7,7 +7,7 @@ ghost use Rattle.sd_wire.specs.Reading.{descriptor_read};
 ghost use Rattle.sd_c.specs.Edits.{IsDacl, IsEdit, IsNoDacl, IsNoDescriptor, IsNoEdit, IsNoNode, IsNoPath, IsNoSid};
 ghost use Rattle.sd_c.specs.Edits.{IsNode, IsSid};
 
-use crate::not_done::{NotDone, PathArgument};
+use crate::not_done::{EditArgument, NotDone};
 use crate::text::utf8_of;
 use sd_acl::Descriptor;
 use sd_path::{Path, PathError};
@@ -17,9 +17,9 @@ use sd_wire::{WireError, read_descriptor};
 use std::alloc::Global;
 
 /// The numbers of the edits.
-const ADD_CONTAINER: u32 = 1;
+pub(crate) const ADD_CONTAINER: u32 = 1;
 
-const ADD_OBJECT: u32 = 2;
+pub(crate) const ADD_OBJECT: u32 = 2;
 
 const SET_OWNER: u32 = 3;
 
@@ -38,7 +38,7 @@ pub(crate) fn edit_of(alloc: Global, kind: u32, path: &[u8], value: &[u8]) -> Re
     ensures ok { IfOk result (λ edit. IsEdit kind path.now value.now edit) }
     ensures err { IfErr result (λ why. IsNoEdit kind path.now value.now why) }
 {
-    let path = path_of(alloc, PathArgument::Path, path)?;
+    let path = path_of(alloc, EditArgument::Path, path)?;
     match kind {
         ADD_CONTAINER => {
             let node = node_of(alloc, value)?;
@@ -64,14 +64,14 @@ pub(crate) fn edit_of(alloc: Global, kind: u32, path: &[u8], value: &[u8]) -> Re
         PROTECT_KEEPING if value.is_empty() => Ok(Edit::ProtectKeeping { path }),
         MOVE => Ok(Edit::Move {
             source: path,
-            target: path_of(alloc, PathArgument::Target, value)?,
+            target: path_of(alloc, EditArgument::Value, value)?,
         }),
         _ => Err(NotDone::EditKind),
     }
 }
 
 /// The path that an argument says.
-pub(crate) fn path_of(alloc: Global, argument: PathArgument, bytes: &[u8]) -> Result<Path, NotDone>
+pub(crate) fn path_of(alloc: Global, argument: EditArgument, bytes: &[u8]) -> Result<Path, NotDone>
     ensures ok { IfOk result (λ path. path_of bytes.now ≡ Ok path) }
     ensures err { IfErr result (λ why. IsNoPath argument bytes.now why) }
 {
@@ -101,13 +101,13 @@ pub(crate) fn node_of(alloc: Global, bytes: &[u8]) -> Result<RootSpec, NotDone>
     ensures ok { IfOk result (λ node. IsNode bytes.now node.owner node.group node.dacl) }
     ensures err { IfErr result (λ why. IsNoNode bytes.now why) }
 {
-    let descriptor = descriptor_of(alloc, bytes)?;
+    let descriptor = descriptor_of(alloc, EditArgument::Value, bytes)?;
     match (descriptor.owner, descriptor.group) {
         (Some(owner), Some(group)) => {
             let dacl = NodeDacl::of_descriptor(alloc, &descriptor)?;
             Ok(RootSpec { owner, group, dacl })
         }
-        _ => Err(NotDone::Parts),
+        _ => Err(NotDone::Parts(EditArgument::Value)),
     }
 }
 
@@ -116,20 +116,25 @@ fn dacl_of(alloc: Global, bytes: &[u8]) -> Result<NodeDacl, NotDone>
     ensures ok { IfOk result (λ dacl. IsDacl bytes.now dacl) }
     ensures err { IfErr result (λ why. IsNoDacl bytes.now why) }
 {
-    let descriptor = descriptor_of(alloc, bytes)?;
+    let descriptor = descriptor_of(alloc, EditArgument::Value, bytes)?;
     match (descriptor.owner, descriptor.group) {
         (None, None) => Ok(NodeDacl::of_descriptor(alloc, &descriptor)?),
-        _ => Err(NotDone::Parts),
+        _ => Err(NotDone::Parts(EditArgument::Value)),
     }
 }
 
-fn descriptor_of(alloc: Global, bytes: &[u8]) -> Result<Descriptor, NotDone>
+/// The descriptor that an argument holds.
+pub(crate) fn descriptor_of(
+    alloc: Global,
+    argument: EditArgument,
+    bytes: &[u8],
+) -> Result<Descriptor, NotDone>
     ensures ok { IfOk result (λ d. descriptor_read bytes.now ≡ Ok (descriptor_of d)) }
-    ensures err { IfErr result (λ why. IsNoDescriptor bytes.now why) }
+    ensures err { IfErr result (λ why. IsNoDescriptor argument bytes.now why) }
 {
     match read_descriptor(alloc, bytes) {
         Ok(descriptor) => Ok(descriptor),
-        Err(WireError::Fault(fault)) => Err(NotDone::Descriptor(fault)),
+        Err(WireError::Fault(fault)) => Err(NotDone::Descriptor { argument, fault }),
         Err(WireError::Memory) => Err(NotDone::Memory),
     }
 }

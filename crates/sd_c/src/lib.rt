@@ -36,6 +36,7 @@ mod request;
 mod review;
 mod sharing;
 mod stop;
+mod stored;
 mod stores;
 mod text;
 mod version;
@@ -69,11 +70,14 @@ pub use lines::{ValueAnswer, hudarin_line_print, hudarin_line_value, hudarin_lin
 pub use mapping::Mapping;
 pub use meaning::{faults_have_names, hudarin_fault_name, hudarin_status_text};
 pub use nodes::{NodeAnswer, hudarin_view_node, hudarin_view_own, own_forms_come_back};
-pub use not_done::{NotDone, PathArgument};
+pub use not_done::{EditArgument, NotDone};
 pub use over_bytes::hudarin_check_bytes;
 pub use plain::{Trimmed, hudarin_whole_plain, hudarin_whole_to_sddl};
 pub use review::{ReviewAnswer, hudarin_store_review};
 pub use sharing::hudarin_share;
+pub use stored::{
+    hudarin_store_add_stored, hudarin_store_judge_stored, hudarin_view_stored, lists_come_back,
+};
 pub use stores::{
     hudarin_store_edit, hudarin_store_judge, hudarin_store_open, hudarin_store_open_within,
     hudarin_store_publish, hudarin_store_revert,

@@ -13,7 +13,7 @@ ghost use Rattle.sd_c.specs.Written.{Writes};
 use crate::call_answer::{Written, write};
 use crate::edits::path_of;
 use crate::handle::{Handle, Kept};
-use crate::not_done::{NotDone, PathArgument};
+use crate::not_done::{EditArgument, NotDone};
 use crate::views::not_told;
 use sd_path::Path;
 use sd_tree::{NodeKind, Tree};
@@ -80,7 +80,7 @@ pub extern "C" fn hudarin_view_node(
 }
 
 /// A law: an edit whose value is what `hudarin_view_own` wrote of a node, where no entry has an unnamed flag, gives the
-/// node of its path the same owner, group and DACL, but for what it had inherited elsewhere, which no edit of C gives.
+/// node of its path the same owner, group and DACL, but for what it had inherited elsewhere.
 pub fn own_forms_come_back()
     ensures { OwnFormsComeBack }
 {}
@@ -92,7 +92,7 @@ fn own_at(alloc: Global, kept: &Kept, path: &[u8]) -> Result<(Vec<u8>, NodeKind)
     let Kept::View(tree) = kept else {
         return Err(NotDone::ViewHandle);
     };
-    let path = path_of(alloc, PathArgument::Path, path)?;
+    let path = path_of(alloc, EditArgument::Path, path)?;
     let made = own_in(alloc, tree.get(), &path)?;
     Ok(made)
 }

@@ -5,8 +5,8 @@ ghost use Rattle.sd_c.specs.declared.not_done.NotDone.TheVariants.{Limits, Memor
 ghost use Rattle.sd_c.specs.NotDone.{argument_number, limits_argument, not_done};
 
 use crate::call_answer::{
-    CheckAnswer, EDIT, HANDLE, LIMITS, MAPPING, MEMORY, NO_NODE, PARTS, PATH, REFUSED, SID, UTF8,
-    WIRE, unread,
+    CheckAnswer, EDIT, HANDLE, LIMITS, MAPPING, MEMORY, NO_NODE, NO_PART, PARTS, PATH, REFUSED,
+    SID, UTF8, WIRE, unread,
 };
 use sd_path::PathError;
 use sd_sid::SidError;
@@ -14,23 +14,29 @@ use sd_tree::{EditRefusal, LimitsError};
 use sd_wire::WireFault;
 use std::alloc::AllocError;
 
-/// An argument that is a path.
+/// An argument of an edit, or of a question about a node.
 #[derive(Clone, Copy)]
-pub enum PathArgument {
+pub enum EditArgument {
     /// The path of the node.
     Path,
-    /// The target of a move.
-    Target,
+    /// The value of the edit.
+    Value,
+    /// What the node had inherited elsewhere.
+    Kept,
+    /// What was offered to it there.
+    Offer,
 }
 
-impl PathArgument {
+impl EditArgument {
     /// The number by which an answer names it.
     pub(crate) fn number(self) -> u32
         ensures { result ≡ argument_number self }
     {
         match self {
-            PathArgument::Path => 12,
-            PathArgument::Target => 13,
+            EditArgument::Path => 12,
+            EditArgument::Value => 13,
+            EditArgument::Kept => 23,
+            EditArgument::Offer => 24,
         }
     }
 }
@@ -54,24 +60,30 @@ pub enum NotDone {
     EditKind,
     /// The path isn't UTF-8 from this byte on.
     Utf8 {
-        argument: PathArgument,
+        argument: EditArgument,
         place: u64,
     },
     /// The text is no path.
     Path {
-        argument: PathArgument,
+        argument: EditArgument,
         fault: PathError,
     },
     /// The bytes hold no descriptor.
-    Descriptor(WireFault),
-    /// The descriptor lacks an owner or a group, or has one where only a DACL may be.
-    Parts,
+    Descriptor {
+        argument: EditArgument,
+        fault: WireFault,
+    },
+    /// The descriptor lacks an owner or a group, or has one where only a DACL may be; or it has more than a list that
+    /// isn't protected, or no such list, where that alone may be.
+    Parts(EditArgument),
     /// The bytes don't start with a SID.
     Sid(SidError),
     /// The tree refuses the edit.
     Refused(EditRefusal),
     /// There is no node at the path.
     NoNode,
+    /// The node keeps nothing that it had inherited elsewhere, or the number is no part of that.
+    NothingKept,
 }
 
 impl From<AllocError> for NotDone {
@@ -114,10 +126,13 @@ pub(crate) fn not_done(why: NotDone) -> CheckAnswer
         NotDone::EditKind => unread(EDIT, 11, 0, 0),
         NotDone::Utf8 { argument, place } => unread(UTF8, argument.number(), 0, place),
         NotDone::Path { argument, fault } => unread(PATH, argument.number(), fault.number(), 0),
-        NotDone::Descriptor(fault) => unread(WIRE, 13, fault.number(), 0),
-        NotDone::Parts => unread(PARTS, 13, 0, 0),
+        NotDone::Descriptor { argument, fault } => {
+            unread(WIRE, argument.number(), fault.number(), 0)
+        }
+        NotDone::Parts(argument) => unread(PARTS, argument.number(), 0, 0),
         NotDone::Sid(fault) => unread(SID, 13, fault.number(), 0),
         NotDone::Refused(refusal) => unread(REFUSED, 0, refusal.number(), 0),
         NotDone::NoNode => unread(NO_NODE, 12, 0, 0),
+        NotDone::NothingKept => unread(NO_PART, 0, 0, 0),
     }
 }

@@ -1,7 +1,8 @@
 //! The calls over a store, which has one writer.
 
-ghost use Rattle.std.specs.Prelude.{◌≡◌, ◌⊎◌, None, Ok, Some, IfErr, IfOk, IsSome, MatchOption, MatchResult, OnOk};
+ghost use Rattle.std.specs.Prelude.{◌≡◌, ◌⊎◌, None, Err, Ok, Some, IfErr, IfOk, IsSome, MatchOption, MatchResult, OnOk};
 ghost use Rattle.sd_edit.specs.Limits.{limits_of, standard_limits};
+ghost use Rattle.sd_c.specs.Edits.{IsEdit, IsNoEdit};
 ghost use Rattle.sd_c.specs.Kept.{IsSame, Stays, store_in, view_in};
 ghost use Rattle.sd_c.specs.Publishing.{Begins, Edits, IsAllowed, IsBegun, IsEdited, IsNotBegun, IsNotEdited};
 ghost use Rattle.sd_c.specs.Publishing.{IsReverted, IsViewOf, Judges, Publishes, Reverts, tree_reason};
@@ -14,7 +15,7 @@ use crate::handle::{Handle, Kept};
 use crate::mapping::Mapping;
 use crate::not_done::{NotDone, not_done};
 use crate::request::mapping_of;
-use sd_tree::{Limits, LimitsError, TreeError};
+use sd_tree::{Edit, Limits, LimitsError, TreeError};
 use sd_versions::Versions;
 use std::alloc::{AllocError, Global};
 
@@ -117,13 +118,24 @@ pub extern "C" fn hudarin_store_edit(
     path: &[u8],
     value: &[u8],
 ) -> CheckAnswer
-    ensures { Edits kind path.now value.now store.old store.new result }
+    ensures { Edits (IsEdit kind path.now value.now) (IsNoEdit kind path.now value.now) store.old store.new result }
+{
+    edit_made(alloc, store, edit_of(alloc, kind, path, value))
+}
+
+/// Makes the edit that arguments say, or answers why they say none.
+pub(crate) fn edit_made(
+    alloc: Global,
+    store: &mut Handle,
+    edit: Result<Edit, NotDone>,
+) -> CheckAnswer
+    ensures { Edits (λ said. edit ≡ Ok said) (λ why. edit ≡ Err why) store.old store.new result }
 {
     let Some(kept) = store.take(alloc) else {
         return not_done(NotDone::StoreHandle);
     };
     let mut kept = kept;
-    let answer = match edited(alloc, &mut kept, kind, path, value) {
+    let answer = match edited(&mut kept, edit) {
         Ok(()) => unread(OK, 0, 0, 0),
         Err(why) => not_done(why),
     };
@@ -131,20 +143,14 @@ pub extern "C" fn hudarin_store_edit(
     answer
 }
 
-fn edited(
-    alloc: Global,
-    kept: &mut Kept,
-    kind: u32,
-    path: &[u8],
-    value: &[u8],
-) -> Result<(), NotDone>
-    ensures { MatchResult result (λ _. IsEdited kind path.now value.now kept.old kept.new)
-        (λ why. IsNotEdited kind path.now value.now kept.old why × IsSame kept.old kept.new) }
+fn edited(kept: &mut Kept, edit: Result<Edit, NotDone>) -> Result<(), NotDone>
+    ensures { MatchResult result (λ _. IsEdited (λ said. edit ≡ Ok said) kept.old kept.new)
+        (λ why. IsNotEdited (λ said. edit ≡ Ok said) (λ w. edit ≡ Err w) kept.old why × IsSame kept.old kept.new) }
 {
     let Kept::Store(store) = kept else {
         return Err(NotDone::StoreHandle);
     };
-    let edit = edit_of(alloc, kind, path, value)?;
+    let edit = edit?;
     match store.edit(&edit) {
         Ok(()) => Ok(()),
         Err(e) => Err(reason_of(e)),
@@ -160,13 +166,25 @@ pub extern "C" fn hudarin_store_judge(
     path: &[u8],
     value: &[u8],
 ) -> CheckAnswer
-    ensures answer { Judges kind path.now value.now store.old result }
+    ensures answer { Judges (IsEdit kind path.now value.now) (IsNoEdit kind path.now value.now) store.old result }
+    ensures store { Stays store.old store.new }
+{
+    edit_judged(alloc, store, edit_of(alloc, kind, path, value))
+}
+
+/// What `edit_made` would answer.
+pub(crate) fn edit_judged(
+    alloc: Global,
+    store: &mut Handle,
+    edit: Result<Edit, NotDone>,
+) -> CheckAnswer
+    ensures answer { Judges (λ said. edit ≡ Ok said) (λ why. edit ≡ Err why) store.old result }
     ensures store { Stays store.old store.new }
 {
     let Some(kept) = store.take(alloc) else {
         return not_done(NotDone::StoreHandle);
     };
-    let answer = match judged(alloc, &kept, kind, path, value) {
+    let answer = match judged(&kept, edit) {
         Ok(()) => unread(OK, 0, 0, 0),
         Err(why) => not_done(why),
     };
@@ -174,14 +192,15 @@ pub extern "C" fn hudarin_store_judge(
     answer
 }
 
-fn judged(alloc: Global, kept: &Kept, kind: u32, path: &[u8], value: &[u8]) -> Result<(), NotDone>
-    ensures ok { OnOk result (IsAllowed kind path.now value.now kept.now) }
-    ensures err { IfErr result (λ why. IsNotEdited kind path.now value.now kept.now why) }
+fn judged(kept: &Kept, edit: Result<Edit, NotDone>) -> Result<(), NotDone>
+    ensures ok { OnOk result (IsAllowed (λ said. edit ≡ Ok said) kept.now) }
+    ensures err { IfErr result
+        (λ why. IsNotEdited (λ said. edit ≡ Ok said) (λ w. edit ≡ Err w) kept.now why) }
 {
     let Kept::Store(store) = kept else {
         return Err(NotDone::StoreHandle);
     };
-    let edit = edit_of(alloc, kind, path, value)?;
+    let edit = edit?;
     match store.draft().judge(&edit)? {
         None => Ok(()),
         Some(refusal) => Err(NotDone::Refused(refusal)),

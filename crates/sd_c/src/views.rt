@@ -6,14 +6,14 @@ ghost use Rattle.sd_edit.specs.History.{history_of};
 ghost use Rattle.sd_edit.specs.Journal.{replay};
 ghost use Rattle.sd_c.specs.Kept.{Stays};
 ghost use Rattle.sd_c.specs.Views.{Asks, IsAnswered, IsFormAt, IsFormIn, IsNoFormAt, IsNotAsked, IsNotFound};
-ghost use Rattle.sd_c.specs.Views.{TellsLength, WritesNode, length_in, not_told, reply_given, unasked, view_answer};
+ghost use Rattle.sd_c.specs.Views.{TellsBytes, TellsLength, length_in, not_told, reply_given, unasked, view_answer};
 
 use crate::call_answer::{
     CheckAnswer, HANDLE, Written, length_told, not_written, unwritten, verdict_given, write,
 };
 use crate::edits::path_of;
 use crate::handle::{Handle, Kept};
-use crate::not_done::{NotDone, PathArgument, not_done};
+use crate::not_done::{EditArgument, NotDone, not_done};
 use sd_check::Token;
 use sd_path::Path;
 use sd_sid::Mask;
@@ -86,7 +86,7 @@ fn asked_of(
     let Kept::Token(token) = second else {
         return Err(NotDone::TokenHandle);
     };
-    let path = path_of(alloc, PathArgument::Path, path)?;
+    let path = path_of(alloc, EditArgument::Path, path)?;
     Ok(answer_in(tree.get(), &path, token, asked))
 }
 
@@ -141,7 +141,8 @@ pub extern "C" fn hudarin_view_descriptor(
     path: &[u8],
     room: &mut [u8],
 ) -> Written
-    ensures answer { WritesNode view.old path.now room.old room.new result }
+    ensures answer { TellsBytes (IsFormAt view.old.seal.kept path.now) (IsNoFormAt view.old.seal.kept path.now)
+        view.old room.old room.new result }
     ensures view { Stays view.old view.new }
 {
     let Some(kept) = view.take(alloc) else {
@@ -162,7 +163,7 @@ fn form_at(alloc: Global, kept: &Kept, path: &[u8]) -> Result<Vec<u8>, NotDone>
     let Kept::View(tree) = kept else {
         return Err(NotDone::ViewHandle);
     };
-    let path = path_of(alloc, PathArgument::Path, path)?;
+    let path = path_of(alloc, EditArgument::Path, path)?;
     let bytes = form_in(alloc, tree.get(), &path)?;
     Ok(bytes)
 }

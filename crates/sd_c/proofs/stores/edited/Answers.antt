@@ -1,4 +1,4 @@
-use Rattle.sd_c.proofs.Cited.{IsNotEdited, accepted, inr, refusal, rules, subst, sym}
+use Rattle.sd_c.proofs.Cited.{Edit, Err, IsNotEdited, NotDone, Ok, accepted, inr, refusal, rules, subst, sym, ◌≡◌}
 use Rattle.sd_c.proofs.Reasons.{told_reason}
 use Rattle.sd_c.proofs.stores.edited.Goals as goal
 
@@ -11,7 +11,7 @@ returns c =
     let v = c.in-Store.store.value in
     let edit = c.in_ok-edit.edit in
     let reason = told_reason c.in-Err.e (refusal v.opening (accepted v) edit) search rules in (
-      subst (IsNotEdited a.kind a.path.now a.value.now a.kept.now) (sym c.reason_of.ensures)
+      subst (IsNotEdited (λ (said : Edit). a.edit ≡ Ok said) (λ (why : NotDone). a.edit ≡ Err why) a.kept.now) (sym c.reason_of.ensures)
           (inr (inr (v, edit, search rules, search rules, reason))),
       search rules,
     )
