@@ -35,10 +35,12 @@ extern "C" {
 /* ---- The header's version; hudarin_version returns the library's */
 
 #define HUDARIN_VERSION_MAJOR 0u
-#define HUDARIN_VERSION_MINOR 2u
+#define HUDARIN_VERSION_MINOR 3u
 #define HUDARIN_VERSION_PATCH 0u
 
-/* What a program of 0.1 changes: hudarin_who, hudarin_compare and hudarin_store_review take a hudarin_lines as their
+/* A program of 0.2 is compiled again, and changes nothing.
+ *
+ * What a program of 0.1 changes: hudarin_who, hudarin_compare and hudarin_store_review take a hudarin_lines as their
  * last argument; hudarin_line_print writes the lines, which hudarin_who and hudarin_compare put into a buffer, and
  * hudarin_store_review after the paths. hudarin_who returns a hudarin_verdict, and hudarin_accesses is gone; the status
  * of a hudarin_comparison is in `answer`, which was `written`. Instead of "same" there is no line. hudarin_whole_at and,
@@ -86,7 +88,8 @@ typedef enum hudarin_status {
     HUDARIN_EDIT = 12,
     /* A text is no path: the fault is HUDARIN_PATH_... */
     HUDARIN_PATH = 13,
-    /* A descriptor lacks an owner or a group where both are required, or has one where only a DACL may be. */
+    /* A descriptor lacks an owner or a group where both are required, or has one where only a DACL may be; or it has no
+     * list, or a protected one, where just a list that isn't protected may be. */
     HUDARIN_PARTS = 14,
     /* The tree refuses the edit, or its root: the fault is HUDARIN_REFUSED_... */
     HUDARIN_REFUSED = 15,
@@ -95,7 +98,7 @@ typedef enum hudarin_status {
     /* A SID is no domain's, which is S-1-5-21 and three more sub-authorities. */
     HUDARIN_DOMAIN = 17,
     /* The descriptor has no owner, no group, no such list, or no entry at the index; or there is no such line, or value of
-     * a line. */
+     * a line; or the node keeps nothing that it had inherited elsewhere. */
     HUDARIN_NO_PART = 18,
     /* A limit of the store is out of range: the fault is HUDARIN_LIMITS_... */
     HUDARIN_LIMITS = 19,
@@ -298,7 +301,10 @@ typedef enum hudarin_argument {
     HUDARIN_ARGUMENT_WORDS = 19,
     HUDARIN_ARGUMENT_TYPES = 20,
     HUDARIN_ARGUMENT_PRINCIPAL_SELF = 21,
-    HUDARIN_ARGUMENT_CLIENT = 22
+    HUDARIN_ARGUMENT_CLIENT = 22,
+    /* Those of hudarin_store_add_stored; the node's own descriptor is HUDARIN_ARGUMENT_VALUE. */
+    HUDARIN_ARGUMENT_KEPT = 23,
+    HUDARIN_ARGUMENT_OFFER = 24
 } hudarin_argument;
 
 /* ---- Verdicts */
@@ -586,6 +592,14 @@ typedef enum hudarin_node_kind {
     HUDARIN_CONTAINER = 1,
     HUDARIN_OBJECT = 2
 } hudarin_node_kind;
+
+/* What a node keeps that was inherited elsewhere. */
+typedef enum hudarin_stored {
+    /* What it had inherited. */
+    HUDARIN_STORED_KEPT = 1,
+    /* What its container passed down there. */
+    HUDARIN_STORED_OFFER = 2
+} hudarin_stored;
 
 /* The answer of hudarin_store_review: its other fields are 0 unless the status is HUDARIN_OK or HUDARIN_ROOM. */
 typedef struct hudarin_review {
@@ -1145,6 +1159,27 @@ HUDARIN_ANSWERS hudarin_verdict hudarin_store_judge(hudarin_store *store, uint32
                                                     size_t path_length, const void *value, size_t value_length)
     HUDARIN_NONNULL(1);
 
+/*
+ * Adds a node, HUDARIN_CONTAINER or HUDARIN_OBJECT, that keeps what it had inherited elsewhere while its container
+ * passes down what was passed down there, the offer; otherwise it inherits as any other node. `own` is the value of an
+ * edit that adds a node. `kept`, what it had inherited, and `offer` are self-relative descriptors without an owner and
+ * a group, each with a list that isn't protected. If the DACL of `own` is null or protected, the node keeps nothing.
+ * The path is parsed first, then the kind is tested, HUDARIN_EDIT, then the descriptors are parsed in their order. All
+ * else as in hudarin_store_edit.
+ */
+HUDARIN_ANSWERS hudarin_verdict hudarin_store_add_stored(hudarin_store *store, uint32_t kind, const char *path,
+                                                         size_t path_length, const void *own, size_t own_length,
+                                                         const void *kept, size_t kept_length,
+                                                         const void *offer, size_t offer_length)
+    HUDARIN_NONNULL(1);
+
+/* What hudarin_store_add_stored would answer to the same arguments; nothing changes. */
+HUDARIN_ANSWERS hudarin_verdict hudarin_store_judge_stored(hudarin_store *store, uint32_t kind, const char *path,
+                                                           size_t path_length, const void *own, size_t own_length,
+                                                           const void *kept, size_t kept_length,
+                                                           const void *offer, size_t offer_length)
+    HUDARIN_NONNULL(1);
+
 /* Makes `view` the store's tree with all its edits, which never changes again; `length` is the number of edits. */
 HUDARIN_ANSWERS hudarin_written hudarin_store_publish(hudarin_store *store, hudarin_view *view)
     HUDARIN_NONNULL(1, 2);
@@ -1183,7 +1218,8 @@ HUDARIN_ANSWERS hudarin_written hudarin_view_descriptor(hudarin_view *view, cons
     HUDARIN_NONNULL(1);
 
 /* What the path's node was given, without what it inherits: the self-relative form of a descriptor with its owner,
- * its group and its own DACL, the value of an edit that adds it; and its kind. */
+ * its group and its own DACL, the value of an edit that adds it; and its kind. What it keeps that was inherited
+ * elsewhere hudarin_view_stored writes. */
 HUDARIN_ANSWERS hudarin_node hudarin_view_own(hudarin_view *view, const char *path, size_t path_length, void *room,
                                               size_t room_length)
     HUDARIN_NONNULL(1);
@@ -1191,6 +1227,13 @@ HUDARIN_ANSWERS hudarin_node hudarin_view_own(hudarin_view *view, const char *pa
 /* The path of the node at this index in path order, and its kind: the root is at 0, and each node at one index, after
  * its parent. HUDARIN_NO_NODE after the last one. */
 HUDARIN_ANSWERS hudarin_node hudarin_view_node(hudarin_view *view, uint64_t place, char *room, size_t room_length)
+    HUDARIN_NONNULL(1);
+
+/* What the node at this index in path order, as of hudarin_view_node, keeps that was inherited elsewhere: the part
+ * HUDARIN_STORED_.., in the form that hudarin_store_add_stored takes. HUDARIN_NO_PART if the node keeps nothing, and
+ * HUDARIN_NO_NODE after the last one. It keeps that even while it inherits as any other. */
+HUDARIN_ANSWERS hudarin_written hudarin_view_stored(hudarin_view *view, uint64_t place, uint32_t part, void *room,
+                                                    size_t room_length)
     HUDARIN_NONNULL(1);
 
 /* ---- The end of a handle */

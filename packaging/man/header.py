@@ -29,7 +29,7 @@ class Header:
     calls: list[Item] = field(default_factory=list)
 
     def version(self) -> str:
-        """That of the library, as "0.2.0"."""
+        """That of the library, as "0.3.0"."""
         lines = [each.lines[0].partition(" ") for section in self.sections for each in section.constants]
         return ".".join(value.rstrip("u") for name, _, value in lines if name.startswith("HUDARIN_VERSION_"))
 

@@ -42,6 +42,47 @@ static hudarin_verdict made(hudarin_store *store, const row *row)
     return hudarin_store_edit(store, row->edit, row->path, strlen(row->path), value, length);
 }
 
+/* A node that keeps what it had inherited elsewhere, each descriptor in SDDL, and the answer. */
+typedef struct kept_row {
+    uint32_t kind;
+    const char *path, *own, *kept, *offer;
+    uint32_t status, argument, fault;
+    uint64_t place;
+} kept_row;
+
+/* Adds that node, or judges it. */
+static inline hudarin_verdict stored(hudarin_store *store, const kept_row *row, int is_judged)
+{
+    unsigned char bytes[3][200];
+    const char *const texts[3] = { row->own, row->kept, row->offer };
+    size_t lengths[3], at;
+    for (at = 0; at < 3; at++) {
+        lengths[at] = (size_t)hudarin_sddl_to_bytes(texts[at], strlen(texts[at]), bytes[at], sizeof bytes[at]).length;
+    }
+    return (is_judged ? hudarin_store_judge_stored : hudarin_store_add_stored)(
+        store, row->kind, row->path, strlen(row->path), bytes[0], lengths[0], bytes[1], lengths[1], bytes[2], lengths[2]);
+}
+
+/* The texts of what the node at a place keeps, with a newline between them; nothing if it keeps nothing. */
+static inline size_t kept_text(hudarin_view *view, uint64_t place, char *text, size_t room)
+{
+    uint32_t part;
+    size_t length = 0;
+    for (part = HUDARIN_STORED_KEPT; part <= HUDARIN_STORED_OFFER; part++) {
+        unsigned char bytes[200];
+        hudarin_written form = hudarin_view_stored(view, place, part, bytes, sizeof bytes);
+        if (form.status != HUDARIN_OK) {
+            HOLDS(form.status == HUDARIN_NO_PART && form.length == 0 && form.fault == 0 && length == 0);
+            return 0;
+        }
+        if (length > 0) {
+            text[length++] = '\n';
+        }
+        length += (size_t)hudarin_bytes_to_sddl(bytes, (size_t)form.length, text + length, room - length).length;
+    }
+    return length;
+}
+
 static inline hudarin_verdict opened(hudarin_store *store, const char *sddl)
 {
     unsigned char root[200];

@@ -114,6 +114,42 @@ static void each_row(hudarin_store *store)
     }
 }
 
+/* The same of a node that keeps what it had inherited elsewhere, and of what is told of that. */
+static void each_request_of_kept(void)
+{
+    static const kept_row file = { HUDARIN_OBJECT, "/f", NODE, "D:(A;ID;FA;;;WD)", "D:(A;ID;FR;;;" USER ")", DONE };
+    hudarin_store store = HUDARIN_NOTHING;
+    hudarin_view view = HUDARIN_NOTHING;
+    hudarin_written told;
+    unsigned char room[100];
+    long at, is_judged, refused = 0;
+    HOLDS(is_made(opened(&store, ROOT)));
+    for (is_judged = 1; is_judged >= 0; is_judged--) {
+        hudarin_verdict answer = { HUDARIN_MEMORY, 0, 0, 0, 0, 0 };
+        for (at = 0; answer.status == HUDARIN_MEMORY && at < 1000; at++) {
+            HOLDS(hudarin_journal_length(&store.kept).length == 0);
+            granted = at;
+            answer = stored(&store, &file, (int)is_judged);
+            granted = -1;
+            refused += answer.status == HUDARIN_MEMORY;
+        }
+        HOLDS(is_made(answer) && hudarin_journal_length(&store.kept).length == (is_judged ? 0u : 1u));
+    }
+    HOLDS(hudarin_store_publish(&store, &view).status == HUDARIN_OK);
+    told.status = HUDARIN_MEMORY;
+    for (at = 0; told.status == HUDARIN_MEMORY && at < 100; at++) {
+        memset(room, 0x5A, sizeof room);
+        granted = at;
+        told = hudarin_view_stored(&view, 1, HUDARIN_STORED_KEPT, room, sizeof room);
+        granted = -1;
+        refused += told.status == HUDARIN_MEMORY;
+        HOLDS(told.status == HUDARIN_OK || (told.status == HUDARIN_MEMORY && told.length == 0 && room[0] == 0x5A));
+    }
+    HOLDS(told.status == HUDARIN_OK && told.length == 48 && refused > 4);
+    hudarin_free(&view.kept);
+    hudarin_free(&store.kept);
+}
+
 /* A pending edit is in no view, and a view never changes. */
 static void pending(hudarin_store *store, hudarin_token *token)
 {
@@ -343,6 +379,7 @@ int main(void)
     HOLDS(is_made(opened(&store, ROOT)));
     HOLDS(hudarin_keep_token(user, sizeof user, NULL, 0, NULL, 0, NULL, 0, 0, &token).status == HUDARIN_OK);
     each_row(&store);
+    each_request_of_kept();
     publishes(&store, &token);
     reverts(&store);
     other_mappings(&token);

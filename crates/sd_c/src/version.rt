@@ -15,11 +15,11 @@ pub struct Version {
 /// The version of the library, which a caller may compare with that of its header.
 #[unsafe(no_mangle)]
 pub extern "C" fn hudarin_version() -> Version
-    ensures { (result.major ≡ 0) × (result.minor ≡ 2) × (result.patch ≡ 0) }
+    ensures { (result.major ≡ 0) × (result.minor ≡ 3) × (result.patch ≡ 0) }
 {
     Version {
         major: 0,
-        minor: 2,
+        minor: 3,
         patch: 0,
     }
 }
