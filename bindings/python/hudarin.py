@@ -28,7 +28,7 @@ import uuid
 from typing import Any, Callable, ContextManager, Dict, Iterable, Iterator, List, NamedTuple, NoReturn, Optional
 from typing import SupportsBytes, Tuple, Type, TypeVar, Union, cast
 
-__version__ = "0.2.0"
+__version__ = "0.3.0"
 
 __all__ = [
     "ARGUMENTS",
@@ -68,6 +68,7 @@ __all__ = [
     "STATUSES",
     "Sid",
     "Store",
+    "Stored",
     "TAKE_OWNERSHIP",
     "Token",
     "VERDICTS",
@@ -138,6 +139,8 @@ ARGUMENTS = {
     20: "types",
     21: "principal self",
     22: "client",
+    23: "kept",
+    24: "offer",
 }
 
 CAUSES = {
@@ -179,6 +182,8 @@ _NO_PASS, _NO_ENTRY = 0, 3
 _OF_SID, _OF_TEXT = 3, 4
 _OF_DENIES, _RESTRICTING = 1, 2
 _REVIEWS = {2: "changed", 3: "new", 4: "moved", 5: "gone"}
+#: The parts of what a node keeps.
+_KEPT, _OFFER = 1, 2
 _ADD_CONTAINER, _ADD_OBJECT, _SET_OWNER, _SET_GROUP, _SET_DACL, _REMOVE, _PROTECT_KEEPING, _MOVE = range(1, 9)
 
 
@@ -377,6 +382,8 @@ def _load() -> ctypes.CDLL:
         "store_open_within": (given + [_Mapping, _U64, _U64, kept], _Verdict),
         "store_edit": ([kept, _U32] + given * 2, _Verdict),
         "store_judge": ([kept, _U32] + given * 2, _Verdict),
+        "store_add_stored": ([kept, _U32] + given * 4, _Verdict),
+        "store_judge_stored": ([kept, _U32] + given * 4, _Verdict),
         "store_publish": ([kept, kept], _Written),
         "store_revert": ([kept, kept], _Written),
         "store_review": ([kept, _U64] + buffer + [kept], _Review),
@@ -384,6 +391,7 @@ def _load() -> ctypes.CDLL:
         "view_descriptor": ([kept] + given + buffer, _Written),
         "view_own": ([kept] + given + buffer, _NodeAnswer),
         "view_node": ([kept, _U64] + buffer, _NodeAnswer),
+        "view_stored": ([kept, _U64, _U32] + buffer, _Written),
         "journal_length": ([kept], _Written),
         "fault_name": ([_U32, _U32] + buffer, _Written),
         "release": ([kept], None),
@@ -1586,6 +1594,16 @@ class KeptDescriptor(_Held):
             return call(self._kept, token._kept, *request)
 
 
+class Stored(NamedTuple):
+    """What a node keeps that was inherited elsewhere: each a descriptor with neither owner nor group, whose list isn't
+    protected."""
+
+    #: What it had inherited.
+    kept: Descriptor
+    #: What its container passed down there. While its container passes down the same, the node has what it keeps.
+    offer: Descriptor
+
+
 class Node(NamedTuple):
     """A node of a view."""
 
@@ -1593,6 +1611,8 @@ class Node(NamedTuple):
     is_container: bool
     #: Its owner, its group and its own DACL, without what it inherits.
     own: Descriptor
+    #: What it keeps that was inherited elsewhere, or None.
+    stored: Optional[Stored] = None
 
 
 class View(_Held):
@@ -1630,9 +1650,56 @@ class View(_Held):
         return Descriptor._of(self._of_path(_library.hudarin_view_descriptor, path)[0])
 
     def own(self, path: str) -> Node:
-        """The node of the path. An addition with its own descriptor makes the same node."""
+        """The node of the path. An addition with its own descriptor and what it keeps makes the same node."""
+        return self._node(path, self._place_of(path))
+
+    def stored(self, path: str) -> Optional[Stored]:
+        """What the node of the path keeps that was inherited elsewhere, or None."""
+        return self.own(path).stored
+
+    def _node(self, path: str, place: int) -> Node:
         form, answer = self._of_path(_library.hudarin_view_own, path)
-        return Node(path, answer.kind == _CONTAINER, Descriptor._of(form))
+        return Node(path, answer.kind == _CONTAINER, Descriptor._of(form), self._stored_at(place))
+
+    def _stored_at(self, place: int) -> Optional[Stored]:
+        try:
+            return Stored(self._list_at(place, _KEPT), self._list_at(place, _OFFER))
+        except Refused as refused:
+            if refused.status == STATUSES[_NO_PART]:
+                return None
+            raise
+
+    def _list_at(self, place: int, part: int) -> Descriptor:
+        with self._turn:
+            form = _filled(
+                lambda *buffer: _library.hudarin_view_stored(self._kept, place, part, *buffer),
+                argument=lambda _: self._argument,
+            )[0]
+        return Descriptor._of(form)
+
+    def _place_of(self, path: str) -> int:
+        """The place of the node of the path in the order of the paths: of names, each by its bytes. Of no node a place
+        at which there is none or another one."""
+        names = _text(path).split(b"/")
+        low, high = 0, 1
+        while self._is_before(high, names):
+            low, high = high, 2 * high
+        while low < high:
+            middle = (low + high) // 2
+            if self._is_before(middle, names):
+                low = middle + 1
+            else:
+                high = middle
+        return low
+
+    def _is_before(self, place: int, names: List[bytes]) -> bool:
+        """Whether there is a node at the place, before these names."""
+        try:
+            return self._path_at(place).split(b"/") < names
+        except Refused as refused:
+            if refused.status == STATUSES[_NO_NODE]:
+                return False
+            raise
 
     def _of_path(self, call: Callable[..., Any], path: str) -> Tuple[bytes, Any]:
         given = _text(path)
@@ -1655,7 +1722,7 @@ class View(_Held):
 
     def nodes(self) -> Iterator[Node]:
         """Each node, in the order of the paths."""
-        return map(self.own, self.paths())
+        return map(self._node, self.paths(), itertools.count())
 
     def _path_at(self, place: int) -> bytes:
         with self._turn:
@@ -1689,13 +1756,42 @@ class _Edits:
     def _edit(self, edit: int, path: str, value: bytes = b"") -> None:
         raise NotImplementedError
 
-    def add_container(self, path: str, descriptor: Descriptor) -> None:
-        """Adds a container with the descriptor's owner, group and own DACL."""
-        self._edit(_ADD_CONTAINER, path, bytes(_of_type(descriptor, Descriptor, "descriptor")))
+    def _add_stored(self, kind: int, path: str, *forms: bytes) -> None:
+        raise NotImplementedError
 
-    def add_object(self, path: str, descriptor: Descriptor) -> None:
-        """Adds an object with the descriptor's owner, group and own DACL."""
-        self._edit(_ADD_OBJECT, path, bytes(_of_type(descriptor, Descriptor, "descriptor")))
+    def _add(
+        self, edit: int, path: str, descriptor: Descriptor, kept: Optional[Descriptor], offer: Optional[Descriptor]
+    ) -> None:
+        own = bytes(_of_type(descriptor, Descriptor, "descriptor"))
+        if kept is None and offer is None:
+            self._edit(edit, path, own)
+        else:
+            lists = (_of_type(each, Descriptor, name) for each, name in ((kept, "kept"), (offer, "offer")))
+            self._add_stored(edit, path, own, *map(bytes, lists))
+
+    def add_container(
+        self,
+        path: str,
+        descriptor: Descriptor,
+        *,
+        kept: Optional[Descriptor] = None,
+        offer: Optional[Descriptor] = None,
+    ) -> None:
+        """Adds a container with the descriptor's owner, group and own DACL. With ``kept`` and ``offer``, each a
+        descriptor with neither owner nor group, it keeps what it had inherited elsewhere while its container passes
+        down what was passed down there, the offer; otherwise it inherits as any other node."""
+        self._add(_ADD_CONTAINER, path, descriptor, kept, offer)
+
+    def add_object(
+        self,
+        path: str,
+        descriptor: Descriptor,
+        *,
+        kept: Optional[Descriptor] = None,
+        offer: Optional[Descriptor] = None,
+    ) -> None:
+        """Adds an object, as ``add_container`` adds a container."""
+        self._add(_ADD_OBJECT, path, descriptor, kept, offer)
 
     def set_owner(self, path: str, owner: Sid) -> None:
         """Sets the node's owner."""
@@ -1776,10 +1872,13 @@ class Store(_Held, _Edits):
     def _edit(self, edit: int, path: str, value: bytes = b"") -> None:
         self._call(_library.hudarin_store_edit, edit, path, value)
 
-    def _call(self, call: Callable[..., Any], edit: int, path: str, value: bytes) -> None:
-        given = _text(path)
+    def _add_stored(self, kind: int, path: str, *forms: bytes) -> None:
+        self._call(_library.hudarin_store_add_stored, kind, path, *forms)
+
+    def _call(self, call: Callable[..., Any], edit: int, path: str, *values: bytes) -> None:
+        given = [part for value in (_text(path), *values) for part in (value, len(value))]
         with self._turn:
-            _checked(call(self._kept, edit, given, len(given), value, len(value)))
+            _checked(call(self._kept, edit, *given))
 
     @property
     def judge(self) -> "Judge":
@@ -1847,3 +1946,6 @@ class Judge(_Edits):
 
     def _edit(self, edit: int, path: str, value: bytes = b"") -> None:
         self._store._call(_library.hudarin_store_judge, edit, path, value)
+
+    def _add_stored(self, kind: int, path: str, *forms: bytes) -> None:
+        self._store._call(_library.hudarin_store_judge_stored, kind, path, *forms)

@@ -25,6 +25,7 @@ from hudarin import (
     Reviewed,
     Sid,
     Store,
+    Stored,
     Token,
     Verdict,
     View,
@@ -80,6 +81,8 @@ with Token(user, [user], restricting=[user]) as token, KeptDescriptor(descriptor
         seen: View = other
         nodes: Iterator[Node] = view.nodes()
         paths: Iterator[str] = view.paths()
+        had: Optional[Stored] = view.stored("/a")
+        store.add_object("/f", descriptor, kept=descriptor, offer=descriptor)
         count: int = len(view) + len(store)
         store.judge.move("/a", "/b")
         reviewed: Iterator[Reviewed] = store.review()
@@ -105,6 +108,7 @@ copied.owner = user  # type: ignore
 mask(1)  # type: ignore
 store.add_object("/a", "D:")  # type: ignore
 Store(descriptor, nodes=2.0)  # type: ignore
+store.add_object("/a", descriptor, kept="D:", offer=descriptor)  # type: ignore
 store.revert(token)  # type: ignore
 store.review("/")  # type: ignore
 view.check("/a", user)  # type: ignore

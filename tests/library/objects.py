@@ -41,6 +41,7 @@ from hudarin import (  # noqa: E402
     Reviewed,
     Sid,
     Store,
+    Stored,
     Token,
     Verdict,
     View,
@@ -551,6 +552,52 @@ def reviews() -> None:
         gives("a long line", shown, lambda: str(next(store.review())))
 
 
+def kept() -> None:
+    """The example of docs/TREE.md: what a node keeps, as it is told, and in a tree that is made anew of that."""
+    inherited, offer = (Descriptor.from_sddl(f"D:(A;ID;{each})") for each in ("FA;;;WD", "FR;;;BU"))
+    own, folder = Descriptor.from_sddl("O:BAG:SYD:(A;;FA;;;BA)"), Descriptor.from_sddl("O:BAG:SYD:(A;OICI;FR;;;BU)")
+    shown = "O:BAG:SYD:AI(A;;FA;;;BA)"
+    with Store(folder) as store, Store(folder) as again:
+        gives("a judged one", (None, 0), lambda: (store.judge.add_object("/f", own, kept=inherited, offer=offer), len(store)))
+        store.add_object("/f", own, kept=inherited, offer=offer)
+        store.add_container("/d", own)
+        for number in range(40):
+            store.add_object(f"/d/{number}", own)
+        store.add_container("/e", own, kept=offer, offer=inherited)
+        with store.publish() as view:
+            gives("as it was elsewhere", shown + "(A;ID;FA;;;WD)", lambda: str(view.descriptor("/f")))
+            gives("where the folder offers another", shown + "(A;OICIID;FR;;;BU)", lambda: str(view.descriptor("/e")))
+            gives("what it keeps", Stored(inherited, offer), lambda: view.stored("/f"))
+            gives("the last container", Stored(offer, inherited), lambda: view.own("/e").stored)
+            gives("nothing", [None] * 3, lambda: [view.stored(path) for path in ("/", "/d", "/d/39")])
+            gives("each by its path", list(view.nodes()), lambda: [view.own(path) for path in view.paths()])
+            gives("no such node", ("no node", 0, None, 0, "path"), lambda: refused(lambda: view.stored("/d/40")))
+            for node in list(view.nodes())[1:]:
+                lists = {} if node.stored is None else node.stored._asdict()
+                (again.add_container if node.is_container else again.add_object)(node.path, node.own, **lists)
+            with again.publish() as other:
+                gives("the same tree", list(view.nodes()), lambda: list(other.nodes()))
+                gives("the same lists", *_shown(view, other))
+        for each in (store, again):
+            each.set_dacl("/", Descriptor.from_sddl("D:(A;OICI;FX;;;BU)"))
+        with store.publish() as view, again.publish() as other:
+            gives("as any other", shown + "(A;ID;FX;;;BU)", lambda: str(view.descriptor("/f")))
+            gives("what it keeps all the same", Stored(inherited, offer), lambda: view.stored("/f"))
+            gives("the same lists, changed", *_shown(view, other))
+        for lists, argument in (((folder, offer), "kept"), ((inherited, folder), "offer")):
+            given = dict(zip(("kept", "offer"), lists))
+            wanted = ("parts", 0, None, 0, argument)
+            gives(f"{argument} with an owner", wanted, lambda: refused(lambda: store.add_object("/x", own, **given)))
+            gives(f"{argument}, judged", wanted, lambda: refused(lambda: store.judge.add_container("/x", own, **given)))
+        raises("kept without an offer", TypeError, lambda: store.add_object("/x", own, kept=inherited))
+        raises("an offer without kept", TypeError, lambda: store.add_object("/x", own, offer=inherited))
+        raises("lists by position", TypeError, lambda: store.add_object("/x", own, inherited, offer))
+
+
+def _shown(one: View, other: View) -> Tuple[List[str], Callable[[], List[str]]]:
+    return [str(one.descriptor(path)) for path in one.paths()], lambda: [str(other.descriptor(path)) for path in other.paths()]
+
+
 def _users(rights: str) -> Descriptor:
     return Descriptor.from_sddl(f"O:BAG:SYD:(A;;{rights};;;BU)")
 
@@ -560,7 +607,7 @@ def _user(change: Change) -> Tuple[bool, str]:
 
 
 def main() -> int:
-    for test in (truth, copies, refusals, pool, again, parts, names, one_exception, whole, analysis, findings, reviews):
+    for test in (truth, copies, refusals, pool, again, parts, names, one_exception, whole, analysis, findings, reviews, kept):
         test()
     gives("all names of the module", [], lambda: [name for name in hudarin.__all__ if not hasattr(hudarin, name)])
     gives("the mapping of files", FILES, lambda: (mask("FR"), mask("FW"), mask("FX"), mask("FA")))

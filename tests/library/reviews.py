@@ -1,5 +1,5 @@
-"""What hudarin.py returns of pending edits beside `review` of the program: over each script of the files of rows whose
-commands are edits, and over random scripts.
+"""What hudarin.py returns of edits, of pending ones and of the published nodes, beside `review`, `list` and `dump` of the
+program: over each script of the files of rows whose commands are edits, and over random scripts.
 
     reviews.py PROGRAM SCRIPTS SEED FILE ..
 
@@ -20,12 +20,16 @@ from tally import close, holds  # noqa: E402
 PROGRAM, SCRIPTS, SEED, FILES = sys.argv[1], int(sys.argv[2]), int(sys.argv[3]), sys.argv[4:]
 SIDS = ("BU", "BA", "BG", "AU", "WD", "OW", "CO", "SY")
 RIGHTS = ("FR", "FW", "FA", "0x1", "0x2", "RC", "WD", "GA")
+KINDS = {True: "container", False: "object"}
+#: The commands with an answer of several lines, and where those end that the library returns.
+SEVERAL = {"review": -2, "list": -1, "dump": -1}
 FLAGS = ("", "OI", "CI", "OICI", "OICIIO", "CINP")
 
 
 def edited(store, command, *words):
     """Makes the edit of this line of a script."""
     given = {"owner": Sid.from_text, "group": Sid.from_text, "move": str}.get(command, Descriptor.from_sddl)
+    lists = dict(zip(("kept", "offer"), map(given, words[2:])))
     edits = {
         "addc": store.add_container,
         "addo": store.add_object,
@@ -36,19 +40,26 @@ def edited(store, command, *words):
         "protect": store.protect_keeping,
         "move": store.move,
     }
-    edits[command](words[0], *map(given, words[1:]))
+    edits[command](words[0], *map(given, words[1:2]), **lists)
 
 
 def replies(lines):
-    """The answers of the program, one for each line, without a newline at the end. Each `review` ends by an empty line."""
+    """The answers of the program, one for each line, without a newline at the end. Those of several lines end by an empty
+    one."""
     text = "".join(line + "\n" for line in lines)
     said = iter(subprocess.run([PROGRAM, "script"], input=text, text=True, capture_output=True, check=False).stdout.splitlines())
     for line in lines:
         reply = [next(said)]
-        while line == "review" and reply[-1] != "":
+        while line in SEVERAL and reply[-1] != "":
             reply.append(next(said))
-        # (the library doesn't say what a moved node inherits at its new place)
-        yield "\n".join(reply[:-2] if line == "review" else reply).removesuffix(" reinherited")
+        # (the library doesn't say what a moved node inherits at its new place, and whether a node has what it keeps)
+        text = "\n".join(reply[: SEVERAL.get(line)])
+        yield text.removesuffix(" reordered").removesuffix(" differs").removesuffix(" reinherited")
+
+
+def dumped(node):
+    """The line that makes the node."""
+    return " ".join([f"add{'c' if node.is_container else 'o'} {node.path}", *map(str, (node.own, *(node.stored or ())))])
 
 
 def reply_of(store, line):
@@ -58,6 +69,12 @@ def reply_of(store, line):
     if line == "publish":
         with store.publish() as view:
             return f"published {len(view)}"
+    if line == "list":
+        with store.publish() as view:
+            return "\n".join(f"{KINDS[node.is_container]} {node.path} {view.descriptor(node.path)}" for node in view.nodes())
+    if line == "dump":
+        with store.publish() as view:
+            return "\n".join([f"open 1 {view.own('/').own}", *map(dumped, list(view.nodes())[1:]), "publish"])
     try:
         edited(store, *line.split(" "))
     except Refused as refused:
@@ -85,6 +102,7 @@ class Script:
             self.lines.append(self.edit() if chance.random() < 0.9 else "publish")
             if chance.random() < 0.7:
                 self.lines.append("review")
+        self.lines += ["publish", "list", "dump"]
 
     def path(self):
         return "".join("/" + self.chance.choice("abc") for _ in range(self.chance.randrange(1, 4)))
@@ -101,10 +119,15 @@ class Script:
         none = "NO_ACCESS_CONTROL" if self.chance.random() < 0.1 else self.entries()
         return "D:" + self.chance.choice(("", "", "P")) + none
 
+    def inherited(self):
+        """What a node had inherited elsewhere, or what was offered: often nothing."""
+        return "D:" + self.chance.choice(("", self.entries().replace(";", ";ID", 1)))
+
     def edit(self):
         path, kind = self.path(), self.chance.choice(("addc", "addc", "addo", "owner", "group", "dacl", "dacl", "remove", "protect", "move", "move"))
         if kind in ("addc", "addo"):
-            return f"{kind} {path} {self.owned()}{self.dacl()}"
+            lists = f" {self.inherited()} {self.inherited()}" if self.chance.random() < 0.4 else ""
+            return f"{kind} {path} {self.owned()}{self.dacl()}{lists}"
         if kind == "dacl":
             return f"dacl {self.chance.choice((path, '/'))} {self.dacl()}"
         if kind in ("owner", "group"):
