@@ -60,6 +60,8 @@ def _sum_up(arguments: argparse.Namespace, counts: Counts, table: Table) -> None
         f"{counts.differing:,} differing",
         f"{plural(counts.sacls, 'SACL')} kept",
     ]
+    if counts.stored:
+        said.append(f"{plural(counts.stored, 'node')} with what was inherited elsewhere")
     if counts.linked:
         said.append(f"{counts.linked:,} further names of files")
     if counts.unlisted:

@@ -1,14 +1,35 @@
 """What a child has of its folder, by the library: no rule of inheritance is written here."""
 
-from hudarin import Descriptor, Refused, Store
+from dataclasses import dataclass
+
+from hudarin import Descriptor, Node, Refused, Store
 
 #: After so many edits another store is opened: a journal has 1,048,576 (docs/TREE.md).
 _EDITS = 1_000_000
 #: So many answers are kept.
 _KEPT = 65_536
 
-#: What was given to each folder from the root down, in SDDL: the root's is that of `open`.
-Chain = tuple[str, ...]
+
+@dataclass(frozen=True, slots=True)
+class Given:
+    """What was given to a node, in SDDL: its own descriptor, and what it keeps that was inherited elsewhere with the
+    offer there, or nothing."""
+
+    own: str
+    kept: str = ""
+    offer: str = ""
+
+    @property
+    def words(self) -> str:
+        """The end of its line in a script."""
+        return " ".join(filter(None, (self.own, self.kept, self.offer)))
+
+
+#: What was given to each folder from the root down: the root's is that of `open`.
+Chain = tuple[Given, ...]
+
+#: A child of which the copies that it inherits are what its folder offers: the creators' places stay theirs.
+_OF_CREATORS = Given("O:COG:CGD:")
 
 
 class TooMuch(Exception):
@@ -21,30 +42,34 @@ class Inheritance:
     def __init__(self) -> None:
         self._store: Store | None = None
         self._chain: Chain = ()
-        self._answers: dict[tuple[str, str, bool], str] = {}
+        self._answers: dict[tuple[str, Given, bool], str] = {}
 
-    def root(self, given: str) -> str:
+    def root(self, given: Given) -> str:
         """The descriptor of a root to which `given` was given, in canonical SDDL."""
         self._open(given)
         return self._asked("/")
 
-    def child(self, chain: Chain, above: str, own: str, is_container: bool) -> str:
-        """The descriptor, in canonical SDDL, of a child to which `own` was given, in the folder at the end of the
+    def offer(self, chain: Chain, above: str, is_container: bool) -> str:
+        """The descriptor of a child of the creators: its list is what that folder offers its children."""
+        return self.child(chain, above, _OF_CREATORS, is_container)
+
+    def child(self, chain: Chain, above: str, given: Given, is_container: bool) -> str:
+        """The descriptor, in canonical SDDL, of a child to which `given` was given, in the folder at the end of the
         chain, whose descriptor is `above`. Raises TooMuch if the tree refuses it."""
-        key = (above[above.index("D:") :], own, is_container)
+        key = (above[above.index("D:") :], given, is_container)
         answer = self._answers.get(key)
         if answer is None:
-            answer = self._by_store(chain, own, is_container)
+            answer = self._by_store(chain, given, is_container)
             if len(self._answers) >= _KEPT:
                 self._answers.clear()
             self._answers[key] = answer
         return answer
 
-    def _by_store(self, chain: Chain, own: str, is_container: bool) -> str:
+    def _by_store(self, chain: Chain, given: Given, is_container: bool) -> str:
         store = self._store_of(chain)
         path = "/f" * (len(chain) - 1) + "/c"
         try:
-            (store.add_container if is_container else store.add_object)(path, Descriptor.from_sddl(own))
+            add(store, path, given, is_container)
         except Refused as refused:
             raise TooMuch(str(refused.name)) from refused
         answer = self._asked(path)
@@ -64,17 +89,29 @@ class Inheritance:
         for length in range(len(self._chain), common, -1):
             store.remove("/f" * (length - 1))
         for length in range(common, len(chain)):
-            store.add_container("/f" * length, Descriptor.from_sddl(chain[length]))
+            add(store, "/f" * length, chain[length], True)
         self._chain = chain
         return store
 
-    def _open(self, given: str) -> Store:
+    def _open(self, given: Given) -> Store:
         if self._store is not None:
             self._store.close()
-        self._store, self._chain = Store(Descriptor.from_sddl(given)), (given,)
+        self._store, self._chain = Store(Descriptor.from_sddl(given.own)), (given,)
         return self._store
 
     def _asked(self, path: str) -> str:
         assert self._store is not None
         with self._store.publish() as view:
             return str(view.descriptor(path))
+
+
+def add(store: Store, path: str, given: Given, is_container: bool) -> None:
+    """Adds a node to which `given` was given."""
+    lists = [Descriptor.from_sddl(text) if text else None for text in (given.kept, given.offer)]
+    adds = store.add_container if is_container else store.add_object
+    adds(path, Descriptor.from_sddl(given.own), kept=lists[0], offer=lists[1])
+
+
+def given_to(node: Node) -> Given:
+    """What was given to a node of a view."""
+    return Given(str(node.own), *map(str, node.stored or ()))

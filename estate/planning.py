@@ -4,7 +4,7 @@ from collections.abc import Iterator
 from dataclasses import dataclass, field
 
 from forms import kept_in, replaced
-from inheritance import Chain, Inheritance, TooMuch
+from inheritance import Chain, Given, Inheritance, TooMuch
 from journal import Step
 from others import FOR_CHILDREN, INHERITED, Kept, others_of
 from paths import Path, spelled
@@ -145,8 +145,9 @@ class Plan:
                 blob, inode = node.read(), node.inode
             kept = kept_in(self.volume.attribute, blob)
             has = parts_of(kept.text)
-            before = self._inheritance.child(chains[0], folder.before, has.own, False)
-            after = self._inheritance.child(chains[1], folder.after, has.own, False)
+            given = Given(has.own)
+            before = self._inheritance.child(chains[0], folder.before, given, False)
+            after = self._inheritance.child(chains[1], folder.after, given, False)
         except OSError as error:
             self._leave(path, f"it can't be read: {text_of(error)}", True)
         except ValueError as error:

@@ -1,4 +1,4 @@
-"""`estate read`: the nodes of a source as a script of imports, and a table of what the script doesn't say as it is."""
+"""`estate read`: the nodes of a source as a script, and a table of what the script doesn't say as it is."""
 
 from collections.abc import Iterable, Mapping
 from dataclasses import dataclass, field
@@ -7,7 +7,7 @@ from typing import BinaryIO
 from errors import Invalid
 from found import Found
 from gaps import Gap, end_of
-from inheritance import Chain, Inheritance, TooMuch
+from inheritance import Chain, Given, Inheritance, TooMuch
 from others import Kept
 from paths import MAX_NODES, Path, fault_of, spelled
 from progress import Progress
@@ -25,6 +25,8 @@ class Counts:
     nodes: int = 0
     skipped: int = 0
     differing: int = 0
+    #: Nodes that keep what they had inherited elsewhere.
+    stored: int = 0
     left_out: int = 0
     sacls: int = 0
     #: Further names of files.
@@ -70,7 +72,7 @@ class Reading:
 
     def run(self, source: Iterable[Found], progress: Progress) -> Counts:
         """Writes the script: the root first, and each node after its folder. Invalid if no tree has the nodes."""
-        self._write("# Read by estate. Nodes: open and import; changes of descriptors may follow the last line.")
+        self._write("# Read by estate. Nodes: open, import, addc and addo; changes of descriptors may follow the last line.")
         for found in source:
             progress.step()
             self.counts.nodes += 1
@@ -113,31 +115,43 @@ class Reading:
             self._open(kept, parts)
 
     def _open(self, kept: Kept, parts: Parts) -> None:
-        given = parts.as_root.own
+        given = Given(parts.as_root.own)
         text = self._inheritance.root(given)
         self._above.append(_Folder((), (given,), text))
-        self._write_node(f"open 1 {given}")
+        self._write_node(f"open 1 {given.words}")
         self._compare((), kept, parts.as_root, parts_of(text))
 
     def _import(self, found: Found, kept: Kept, parts: Parts) -> None:
         above = self._above[-1]
         try:
-            text = self._inheritance.child(above.chain, above.text, parts.own, found.is_container)
+            given, text = self._given(above, parts, found.is_container)
         except TooMuch as refused:
             self._skip(found, f"the tree refuses it: {refused}")
             return
-        if self.folders_only and not found.is_container and self._is_passed_down(kept, parts, text):
+        if self.folders_only and not found.is_container and self._is_passed_down(kept, parts, given, text):
             above.files += 1
             self.counts.left_out += 1
             return
-        kind = "container" if found.is_container else "object"
-        self._write_node(f"import {kind} {spelled(found.path)} {parts.text}")
+        self._write_node(_line_of(found, parts, given))
+        self.counts.stored += bool(given.kept)
         self._compare(found.path, kept, parts, parts_of(text))
         if found.is_container:
-            self._above.append(_Folder(found.path, (*above.chain, parts.own), text))
+            self._above.append(_Folder(found.path, (*above.chain, given), text))
 
-    def _is_passed_down(self, kept: Kept, parts: Parts, tree: str) -> bool:
-        return not kept.whole and parts.has_no_own and parts.dacl == parts_of(tree).dacl
+    def _given(self, above: _Folder, parts: Parts, is_container: bool) -> tuple[Given, str]:
+        """What makes the node in the tree, and its descriptor there. One that inherited otherwise than its folder
+        passes down keeps that with what its folder offers, until that offers other entries."""
+        given = Given(parts.own)
+        text = self._inheritance.child(above.chain, above.text, given, is_container)
+        if parts.inherits and parts.inherited != parts_of(text).inherited:
+            offer = parts_of(self._inheritance.offer(above.chain, above.text, is_container)).kept
+            given = Given(parts.own, parts.kept, offer)
+            text = self._inheritance.child(above.chain, above.text, given, is_container)
+        return given, text
+
+    def _is_passed_down(self, kept: Kept, parts: Parts, given: Given, tree: str) -> bool:
+        is_alike = not given.kept and parts.dacl == parts_of(tree).dacl
+        return not kept.whole and parts.has_no_own and is_alike
 
     def _compare(self, path: Path, kept: Kept, source: Parts, tree: Parts) -> None:
         """A row, if the tree has another DACL for the node than the source."""
@@ -145,7 +159,7 @@ class Reading:
         if source.is_absent:
             whys.append("it has no DACL, which grants everything: so does the null one of the script")
         elif source.inherited != tree.inherited:
-            whys.append("it inherits otherwise than its folder passes down")
+            whys.append("it is protected, and has inherited entries")
         elif source.dacl != tree.dacl:
             whys.append("its own entries are in another order: the script has denies first")
         if whys:
@@ -203,3 +217,11 @@ class Reading:
         data = line.encode("ascii") + b"\n"
         self.counts.bytes += len(data)
         self.script.write(data)
+
+
+def _line_of(found: Found, parts: Parts, given: Given) -> str:
+    """The line that makes the node."""
+    path = spelled(found.path)
+    if given.kept:
+        return f"{'addc' if found.is_container else 'addo'} {path} {given.words}"
+    return f"import {'container' if found.is_container else 'object'} {path} {parts.text}"

@@ -7,20 +7,22 @@ from hudarin import Descriptor, Refused, Sid, Store, View, WholeEntry
 
 from errors import Failed, Invalid
 from gaps import UNKNOWN, Coverage, Gap, count_in, gap_of
-from inheritance import Chain
+from inheritance import Chain, Given, add, given_to
 from others import FOR_CHILDREN, INHERITED, others_of, whole_of
 from paths import Path, parsed, spelled
 from sddl import parts_of
 
 #: Commands that change no descriptor.
 _QUESTIONS = {"tell", "learn", "check", "why", "show", "list", "dump", "who", "find", "delete", "review"}
+#: Commands that read a node, and whether it is a container.
+_STORED = {"addc": True, "addo": False}
 #: Commands that make, remove or move files.
 _OF_FILES = {"open", "import", "addc", "addo", "remove", "move"}
 
 
 @dataclass(slots=True)
 class Node:
-    """A node that the script opens or imports: what its line says of it."""
+    """A node that the script opens, imports or adds: what its line says of it."""
 
     is_container: bool
     #: The descriptor of the source, in canonical SDDL; of the root what opens the tree.
@@ -139,7 +141,7 @@ class Script:
         for path in sorted(self.nodes):
             made = self.after.own(plain(path))
             command = f"{'addc' if made.is_container else 'addo'} {spelled(path)}" if path else "open 1"
-            yield f"{command} {made.own}"
+            yield f"{command} {given_to(made).words}"
         yield "publish"
 
     # Lines
@@ -153,6 +155,8 @@ class Script:
         command, *words = line.split(" ")
         if self._store is None:
             self._open(command, words)
+        elif self._before is None and command in _STORED:
+            self._add_stored(_STORED[command], words)
         elif self._before is None and command != "publish":
             self._import(command, words)
         elif command == "publish":
@@ -184,11 +188,22 @@ class Script:
     def _import(self, command: str, words: list[str]) -> None:
         if command != "import" or len(words) != 3 or words[0] not in ("container", "object"):
             raise ValueError("'import KIND PATH SDDL' is expected, as estate read writes it, or 'publish'")
+        text = str(Descriptor.from_sddl(words[2]))
+        self._add(words[0] == "container", parsed(words[1]), Given(parts_of(text).own), text)
+
+    def _add_stored(self, is_container: bool, words: list[str]) -> None:
+        if len(words) != 4:
+            raise ValueError("'addc PATH SDDL KEPT OFFER' is expected, as estate read writes it, or 'addo'")
+        given = Given(*words[1:])
+        # (what it had: its own entries, and then those that it had inherited)
+        text = str(Descriptor.from_sddl(given.own + given.kept.removeprefix("D:")))
+        if parts_of(text).own != parts_of(given.own).own:
+            raise ValueError(f"{given.kept}: not just inherited entries, as estate read writes them")
+        self._add(is_container, parsed(words[0]), given, text)
+
+    def _add(self, is_container: bool, path: Path, given: Given, text: str) -> None:
         assert self._store is not None
-        path, text = parsed(words[1]), str(Descriptor.from_sddl(words[2]))
-        own = Descriptor.from_sddl(parts_of(text).own)
-        is_container = words[0] == "container"
-        (self._store.add_container if is_container else self._store.add_object)(plain(path), own)
+        add(self._store, plain(path), given, is_container)
         self.nodes[path] = Node(is_container, text)
 
     def _publish(self) -> None:
@@ -243,7 +258,7 @@ def plain(path: Path) -> str:
 
 def chain_of(view: View, path: Path) -> Chain:
     """What was given to the folder of the path and to those above it."""
-    return tuple(str(view.own(plain(path[:length])).own) for length in range(len(path) + 1))
+    return tuple(given_to(view.own(plain(path[:length]))) for length in range(len(path) + 1))
 
 
 def read_script(name: str) -> Script:

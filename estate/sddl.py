@@ -62,6 +62,11 @@ class Parts:
         return tuple(each for each in self.entries or () if each.is_inherited)
 
     @property
+    def kept(self) -> str:
+        """What it inherited, as a list."""
+        return f"D:{''.join(map(str, self.inherited))}"
+
+    @property
     def text(self) -> str:
         """The descriptor for a line of `import`."""
         return self._with(self.entries, in_order=True)

@@ -16,7 +16,7 @@ from trees import BA, FULL, SY, WD, allow
 from second import ID
 
 USER = "S-1-5-21-1-2-3-1001"
-#: Its own entries aren't in a tree's order, and it inherited otherwise than its folder passes down.
+#: Its own entries aren't in a tree's order, and it keeps what it inherited elsewhere.
 EVERYONE = "O:BAG:SYD:AI(A;;FR;;;BU)(D;;0x1;;;BG)(A;ID;FA;;;WD)"
 #: An alias of a domain, which isn't known.
 UNKNOWN = "O:BAG:SYD:(A;;FA;;;DA)"
@@ -29,7 +29,7 @@ ROWS = (
     ("C:\\s\\b\\c", FILE),
     ("C:\\s\\d", FILE),
 )
-MOVED = "differs\t/a/moved\tit inherits otherwise than its folder passes down"
+MOVED = "differs\t/a/moved\tits own entries are in another order: the script has denies first"
 SUM = "of 6 nodes 3 answered; 3 can't be: 1 that the source has otherwise, 2 that couldn't be read"
 ONE = "of 1 node 0 answered; 1 can't be: 1 that the source has otherwise"
 NONE = "of {} answered, none left out"
@@ -44,6 +44,64 @@ class Sources(Case):
         return (self.room / "script").read_text()
 
 
+class Elsewhere(Sources):
+    """Nodes that were moved with what they had inherited: the tree has them as the source."""
+
+    #: A folder that was moved here with Everyone's entry, a file in it, and a file that was moved without any.
+    ROWS = (
+        ("C:\\s", ROOT),
+        ("C:\\s\\d", "O:BAG:SYD:AI(A;;FR;;;BU)(A;OICIID;FA;;;WD)"),
+        ("C:\\s\\d\\f", "O:BAG:SYD:AI(A;ID;FA;;;WD)"),
+        ("C:\\s\\e", "O:BAG:SYD:AI"),
+    )
+    LINES = [
+        "open 1 O:BAG:SYD:P(A;OICI;FA;;;BA)",
+        "addc /d O:BAG:SYD:(A;;FR;;;BU) D:(A;OICIID;FA;;;WD) D:(A;OICIID;FA;;;BA)",
+        "import object /d/f O:BAG:SYD:(A;ID;FA;;;WD)",
+        "addo /e O:BAG:SYD: D: D:(A;ID;FA;;;BA)",
+        "# rows\t0",
+        "publish",
+    ]
+
+    def test_lines(self) -> None:
+        script = self.read(*self.ROWS)
+        self.assertEqual(script.splitlines()[1:], self.LINES)
+        last = self.runs(0, "read", "--json", "source", "script", says="2 nodes with what was inherited elsewhere")[-1]
+        self.assertEqual([json.loads(last)[name] for name in ("differing", "stored")], [0, 2])
+
+    def test_plan(self) -> None:
+        """What such a node has is what the plan changes, and it keeps it in every other change."""
+        script = self.read(*self.ROWS)
+        self.write("owner", script + "owner /d SY\npublish\n")
+        old, new = ("O:{}G:SYD:AI(A;;FR;;;BU)(A;OICIID;FA;;;WD)".format(owner) for owner in ("BA", "SY"))
+        says = NONE.format("1 node 1")
+        self.assertEqual(self.runs(0, "plan", "owner", says=says), [f"change\t/d\t{old}\t{new}"])
+        self.write("changed", script + "dacl / D:P(A;OICI;FA;;;SY)\npublish\n")
+        rows = self.runs(0, "plan", "changed", says=NONE.format("4 nodes 4"))
+        self.assertIn("change\t/d/f\tO:BAG:SYD:AI(A;ID;FA;;;WD)\tO:BAG:SYD:AI(A;ID;FA;;;SY)", rows)
+        self.assertIn("change\t/e\tO:BAG:SYD:AI\tO:BAG:SYD:AI(A;ID;FA;;;SY)", rows)
+
+    def test_invalid_lines(self) -> None:
+        script = self.read(*self.ROWS)
+        line, own = self.LINES[1], "(A;;FA;;;WD)"
+        for wrong, says in (
+            (line.rpartition(" ")[0], "'addc PATH SDDL KEPT OFFER' is expected"),
+            (line.replace("(A;OICIID;FA;;;WD)", own), "not just inherited entries"),
+            (line.replace("D:(A;OICIID;FA;;;WD)", "D:P(A;OICIID;FA;;;WD)"), "line 3"),
+            (line.replace("D:(A;OICIID;FA;;;WD)", "D:NO_ACCESS_CONTROL"), "line 3"),
+        ):
+            self.write("wrong", script.replace(line, wrong))
+            self.runs(2, "plan", "wrong", says=says)
+
+    @needs_program
+    def test_answers(self) -> None:
+        self.read(*self.ROWS)
+        rows = self.runs(0, "find", "script", "/", USER, "0x2", says=NONE.format("4 nodes 4"))
+        self.assertEqual(rows, [ASSUMED, "found\t/d", "found\t/d/f"])
+        self.runs(0, "who", "script", "/d/f", "0x2", says=NONE.format("1 node 1"))
+        self.runs(0, "report", "script", "page", says=NONE.format("4 nodes 4"))
+
+
 @needs_program
 class Answers(Sources):
     def setUp(self) -> None:
@@ -55,19 +113,19 @@ class Answers(Sources):
 
     def test_find(self) -> None:
         """At and below the path that is asked about: elsewhere the status is 0."""
-        rows = self.runs(4, "find", "script", "/", USER, "0x2", says=f"0 nodes; {SUM}")
-        self.assertEqual(rows, [ASSUMED, MOVED, self.skipped])
-        says = "0 nodes; of 2 nodes 1 answered; 1 can't be: 1 that the source has otherwise"
+        rows = self.runs(4, "find", "script", "/", USER, "0x2", says=f"1 node; {SUM}")
+        self.assertEqual(rows, [ASSUMED, "found\t/a/moved", MOVED, self.skipped])
+        says = "1 node; of 2 nodes 1 answered; 1 can't be: 1 that the source has otherwise"
         rows = self.runs(4, "find", "script", "/a", USER, "0x2", says=says)
-        self.assertEqual(rows, [ASSUMED, MOVED])
+        self.assertEqual(rows, [ASSUMED, "found\t/a/moved", MOVED])
         self.assertEqual(self.runs(0, "find", "script", "/d", USER, "0x2", says=NONE.format("1 node 1")), [ASSUMED])
         self.runs(2, "find", "script", "/b/c", USER, "0x2", says="no such node: its descriptor isn't supported")
         last = self.runs(4, "find", "--json", "script", "/", USER, "0x2")[-1]
-        self.assertEqual(json.loads(last), {"what": "found", "nodes": 0, "of": 6, "answered": 3, "left_out": 2})
+        self.assertEqual(json.loads(last), {"what": "found", "nodes": 1, "of": 6, "answered": 3, "left_out": 2})
 
     def test_who(self) -> None:
         rows = self.runs(4, "who", "script", "/a/moved", "0x2", says=f"1 line; {ONE}")
-        self.assertEqual(rows, [ASSUMED, "who\t/a/moved\t0x2\tS-1-5-32-544", MOVED])
+        self.assertEqual(rows, [ASSUMED, "who\t/a/moved\t0x2\teveryone", MOVED])
         self.runs(0, "who", "script", "/a", "0x2", says=f"1 line; {NONE.format('1 node 1')}")
 
     def test_lint_and_the_report(self) -> None:
@@ -95,7 +153,7 @@ class Answers(Sources):
         self.assertEqual(self.runs(4, "review", "changed", says=SUM)[-2:], [MOVED, self.skipped])
         self.assertEqual(self.runs(4, "plan", "changed", says=SUM)[-2:], [MOVED, self.skipped])
         self.assertEqual(self.runs(4, "review", "changed", "/a")[-1:], [MOVED])
-        same = "dacl /a/moved D:P(D;;0x1;;;BG)(A;;FR;;;BU)(A;;FA;;;BA)\npublish\n"
+        same = "dacl /a/moved D:P(D;;0x1;;;BG)(A;;FR;;;BU)(A;;FA;;;WD)\npublish\n"
         self.write("same", self.script + same)
         rows = self.runs(4, "review", "same", says=f"0 nodes where somebody gains or loses rights; {ONE}")
         self.assertEqual(rows, [MOVED])
@@ -184,26 +242,23 @@ class Folders(Case):
             plant(put, share)
         except OSError as error:
             self.skipTest(f"security.NTACL can't be written here: {error}")
-        moved = MOVED.replace("/a/moved", "/moved")
         none = "skipped\t/none\tits descriptor can't be read: No data available\t0"
-        counted = "4 nodes, 3 lines of nodes, 0 files left out, 1 skipped, 1 differing"
-        self.runs(1, "read", share, "script", says=counted)
-        rows = self.runs(4, "find", "script", "/", USER, "0x2")
-        self.assertEqual(rows, [ASSUMED, "found\t/null", moved, none])
+        counted = "0 differing, 0 SACLs kept, 1 node with what was inherited elsewhere"
+        self.runs(1, "read", share, "script", says=f"4 nodes, 3 lines of nodes, 0 files left out, 1 skipped, {counted}")
+        rows = self.runs(4, "find", "script", "/", USER, "0x2", says="of 4 nodes 3 answered")
+        self.assertEqual(rows, [ASSUMED, "found\t/moved", "found\t/null", none])
         script = (self.room / "script").read_text()
         self.write("changed", script + "dacl / D:P(A;OICI;FA;;;SY)\npublish\n")
-        allowed = ("--replace-differing", "--leave-unread")
-        replaced = "replaced\t/moved\tO:BAG:SYD:(A;ID;FA;;;WD)\tO:BAG:SYD:AI(A;ID;FA;;;SY)"
+        change = "change\t/moved\tO:BAG:SYD:AI(A;ID;FA;;;WD)\tO:BAG:SYD:AI(A;ID;FA;;;SY)"
+        self.assertEqual(self.runs(4, "plan", "changed")[1], change)
         left = "left\t/none\tit has no line in the script"
-        rows = self.runs(4, "plan", *allowed, "changed", share, says="2 nodes would be written; left out: 1 node")
-        self.assertEqual(rows, [left, replaced])
-        self.assertEqual(self.runs(4, "write", *allowed, "changed", share, says="; left out: 1 node"), rows)
+        allowed = "--leave-unread"
+        rows = self.runs(4, "plan", allowed, "changed", share, says="2 nodes would be written; left out: 1 node")
+        self.assertEqual(rows, [left])
+        self.assertEqual(self.runs(4, "write", allowed, "changed", share, says="; left out: 1 node"), rows)
         self.write("owner", script + "owner /moved SY\npublish\n")
         self.runs(0, "undo", "changed.journal")
-        rows = self.runs(4, "write", "owner", share)
-        self.assertEqual(
-            rows, ["left\t/moved\tits list isn't the tree's, and the script changes its owner or group"]
-        )
+        self.assertEqual(self.runs(0, "write", "owner", share, says="1 node written"), [])
 
 
 @needs_program
@@ -216,8 +271,8 @@ class Ntfs(Volumes):
         self.volume.put(("none",), blob_of(0, NO_SID_ENTRY))
         self.read("script")
         rows = self.runs(4, "find", "script", "/", USER, "0x2", says="2 that couldn't be read")
-        self.assertEqual(rows[:3], [ASSUMED, "found\t/null", MOVED.replace("/a/moved", "/moved")])
+        self.assertEqual(rows[:3], [ASSUMED, "found\t/moved", "found\t/null"])
         self.assertRegex(rows[3], r"^skipped\t/none\t.*\t1$")
-        self.runs(4, "who", "script", "/moved", "FA")
+        self.runs(0, "who", "script", "/moved", "FA", says=NONE.format("1 node 1"))
         self.runs(4, "lint", "script")
         self.runs(4, "report", "script", "page")

@@ -30,7 +30,7 @@ def spelled(path: Names) -> str:
 
 
 def imports(script: str) -> dict[str, tuple[str, str]]:
-    """The kind and the descriptor of each path that the script opens or imports."""
+    """The kind and the descriptor of each path that the script opens, imports or adds."""
     rows = {}
     for line in script.splitlines():
         words = line.split(" ")
@@ -38,6 +38,8 @@ def imports(script: str) -> dict[str, tuple[str, str]]:
             rows["/"] = ("container", words[2])
         elif words[0] == "import":
             rows[words[2]] = (words[1], words[3])
+        elif words[0] in ("addc", "addo"):
+            rows[words[1]] = ("container" if words[0] == "addc" else "object", words[2] + words[3].removeprefix("D:"))
     return rows
 
 
@@ -151,17 +153,15 @@ class EndToEnd(Volumes):
 @needs_program
 class ByTheProgram(Volumes):
     def test_that_sdstore_has_the_same_tree(self) -> None:
-        """The program has each node as the second implementation, and finds the nodes that differ."""
+        """The program has each node as the second implementation, and as the source."""
         made = self.plant(1000)
         script, _ = self.read("script")
         answers = by_sdstore(script + "list\n")
         rows = [line.split(" ") for line in answers if line.startswith(("container ", "object "))]
         wanted = {spelled(path): made.tree.shown(path) for path in made.tree.nodes if made.said.get(path) != "skipped"}
         self.assertEqual({path: text for _, path, text in rows}, wanted)
-        # (a file with an object entry has nothing that its folder passes down)
-        poor = [path for path, kind in made.kinds.items() if kind == "object entry" and made.tree.dacl(path)]
-        moved = [path for path, kind in made.kinds.items() if kind == "moved"]
-        self.assertEqual(answers.count("ok differs"), len(poor + moved))
+        self.assertEqual(answers.count("ok differs"), 0)
+        self.assertEqual(sum(kind == "moved" for kind in made.kinds.values()), 8)
 
 
 class Folders(Volumes):

@@ -19,7 +19,7 @@ from rig import (
     node_form,
     sid_bytes,
 )
-from second import ALIASES, CI, ID, IO, NP, OI, Entry, Node, Tree
+from second import ALIASES, CI, ID, IO, NP, OI, Entry, Node, Tree, offered
 
 USERS = [(5, (21, 1, 2, 3, 1000 + number)) for number in range(20)]
 BA, BU, BG, SY, WD, CO, CG = (ALIASES[name] for name in ("BA", "BU", "BG", "SY", "WD", "CO", "CG"))
@@ -117,24 +117,28 @@ def _names(dice: random.Random) -> Iterator[str]:
 
 
 def _plant_odd(made: Planted, dice: random.Random) -> None:
-    """Some files get bytes that the tree has otherwise, or that no tree has."""
+    """Some files get bytes that were inherited elsewhere, that the tree has otherwise, or that no tree has."""
     files = [path for path in sorted(made.tree.nodes) if path and not made.tree.nodes[path].is_container]
     order = (allow(BU, READ, 0), deny(BG, 0x1, 0))
     odd = (
         ("absent", "differs", None, _form(None, 0)),
-        ("moved", "differs", (False, []), _form([entry_bytes(allow(USERS[9], 0x1, ID))], AI)),
+        ("moved", "", (False, [], [allow(USERS[9], 0x1, ID)]), _form([entry_bytes(allow(USERS[9], 0x1, ID))], AI)),
         (
             "disordered",
             "differs",
             (True, [order[1], order[0]]),
             _form([entry_bytes(each) for each in order], PROTECTED),
         ),
-        ("object entry", "differs", (False, []), _form([OBJECT_ENTRY], 0)),
+        ("object entry", "differs", (False, [], []), _form([OBJECT_ENTRY], 0)),
         ("no SID", "skipped", None, _form([NO_SID_ENTRY], 0)),
     )
     for path, (kind, said, dacl, blob) in zip(dice.sample(files, 40), odd * 8):
-        made.kinds[path], made.said[path], made.forms[path] = kind, said, blob
-        made.tree.nodes[path] = Node(False, USERS[0], BU, dacl)
+        made.kinds[path], made.forms[path] = kind, blob
+        if said:
+            made.said[path] = said
+        # (what a node had inherited elsewhere it keeps while its folder offers what it offers now)
+        offer = offered(made.tree.dacl(path[:-1]) or [], Node(False, USERS[0], BU, None))
+        made.tree.nodes[path] = Node(False, USERS[0], BU, (*dacl, offer) if dacl and len(dacl) > 2 else dacl)
 
 
 def _form(entries: list[bytes] | None, control: int) -> bytes:
