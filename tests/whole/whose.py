@@ -1,5 +1,7 @@
-"""Whom `who` says that rights are granted to where entries have conditions, beside the second model: for the token of a
-question the lines grant just the rights that the model grants it."""
+"""What `who` and `compare` say where entries have conditions, beside the second model: for the token of a question the
+lines of `who` grant just the rights that the model grants it, and those of `compare` have each right that it gains or
+loses; and the token of each line gains or loses the rights, where just the conditions that the line has let entries
+apply."""
 
 import json
 import subprocess
@@ -16,13 +18,18 @@ from program import DOMAIN, PATIENCE, Stopped
 IF, NOT_FALSE = " if ", " isn't false"
 
 
-def lines_of(program: str, question: access.Question, text: str) -> List[Dict[str, Any]]:
-    """The lines of `who` for all rights, as objects."""
-    words = [program, *question.options(), "--domain", DOMAIN, "--json", "who", text, hex(access.RIGHTS)]
+def lines_of(program: str, question: access.Question, *asked: str) -> List[Dict[str, Any]]:
+    """The lines that answer a command, as objects."""
+    words = [program, *question.options(), "--domain", DOMAIN, "--json", *asked]
     done = subprocess.run(words, capture_output=True, text=True, timeout=PATIENCE, check=False)
     if done.returncode not in (0, 1):
         raise Stopped(f"{words}: status {done.returncode}: {done.stderr[-300:]}")
     return [json.loads(line) for line in done.stdout.splitlines()]
+
+
+def condition_of(text: str) -> bytes:
+    """The data of a condition, as a line has it."""
+    return parsing.descriptor(f"D:(XA;;FA;;;WD;{text.removesuffix(NOT_FALSE)})", DOMAIN).dacl.entries[0].data
 
 
 class Asked:
@@ -55,8 +62,7 @@ class Asked:
             return True
         if condition.endswith(NOT_FALSE) != (kind == "D"):
             raise ValueError(word)
-        text = f"D:(XA;;FA;;;WD;{condition.removesuffix(NOT_FALSE)})"
-        truth = Conditions(self.facts, kind, False).truth(parsing.descriptor(text, DOMAIN).dacl.entries[0].data)
+        truth = Conditions(self.facts, kind, False).truth(condition_of(condition))
         return truth is not False if kind == "D" else truth is True
 
     def is_holder(self, line: Dict[str, Any]) -> bool:
@@ -75,6 +81,77 @@ class Asked:
 
 def compared(program: str, question: access.Question, text: str) -> Tuple[List[Dict[str, Any]], str, str]:
     """The lines, and what they and the model grant to who asks."""
-    lines = lines_of(program, question, text)
+    lines = lines_of(program, question, "who", text, hex(access.RIGHTS))
     asked = Asked(parsing.descriptor(text, DOMAIN), question)
     return lines, hex(asked.by_lines(lines)), hex(asked.granted())
+
+
+# ---- compare
+
+
+class Marking(access.Specializing):
+    """An entry with a condition is for who has just its SID and condition, as a word of a line."""
+
+    def entry(self, number: int, entry: Any) -> second.Entry:
+        if entry.kind not in access.CALLBACKS:
+            return super().entry(number, entry)
+        kind = "D" if entry.kind in access.DENIES else "A"
+        mask = access.mapped(entry.mask, self.question.mapping) if self.has_type(entry) else 0
+        return second.Entry(kind, 0, mask, (kind, entry.sid, entry.data))
+
+
+def named(word: str) -> Tuple[Any, str]:
+    """Whom a word of a line is about, and in which state."""
+    text, _, condition = word.partition(IF)
+    sid, _, state = text.partition("=")
+    if not condition:
+        return evaluate.parts(sid), state
+    return ("D" if condition.endswith(NOT_FALSE) else "A", sid, condition_of(condition)), state
+
+
+def token_of(line: Dict[str, Any]) -> second.Token:
+    """The token that a line shows."""
+    words = [named(word) for word in line.get("with", ())]
+    return second.Token(
+        ("everyone",) if line["by"] == "everyone" else named(line["by"])[0],
+        [(who, "=deny") for who, state in words if state == "deny"],
+        [who for who, state in words if state == "restrict"])
+
+
+class Changed:
+    """OLD and NEW, and what the model says of them."""
+
+    def __init__(self, question: access.Question, texts: Tuple[str, str]):
+        self.question = question
+        self.both = [parsing.descriptor(text, DOMAIN) for text in texts]
+        self.was, self.now = (Asked(descriptor, question) for descriptor in self.both)
+
+    def is_shown(self, line: Dict[str, Any]) -> bool:
+        """Whether the token of a line gains or loses all of its rights."""
+        token, bits, found = token_of(line), int(line["mask"], 16), []
+        for descriptor, asked in zip(self.both, (self.was, self.now)):
+            entries = Marking(self.question, asked.facts).entries(descriptor.dacl)
+            owner = evaluate.parts(descriptor.owner) if descriptor.owner else None
+            found.append(access.Plain(owner, entries, token, 0).grants(bits))
+        return found == ([0, bits] if line["answer"] == "gained" else [bits, 0])
+
+    def missed(self, lines: List[Dict[str, Any]]) -> int:
+        """The rights that who asks gains or loses, and no line has."""
+        was, now = self.was.granted(), self.now.granted()
+        said = {kind: 0 for kind in ("gained", "lost")}
+        for line in lines:
+            said[line["answer"]] |= int(line["mask"], 16)
+        return now & ~was & ~said["gained"] | was & ~now & ~said["lost"]
+
+
+def with_list(text: str, other: str) -> str:
+    """The descriptor with the DACL of the other one."""
+    front, sacl = text.rsplit("S:", 1)
+    return front.split("D:", 1)[0] + "D:" + other.rsplit("S:", 1)[0].split("D:", 1)[1] + "S:" + sacl
+
+
+def changes(program: str, question: access.Question, old: str, new: str) -> Tuple[List[Dict[str, Any]], str]:
+    """The lines of `compare`, and by the model what they miss, and those that are of nobody."""
+    lines = [line for line in lines_of(program, question, "--object", "compare", old, new) if line["answer"] != "same"]
+    changed = Changed(question, (old, new))
+    return lines, f"{hex(changed.missed(lines))} {[line for line in lines if not changed.is_shown(line)]}"

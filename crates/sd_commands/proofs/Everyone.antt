@@ -3,6 +3,7 @@ use Rattle.sd_commands.proofs.Cited.{List, None, Option, Some, descriptor_of, in
 use Rattle.std.specs.Prelude.{Err, Ok, Result}
 use Rattle.sd_acl.specs.Descriptor.{DescriptorValue}
 use Rattle.sd_whole.specs.Plain.{has_sacl}
+use Rattle.sd_whole.specs.Reading.{WholeAcl}
 use Rattle.sd_whole.specs.declared.descriptor.WholeDescriptor.{WholeDescriptor}
 use Rattle.sd_whole_parse.specs.Part.{IsWhole}
 use Rattle.sd_commands.specs.Answer.{AnswerValue, AnswersFit, IsTold}
@@ -36,36 +37,36 @@ module _ (argument : List ℕ) (Answers : DescriptorValue → AnswerValue → Ty
       subst (λ m. AnswersFit argument m (AnswersSeen argument found Answers) answer) (sym is_there)
       (subst (λ f. AnswersSeen argument f Answers answer) (sym is_plain) said)
 
-module _ (argument what : List ℕ) (view : View) (settings : Settings) (text : List ℕ) (Answers : WholeDescriptor → DescriptorValue → AnswerValue → Type 0) (answer : AnswerValue) where
-  pub refused : AnswersOfEveryone argument what view settings text (λ whole plain other. ⊥) answer → AnswersOfEveryone argument what view settings text Answers answer
+module _ (argument what : List ℕ) (view : View) (before : WholeAcl) (settings : Settings) (text : List ℕ) (Answers : WholeDescriptor → DescriptorValue → AnswerValue → Type 0) (answer : AnswerValue) where
+  pub refused : AnswersOfEveryone argument what view before settings text (λ whole plain other. ⊥) answer → AnswersOfEveryone argument what view before settings text Answers answer
   refused (inl (d, is, (inner, noted, said))) = inl (
     d,
     is,
     (
       inner,
       noted,
-      refused_fit argument (Answers d) inner (missing_dacl settings.require_dacl d.dacl) (seen_as view settings d) said,
+      refused_fit argument (Answers d) inner (missing_dacl settings.require_dacl d.dacl) (seen_as view before settings d) said,
     ),
   )
   refused (inr fault) = inr fault
 
-  pub taken : (plain : PlainForEveryone) (inner : AnswerValue) → IsOfEveryone argument what view settings text (Plain plain)
+  pub taken : (plain : PlainForEveryone) (inner : AnswerValue) → IsOfEveryone argument what view before settings text (Plain plain)
       → Answers plain.whole (descriptor_of plain.descriptor) inner → IsTold (sacl_note argument what (has_sacl plain.whole)) inner answer
-      → AnswersOfEveryone argument what view settings text Answers answer
+      → AnswersOfEveryone argument what view before settings text Answers answer
   taken plain inner (d, is, (is_there, is_plain, one)) said noted = inl (
     d,
     is,
     (
       inner,
       subst (λ whole. IsTold (sacl_note argument what (has_sacl whole)) inner answer) one noted,
-      fits argument (Answers d) inner (missing_dacl settings.require_dacl d.dacl) (seen_as view settings d)
+      fits argument (Answers d) inner (missing_dacl settings.require_dacl d.dacl) (seen_as view before settings d)
           (descriptor_of plain.descriptor) is_there is_plain
           (subst (λ whole. Answers whole (descriptor_of plain.descriptor) inner) one said),
     ),
   )
 
 -- what the code finds of the descriptor that the text is
-pub of_text : (argument what : List ℕ) (view : View) (settings : Settings) (text : List ℕ) (d : WholeDescriptor) → IsWhole settings.aliases text d
-    → (given : ForEveryone) → IsForEveryone argument what view settings d given → IsOfEveryone argument what view settings text given
-of_text argument what view settings text d is (Plain plain) found = (d, is, found)
-of_text argument what view settings text d is (Refused answer) said = inl (d, is, said)
+pub of_text : (argument what : List ℕ) (view : View) (before : WholeAcl) (settings : Settings) (text : List ℕ) (d : WholeDescriptor) → IsWhole settings.aliases text d
+    → (given : ForEveryone) → IsForEveryone argument what view before settings d given → IsOfEveryone argument what view before settings text given
+of_text argument what view before settings text d is (Plain plain) found = (d, is, found)
+of_text argument what view before settings text d is (Refused answer) said = inl (d, is, said)

@@ -1,5 +1,6 @@
 pub mod Cited
 pub mod CharStart
+pub mod Claims
 pub mod Commas
 pub mod Marks
 pub mod ObjectList

@@ -1,7 +1,11 @@
--- Where no effective entry has an ObjectType, the plain descriptor is the same for all object types.
-use Rattle.sd_commands.proofs.Cited.{Bool, List, None, Option, Some, [], ap, ap₂, arith, false, if◌then◌else◌, list_any, not, refl, true, ℕ, ◌&&◌, ◌+◌, ◌∷◌, ◌≡◌, ◌||◌}
+-- Where no effective entry has an ObjectType, the plain descriptor is the same for all object types; and where two have one
+-- owner and one list, so have their plain ones.
+use Rattle.sd_commands.proofs.Cited.{Bool, List, None, Option, Some, [], ap, ap₂, arith, false, if◌then◌else◌, inl, inr, list_any, not, option_map_or, refl, sym, true, ℕ, ◌&&◌, ◌++◌, ◌+◌, ◌∙◌, ◌∷◌, ◌≡◌, ◌||◌}
+use Rattle.std.proofs.lemmas.Bool.{cases_Bool}
 use Rattle.std.specs.Prelude.{Err, Ok, Result, is_some}
 use Rattle.std.specs.Bool.{beq}
+use Rattle.sd_acl.specs.Dacl.{Dacl}
+use Rattle.sd_acl.specs.Descriptor.{DescriptorValue}
 use Rattle.sd_acl.specs.declared.ace.Ace.{Ace}
 use Rattle.sd_acl.specs.declared.ace.AceKind.{AceKind}
 use Rattle.sd_acl.specs.declared.descriptor.DaclOf.TheVariants.{Absent, Null, List as Entries}
@@ -9,22 +13,26 @@ use Rattle.sd_check.specs.declared.grounds.Pass.{Pass}
 use Rattle.sd_check.specs.declared.grounds.Pass.TheVariants.{First, Second}
 use Rattle.sd_whole.specs.Entry.{for_children_alone}
 use Rattle.sd_whole.specs.Kind.{plain_kind}
-use Rattle.sd_whole.specs.Plain.{with_dacl}
+use Rattle.sd_whole.specs.Plain.{plain_ace, with_dacl}
 use Rattle.sd_whole.specs.Reading.{WholeAcl}
 use Rattle.sd_whole.specs.declared.ace.TypedAce.{TypedAce}
 use Rattle.sd_whole.specs.declared.ace.WholeAce.{WholeAce}
 use Rattle.sd_whole.specs.declared.ace.WholeAce.TheVariants.{Plain, Typed, Opaque}
+use Rattle.sd_whole.specs.declared.descriptor.WholeDescriptor.{WholeDescriptor}
 use Rattle.sd_whole.specs.declared.kind.WholeKind.{WholeKind}
 use Rattle.sd_whole.specs.declared.kind.WholeKind.TheVariants as kinds
 use Rattle.sd_whole.specs.declared.types.Guid.{Guid}
 use Rattle.sd_specialize.specs.Context.{ContextValue}
 use Rattle.sd_specialize.specs.Entry.{allows_by_condition, allows_type, applies_as, deciding_for, decides, denies_by_condition, denies_type, effective_for, entry_for, plain_for, typed_for, without_part}
-use Rattle.sd_specialize.specs.Everyone.{conditional_place, unless_conditional}
+use Rattle.sd_specialize.proofs.LaterMarks.{later_marks_change_nothing}
+use Rattle.sd_specialize.specs.Everyone.{conditional_place, has_condition, is_conditional, unless_conditional}
 use Rattle.sd_specialize.specs.Laws.{asking}
-use Rattle.sd_specialize.specs.Specialize.{entries_for, fitting, numbered, specialized_acl, ◌>>=◌}
+use Rattle.sd_specialize.specs.Marked.{conditionals, decision_of, hindered_by, hinders, is_marker, is_of_types, mark_place, marked, marked_entry, marked_for, marker, unmarked_place}
+use Rattle.sd_specialize.specs.Specialize.{acl_by, descriptor_by, entries_by, fitting, numbered, ◌>>=◌}
 use Rattle.sd_specialize.specs.declared.fault.RefusedKind.{RefusedKind}
 use Rattle.sd_specialize.specs.declared.fault.RefusedKind.TheVariants.{PassesDiffer}
-use Rattle.sd_commands.specs.ObjectTypes.{TypesChangeNothing, has_types, is_for_type}
+use Rattle.sd_specialize.specs.declared.fault.SpecializeFault.{SpecializeFault}
+use Rattle.sd_commands.specs.ObjectTypes.{OneListForAllTypes, TypesChangeNothing, has_types, is_for_type}
 
 -- ---- an entry without an ObjectType
 
@@ -76,7 +84,7 @@ entry_alike c other (Plain e) none = refl
 entry_alike c other (Typed e) none = typed_alike c other e (plain_kind e.kind) none
 entry_alike c other (Opaque e) none = refl
 
--- ---- a list
+-- ---- an entry by markers
 
 none_here : (here later : Bool) → (here || later) ≡ false → here ≡ false
 none_here here later h = grind (arith, h)
@@ -84,21 +92,80 @@ none_here here later h = grind (arith, h)
 none_later : (here later : Bool) → (here || later) ≡ false → later ≡ false
 none_later here later h = grind (arith, h)
 
-entries_alike : (c : ContextValue) (other : List Guid) (n : ℕ) (es : List WholeAce) → list_any is_for_type es ≡ false
-    → entries_for (asking c other) n es ≡ entries_for c n es
-entries_alike c other n [] none = refl
-entries_alike c other n (e ∷ es) none = ap₂
-    (λ one more. numbered n one >>= λ first. (more >>= λ others. Ok (first ∷ others)))
-    (entry_alike c other e (none_here (is_for_type e) (list_any is_for_type es) none))
-    (entries_alike c other (n + 1) es (none_later (is_for_type e) (list_any is_for_type es) none))
+no_type : (has alone typed : Bool) → (has && not alone) ≡ true → (typed && not alone) ≡ false → typed ≡ false
+no_type has alone typed is none = grind (arith, is, none)
 
-acl_alike : (c : ContextValue) (other : List Guid) (acl : WholeAcl) → has_types acl ≡ false
-    → specialized_acl (asking c other) acl ≡ specialized_acl c acl
-acl_alike c other Absent none = refl
-acl_alike c other Null none = refl
-acl_alike c other (Entries list) none =
-    ap (λ found. (found >>= fitting) >>= λ es. Ok (Entries es)) (entries_alike c other 1 list.entries none)
+module _ (c : ContextValue) (other : List Guid) (marks : List TypedAce) where
+  of_types_alike : (kind : WholeKind) (e : TypedAce) → is_some e.types.object ≡ false → is_of_types kind (asking c other) e ≡ is_of_types kind c e
+  of_types_alike kinds.CallbackObjectAllow e none = allow_alike c.chain other e.types.object none
+  of_types_alike kinds.CallbackObjectDeny e none = deny_alike c.chain other e.types.object none
+  of_types_alike _ e none = refl
+
+  marked_for_alike : (e : TypedAce) → is_some e.types.object ≡ false → marked_for (asking c other) marks e ≡ marked_for c marks e
+  marked_for_alike e none = ap
+      (λ types. if types then plain_ace (decision_of e) e.flags.0 e.mask (marker (mark_place marks e)) else without_part c e.flags.0 e.sid)
+      (of_types_alike e.kind e none)
+
+  marked_alike : (e : WholeAce) → is_for_type e ≡ false → marked_entry (asking c other) marks e ≡ marked_entry c marks e
+  marked_alike (Plain e) none = refl
+  marked_alike (Typed e) none = elim (cases_Bool (is_conditional (Typed e))) [
+    | inl is ↦ rw is (ap Ok (marked_for_alike e (no_type (has_condition e.kind) (for_children_alone e.flags.0) (is_some e.types.object) is none)))
+    | inr isnt ↦ rw isnt (entry_alike c other (Typed e) none)
+  ]
+  marked_alike (Opaque e) none = refl
+
+  -- ---- a list
+
+  entries_alike : (n : ℕ) (es : List WholeAce) → list_any is_for_type es ≡ false
+      → entries_by (marked_entry (asking c other) marks) n es ≡ entries_by (marked_entry c marks) n es
+  entries_alike n [] none = refl
+  entries_alike n (e ∷ es) none = ap₂
+      (λ one more. numbered n one >>= λ first. (more >>= λ others. Ok (first ∷ others)))
+      (marked_alike e (none_here (is_for_type e) (list_any is_for_type es) none))
+      (entries_alike (n + 1) es (none_later (is_for_type e) (list_any is_for_type es) none))
+
+  acl_alike : (acl : WholeAcl) → has_types acl ≡ false → acl_by (marked_entry (asking c other) marks) acl ≡ acl_by (marked_entry c marks) acl
+  acl_alike Absent none = refl
+  acl_alike Null none = refl
+  acl_alike (Entries list) none =
+      ap (λ found. (found >>= fitting) >>= λ es. Ok (Entries es)) (entries_alike 1 list.entries none)
+
+  hinders_entry : (e : WholeAce) → hinders (asking c other) e ≡ hinders c e
+  hinders_entry (Plain e) = refl
+  hinders_entry (Typed e) = refl
+  hinders_entry (Opaque e) = refl
+
+  hinders_alike : hinders (asking c other) ≡ hinders c
+  hinders_alike = λ i e. hinders_entry e i
+
+  hindered_alike : (acl : WholeAcl) → hindered_by (asking c other) acl ≡ hindered_by c acl
+  hindered_alike Absent = refl
+  hindered_alike Null = refl
+  hindered_alike (Entries list) = ap (λ test. list_any test list.entries) hinders_alike
 
 pub types_change_nothing : TypesChangeNothing
-types_change_nothing c other d none =
-    ap (λ found. unless_conditional (conditional_place d.dacl) (found >>= λ dacl. Ok (with_dacl d dacl))) (acl_alike c other d.dacl none)
+types_change_nothing c other marks d none =
+    ap (λ b. unless_conditional (if option_map_or is_marker d.owner false || b then conditional_place d.dacl else None) (descriptor_by (marked_entry (asking c other) marks) d))
+    (hindered_alike c other marks d.dacl)
+    ∙ ap (λ found. unless_conditional (unmarked_place c d d) (found >>= λ dacl. Ok (with_dacl d dacl))) (acl_alike c other marks d.dacl none)
+
+-- ---- one owner and one list
+
+-- a plain descriptor has the owner, and the list that was found
+found_parts : (place : Option ℕ) (found : Result Dacl SpecializeFault) (d : WholeDescriptor) (plain : DescriptorValue)
+    → unless_conditional place (found >>= λ dacl. Ok (with_dacl d dacl)) ≡ Ok plain → (plain.owner ≡ d.owner) × (found ≡ Ok plain.dacl)
+found_parts None (Ok dacl) d plain is =
+    let same : with_dacl d dacl ≡ plain = cc in
+    (sym (ap (λ (x : DescriptorValue). x.owner) same), ap Ok (ap (λ (x : DescriptorValue). x.dacl) same))
+found_parts None (Err fault) d plain is = absurd cc
+found_parts (Some place) found d plain is = absurd cc
+
+pub one_list_for_all_types : OneListForAllTypes
+one_list_for_all_types c old new plain_old plain_new owner dacl is_old is_new =
+    let one_mark : marked c (conditionals old.dacl ++ conditionals new.dacl) new ≡ marked c (conditionals new.dacl) new =
+    ap (λ acl. marked c (conditionals acl ++ conditionals new.dacl) new) dacl ∙ later_marks_change_nothing c [] (conditionals new.dacl) new in
+    let of_old = found_parts (unmarked_place c old old) (acl_by (marked_entry c (conditionals old.dacl)) old.dacl) old plain_old is_old in
+    let of_new = found_parts (unmarked_place c new new) (acl_by (marked_entry c (conditionals new.dacl)) new.dacl) new plain_new (sym one_mark ∙ is_new) in
+    let one_list : Ok plain_old.dacl ≡ Ok plain_new.dacl =
+    sym of_old.1 ∙ ap (λ acl. acl_by (marked_entry c (conditionals acl)) acl) dacl ∙ of_new.1 in
+    (of_old.0 ∙ owner ∙ sym of_new.0, cc)

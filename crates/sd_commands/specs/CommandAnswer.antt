@@ -1,7 +1,7 @@
 -- What a command about a descriptor answers, and whether it did what was asked for. The arguments are read from left to
 -- right, and the answer is the fault of the first that is invalid.
 use Rattle.std.specs.Prelude.{◌≡◌, ◌⊎◌, ℕ, Bool, false, not, ◌&&◌, ◌||◌, MatchBool, List, [], ◌∷◌, ◌++◌, codes}
-use Rattle.std.specs.Prelude.{Some, None, drop}
+use Rattle.std.specs.Prelude.{Option, Some, None, drop}
 use Rattle.std.specs.Prelude.{slice_get}
 use Rattle.std.specs.Option.{option_map_or}
 use Rattle.std.specs.Borrow.{Bor}
@@ -62,14 +62,16 @@ use Rattle.sd_commands.specs.Answer.{value_line, AnswerValue, answer_of, IsAnswe
 use Rattle.sd_commands.specs.Answer.{AnswersFit, IsFaultOf, IsFound, Noting, Telling, IsMissingDacl, descriptor_line}
 use Rattle.sd_commands.specs.Chain.{types_of}
 use Rattle.sd_commands.specs.Conditions.{hides, shown_by}
-use Rattle.sd_commands.specs.ForEveryone.{AnswersOfEveryone, view_of}
+use Rattle.sd_commands.specs.ForEveryone.{AnswersOfEveryone, marks_of, view_of}
 use Rattle.sd_commands.specs.declared.for_everyone.View.TheVariants.{Marked}
-use Rattle.sd_specialize.specs.Marked.{conditionals}
+use Rattle.sd_acl.specs.declared.descriptor.DaclOf.TheVariants.{Absent}
+use Rattle.sd_specialize.specs.Everyone.{conditional_fault}
+use Rattle.sd_specialize.specs.Marked.{conditionals, unmarked_place}
 use Rattle.sd_whole.specs.declared.ace.TypedAce.{TypedAce}
 use Rattle.sd_commands.specs.FromBinary.{AnswersFromBinary}
 use Rattle.sd_commands.specs.Whole.{IsEntryFault, is_compare, takes_whole}
 use Rattle.sd_commands.specs.WholeText.{AnswersOfWhole, AnswersWholeText}
-use Rattle.sd_commands.specs.WholeVerdict.{IsWholeVerdict, verdict_outcome}
+use Rattle.sd_commands.specs.WholeVerdict.{IsUndecided, IsWholeVerdict, everyone_context, verdict_outcome}
 use Rattle.sd_whole.specs.declared.descriptor.WholeDescriptor.{WholeDescriptor}
 use Rattle.sd_whole.specs.declared.plain.OddEntry.{OddEntry}
 use Rattle.sd_show.specs.Diff.{changes}
@@ -233,14 +235,21 @@ AnswersOfBase settings words Answers answer =
     ((base : List (SidValue × GroupState)) × AreGroups settings.aliases (texts words) base × Answers base answer)
     ⊎ IsGroupFault settings words answer
 
--- whom the rights are granted to, with conditions in the place of markers, and what of it is left out; or that a SID of
--- the base is a marker
+-- a SID of the base is a marker
+abbrev pub IsHidden : AnswerValue → Type 0
+IsHidden = IsFault (fault_line (codes "token"))
+    (told_line (codes "GROUP") (codes "its authority is that of conditions"))
+
+-- what is answered for a base of which no SID is a marker, or that one is
+abbrev pub AnswersUnhidden : List TypedAce → List (SidValue × GroupState) → (AnswerValue → Type 0) → AnswerValue
+    → Type 0
+AnswersUnhidden marks base Answers answer = MatchBool (hides marks base) (IsHidden answer) (Answers answer)
+
+-- whom the rights are granted to, with conditions in the place of markers, and what of it is left out
 abbrev pub PrintsWho : Settings → List TypedAce → List LineOf → ℕ → DescriptorValue → List (SidValue × GroupState)
     → AnswerValue → Type 0
-PrintsWho settings marks left_out asked d base answer = MatchBool (hides marks base)
-    (IsFault (fault_line (codes "token")) (told_line (codes "GROUP") (codes "its authority is that of conditions"))
-    answer)
-    ((lines : List LineOf) × AreWhoLines settings asked d base lines
+PrintsWho settings marks left_out asked d base = AnswersUnhidden marks base
+    (λ answer. (lines : List LineOf) × AreWhoLines settings asked d base lines
     × AreDoneBut left_out (shown_by settings marks lines) answer)
 
 abbrev pub AnswersWho : Settings → List TypedAce → List LineOf → List (Bor (List ℕ)) → DescriptorValue → AnswerValue
@@ -265,21 +274,22 @@ AreDescendantLines settings old new base lines =
     × AreDescendantChanges settings.mapping base (entries_in old.dacl) (entries_in new.dacl) changes
     × (lines ≡ descendants_lines changes)
 
--- what tokens gain and lose, whether the list inherits where it did not, and these lines; or that nothing of it changes
-abbrev pub PrintsComparison : Settings → List LineOf → DescriptorValue → DescriptorValue
+-- what tokens gain and lose, whether the list inherits where it did not, and these lines, with conditions in the place
+-- of markers; or that nothing of it changes
+abbrev pub PrintsComparison : Settings → List TypedAce → List LineOf → DescriptorValue → DescriptorValue
     → List (SidValue × GroupState) → AnswerValue → Type 0
-PrintsComparison settings last old new base answer =
+PrintsComparison settings marks last old new base answer =
     (own : List LineOf) × (below : List LineOf) × AreOwnChanges settings old new base own
     × AreDescendantLines settings old new base below
-    × IsFound (line_of (form SAME) [])
-    (((own ++ below) ++ inheritance_lines old.protected new.protected) ++ last) answer
+    × IsFound (line_of (form SAME) []) (shown_by settings marks
+    (((own ++ below) ++ inheritance_lines old.protected new.protected) ++ last)) answer
 
 -- what tokens gain and lose by the descriptors as they are looked at, and whether something was left out of them
-abbrev pub AnswersComparison : Settings → List LineOf → DescriptorValue → DescriptorValue
+abbrev pub AnswersComparison : Settings → List TypedAce → List LineOf → DescriptorValue → DescriptorValue
     → List (SidValue × GroupState) → AnswerValue → Type 0
-AnswersComparison settings last old new base =
-    Telling (object_note (leaves_out settings.object old || leaves_out settings.object new))
-    (PrintsComparison settings last (looked_at settings.object old) (looked_at settings.object new) base)
+AnswersComparison settings marks last old new base = AnswersUnhidden marks base
+    (Telling (object_note (leaves_out settings.object old || leaves_out settings.object new))
+    (PrintsComparison settings marks last (looked_at settings.object old) (looked_at settings.object new) base))
 
 -- ---- findings
 
@@ -329,7 +339,7 @@ AnswersOn settings about.Verdict arguments d = AnswersUser settings Short argume
 AnswersOn settings about.Why arguments d = AnswersUser settings Explained arguments (Plain d)
 AnswersOn settings about.Who arguments d = AnswersWho settings [] [] arguments d
 AnswersOn settings about.Compare arguments old = AnswersOfArgument (codes "NEW") settings (argument arguments 0)
-    (λ new. AnswersOfBase settings (drop 1 arguments) (AnswersComparison settings [] old new))
+    (λ new. AnswersOfBase settings (drop 1 arguments) (AnswersComparison settings [] [] old new))
 AnswersOn settings about.Lint arguments d = AnswersOfBase settings arguments (AnswersFindings settings d)
 AnswersOn settings about.Print arguments d = IsDone (descriptor_line d)
 AnswersOn settings about.Sort arguments d = IsSorted settings d
@@ -348,29 +358,43 @@ AnswersPlainly settings question text arguments =
 
 -- what `who` answers: where an entry has a condition, if that is met; and of the whole object alone types are left out
 abbrev pub AnswersWhoOfWhole : Settings → List ℕ → List (Bor (List ℕ)) → AnswerValue → Type 0
-AnswersWhoOfWhole settings text arguments = AnswersOfEveryone (codes "SDDL") all_left_out Marked settings text
+AnswersWhoOfWhole settings text arguments = AnswersOfEveryone (codes "SDDL") all_left_out Marked Absent settings text
     (λ whole d. NotingTypes settings (has_types whole.dacl && is_of_whole (types_of settings.chain))
     (λ left_out. AnswersWho settings (conditionals whole.dacl) left_out arguments d))
 
--- what `compare` answers of two: also whether the label is another, and what of the SACLs and which types are left out
-abbrev pub AnswersCompareOfBoth : Settings → (old : WholeDescriptor) → DescriptorValue → (new : WholeDescriptor)
+-- what is answered where each condition of this argument can have a marker; or the first that can't is refused
+abbrev pub AnswersUnlessUnmarked : List ℕ → Option ℕ → (AnswerValue → Type 0) → AnswerValue → Type 0
+AnswersUnlessUnmarked argument None Answers = Answers
+AnswersUnlessUnmarked argument (Some place) Answers = IsUndecided argument (conditional_fault place)
+
+-- what `compare` answers of two, by one list of markers: also whether the label is another, and what of the SACLs and
+-- which types are left out
+abbrev pub AnswersCompareMarked : Settings → (old : WholeDescriptor) → DescriptorValue → (new : WholeDescriptor)
     → DescriptorValue → List (Bor (List ℕ)) → AnswerValue → Type 0
-AnswersCompareOfBoth settings old plain_old new plain_new words answer =
+AnswersCompareMarked settings old plain_old new plain_new words answer =
     (limited : Bool) × ChangeHasLimits limited (not settings.object) old new
     × (depends : Bool) × ChangeHasTypes depends old new × NotingTypes settings depends
-    (λ left_out. AnswersOfBase settings words (AnswersComparison settings
+    (λ left_out. AnswersOfBase settings words (AnswersComparison settings (marks_of old.dacl new.dacl)
     ((label_changes old new ++ sacl_left_out limited) ++ left_out) plain_old plain_new)) answer
+
+-- that, where neither has a SID that is a marker of the other's conditions
+abbrev pub AnswersCompareOfBoth : Settings → (old : WholeDescriptor) → DescriptorValue → (new : WholeDescriptor)
+    → DescriptorValue → List (Bor (List ℕ)) → AnswerValue → Type 0
+AnswersCompareOfBoth settings old plain_old new plain_new words =
+    AnswersUnlessUnmarked (codes "NEW") (unmarked_place (everyone_context settings) old new)
+    (AnswersUnlessUnmarked (codes "OLD") (unmarked_place (everyone_context settings) new old)
+    (AnswersCompareMarked settings old plain_old new plain_new words))
 
 -- what it answers of OLD
 abbrev pub AnswersCompareTo : Settings → WholeDescriptor → DescriptorValue → List (Bor (List ℕ)) → AnswerValue → Type 0
 AnswersCompareTo settings old plain_old arguments =
-    AnswersOfEveryone (codes "NEW") all_but_label (view_of settings.object) settings (argument arguments 0)
+    AnswersOfEveryone (codes "NEW") all_but_label (view_of settings.object) old.dacl settings (argument arguments 0)
     (λ new plain_new. AnswersCompareOfBoth settings old plain_old new plain_new (drop 1 arguments))
 
 -- what it answers
 abbrev pub AnswersCompareOfWhole : Settings → List ℕ → List (Bor (List ℕ)) → AnswerValue → Type 0
 AnswersCompareOfWhole settings text arguments =
-    AnswersOfEveryone (codes "OLD") all_but_label (view_of settings.object) settings text
+    AnswersOfEveryone (codes "OLD") all_but_label (view_of settings.object) Absent settings text
     (λ old plain_old. AnswersCompareTo settings old plain_old arguments)
 
 -- what a command answers of all that the text is: a verdict, whom rights are granted to, who gains and loses some, or

@@ -4,11 +4,11 @@ use Rattle.std.specs.Prelude.{if◌then◌else◌}
 use Rattle.std.specs.List.{list_any}
 use Rattle.hex.specs.Hex.{encode_lower}
 use Rattle.sd_sid.specs.Sid.{SidValue, same_sid}
-use Rattle.sd_text.specs.Canon.{full_canon}
 use Rattle.sd_check.specs.declared.token.GroupState.{GroupState}
 use Rattle.sd_line.specs.Line.{LineOf, PartOf, line_with, part_of}
-use Rattle.sd_line.specs.Printed.{mark_text}
+use Rattle.sd_line.specs.Printed.{marked_text}
 use Rattle.sd_line.specs.declared.line.SidMark.{SidMark}
+use Rattle.sd_line.specs.declared.line.SidMark.TheVariants as states
 use Rattle.sd_line.specs.declared.line.Value.{Value}
 use Rattle.sd_line.specs.declared.line.Value.TheVariants as values
 use Rattle.sd_whole.specs.declared.ace.TypedAce.{TypedAce}
@@ -28,27 +28,27 @@ abbrev pub ending : Bool → List ℕ
 ending true = codes " isn't false"
 ending false = []
 
-abbrev pub condition_text : Settings → TypedAce → List ℕ
-condition_text settings e = ((full_canon (trustee (everyone_context settings) e.sid) ++ codes " if ")
+abbrev pub condition_text : Settings → SidMark → TypedAce → List ℕ
+condition_text settings state e = ((marked_text (trustee (everyone_context settings) e.sid, state) ++ codes " if ")
     ++ condition_word (condition_in e.trailing) e.trailing) ++ ending (is_deny e.kind)
 
--- what stands in the place of a SID that is one of their markers, from this number on
-abbrev pub text_from : Settings → ℕ → List TypedAce → SidValue → Option (List ℕ)
-text_from settings n [] sid = None
-text_from settings n (e ∷ es) sid =
-    if same_sid (marker n) sid then Some (condition_text settings e) else text_from settings (n + 1) es sid
+-- what stands in the place of a SID in this state that is one of their markers, from this number on
+abbrev pub text_from : Settings → ℕ → List TypedAce → SidValue → SidMark → Option (List ℕ)
+text_from settings n [] sid state = None
+text_from settings n (e ∷ es) sid state =
+    if same_sid (marker n) sid then Some (condition_text settings state e) else text_from settings (n + 1) es sid state
 
 -- ---- in a line
 
 abbrev pub Texts : Type 0
-Texts = SidValue → Option (List ℕ)
+Texts = SidValue → SidMark → Option (List ℕ)
 
-abbrev pub sid_word : SidValue → Option (List ℕ) → List ℕ
-sid_word sid None = full_canon sid
-sid_word sid (Some text) = text
+abbrev pub sid_word : SidValue × SidMark → Option (List ℕ) → List ℕ
+sid_word one None = marked_text one
+sid_word one (Some text) = text
 
 abbrev pub shown_sid : Texts → SidValue × SidMark → List ℕ
-shown_sid texts one = sid_word one.0 (texts one.0) ++ mark_text one.1
+shown_sid texts one = sid_word one (texts one.0 one.1)
 
 abbrev pub sid_value : SidValue → Option (List ℕ) → Value
 sid_value sid None = values.Sid sid
@@ -61,7 +61,7 @@ abbrev pub sids_value : Texts → List (SidValue × SidMark) → Value
 sids_value texts sids = if has_marker sids then values.Words (map (shown_sid texts) sids) else values.Sids sids
 
 abbrev pub shown_value : Texts → Value → Value
-shown_value texts (values.Sid sid) = sid_value sid (texts sid)
+shown_value texts (values.Sid sid) = sid_value sid (texts sid states.Plain)
 shown_value texts (values.Sids sids) = sids_value texts sids
 shown_value texts value = value
 

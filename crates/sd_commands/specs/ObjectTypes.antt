@@ -1,15 +1,16 @@
 -- Which object types an answer is about, where that depends on it: what the answer leaves out, and standard error says.
-use Rattle.std.specs.Prelude.{◌≡◌, ℕ, Bool, true, false, not, ◌&&◌, ◌||◌, is_some, List, [], ◌∷◌, codes}
+use Rattle.std.specs.Prelude.{◌≡◌, ℕ, Bool, true, false, not, ◌&&◌, ◌||◌, is_some, List, [], ◌∷◌, ◌++◌, codes}
 use Rattle.std.specs.Prelude.{if◌then◌else◌, Ok}
 use Rattle.std.specs.Bool.{Decides}
 use Rattle.std.specs.List.{list_any}
 use Rattle.sd_acl.specs.Descriptor.{DescriptorValue}
 use Rattle.sd_acl.specs.declared.descriptor.DaclOf.TheVariants.{Absent, Null, List as Entries}
 use Rattle.sd_specialize.specs.Context.{ContextValue}
-use Rattle.sd_specialize.specs.Everyone.{unconditional}
 use Rattle.sd_specialize.specs.Laws.{asking}
+use Rattle.sd_specialize.specs.Marked.{conditionals, marked}
 use Rattle.sd_whole.specs.Entry.{for_children_alone}
 use Rattle.sd_whole.specs.Reading.{WholeAcl}
+use Rattle.sd_whole.specs.declared.ace.TypedAce.{TypedAce}
 use Rattle.sd_whole.specs.declared.ace.WholeAce.{WholeAce}
 use Rattle.sd_whole.specs.declared.ace.WholeAce.TheVariants.{Plain, Typed, Opaque}
 use Rattle.sd_whole.specs.declared.descriptor.WholeDescriptor.{WholeDescriptor}
@@ -65,12 +66,13 @@ NotingTypes settings depends Answers =
 
 -- where there is no such entry, the plain descriptor is the same for all object types
 abbrev pub TypesChangeNothing : Type 0
-TypesChangeNothing = (c : ContextValue) (other : List Guid) (d : WholeDescriptor) → has_types d.dacl ≡ false
-    → unconditional (asking c other) d ≡ unconditional c d
+TypesChangeNothing = (c : ContextValue) (other : List Guid) (marks : List TypedAce) (d : WholeDescriptor)
+    → has_types d.dacl ≡ false → marked (asking c other) marks d ≡ marked c marks d
 
 -- where both have one owner and one DACL, so have the plain descriptors of each question
 abbrev pub OneListForAllTypes : Type 0
 OneListForAllTypes = (c : ContextValue) (old new : WholeDescriptor) (plain_old plain_new : DescriptorValue)
     → old.owner ≡ new.owner → old.dacl ≡ new.dacl
-    → unconditional c old ≡ Ok plain_old → unconditional c new ≡ Ok plain_new
+    → marked c (conditionals old.dacl) old ≡ Ok plain_old
+    → marked c (conditionals old.dacl ++ conditionals new.dacl) new ≡ Ok plain_new
     → (plain_old.owner ≡ plain_new.owner) × (plain_old.dacl ≡ plain_new.dacl)

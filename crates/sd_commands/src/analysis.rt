@@ -5,6 +5,7 @@ ghost use Rattle.sd_answer.specs.Word.{IsFirstNoGroup, texts};
 ghost use Rattle.sd_commands.specs.Analysis.{AreBelowLines, AreWhoLines};
 ghost use Rattle.sd_commands.specs.Answer.{answer_of};
 ghost use Rattle.sd_commands.specs.CommandAnswer.{AnswersComparison, AnswersOfBase, AnswersOn, AreDescendantLines};
+ghost use Rattle.sd_commands.specs.CommandAnswer.{IsHidden};
 ghost use Rattle.sd_specialize.specs.Marked.{lent_marks};
 ghost use Rattle.sd_commands.specs.CommandAnswer.{AnswersWho, AreOwnChanges, IsGroupFault, PrintsComparison, PrintsWho};
 
@@ -66,11 +67,18 @@ impl CommandContext<'_> {
             (descriptor_of descriptor.now) groups.now (answer_of answer)) }
     {
         if hides(marks, groups) {
-            return self.fault("token", "GROUP", "its authority is that of conditions");
+            return self.hidden();
         }
         let lines = self.lines_of_who(descriptor, asked, groups)?;
         let lines = self.shown_by(marks, lines)?;
         Answer::done_but(self.alloc, left_out, lines)
+    }
+
+    /// The answer to a base of which a SID is a marker.
+    fn hidden(&self) -> Answered
+        ensures { IfOk result (λ answer. IsHidden (answer_of answer)) }
+    {
+        self.fault("token", "GROUP", "its authority is that of conditions")
     }
 
     fn lines_of_who(
@@ -141,47 +149,52 @@ impl CommandContext<'_> {
             left_out,
         } = part;
         let words = items_from(arguments, 1);
-        let answer = self.compare_with_base(old, descriptor, Vec::new(self.alloc), words)?;
+        let answer = self.compare_with_base(old, descriptor, &[], Vec::new(self.alloc), words)?;
         Ok(note_left_out_sacl(self.alloc, "NEW", left_out, answer)?)
     }
 
-    /// The comparison for the base that the words are, with these lines at its end; or the fault of the first word that
-    /// is no group.
+    /// The comparison for the base that the words are, where markers stand for these conditions, with these lines at
+    /// its end; or the fault of the first word that is no group.
     pub(crate) fn compare_with_base(
         &self,
         old: Descriptor,
         new: Descriptor,
+        marks: &[&TypedAce],
         last: Vec<Line>,
         words: &[&str],
     ) -> Answered
         ensures { IfOk result (λ answer. AnswersOfBase self.now.settings.now words.now
-            (AnswersComparison self.now.settings.now last.items (descriptor_of old) (descriptor_of new))
-            (answer_of answer)) }
+            (AnswersComparison self.now.settings.now (lent_marks marks.now) last.items (descriptor_of old)
+            (descriptor_of new)) (answer_of answer)) }
     {
         match read_base(self.alloc, self.settings.aliases, words) {
-            Ok(groups) => self.comparison_seen(old, new, last, &groups),
+            Ok(groups) => self.comparison_seen(old, new, marks, last, &groups),
             Err(TokenError::NoWord { place }) => self.group_fault(words, place),
             Err(TokenError::Memory) => Err(AllocError),
         }
     }
 
     /// What tokens gain and lose by the descriptors as they are looked at, and that something was left out of them,
-    /// where it was.
+    /// where it was; or that a SID of the base is a marker.
     fn comparison_seen(
         &self,
         old: Descriptor,
         new: Descriptor,
+        marks: &[&TypedAce],
         last: Vec<Line>,
         groups: &[(Sid, GroupState)],
     ) -> Answered
-        ensures { IfOk result (λ answer. AnswersComparison self.now.settings.now last.items (descriptor_of old)
-            (descriptor_of new) groups.now (answer_of answer)) }
+        ensures { IfOk result (λ answer. AnswersComparison self.now.settings.now (lent_marks marks.now) last.items
+            (descriptor_of old) (descriptor_of new) groups.now (answer_of answer)) }
     {
+        if hides(marks, groups) {
+            return self.hidden();
+        }
         let (alloc, is_object) = (self.alloc, self.settings.object);
         let left_out = either_leaves_out(is_object, &old, &new);
         let old = looked_at(alloc, is_object, old)?;
         let new = looked_at(alloc, is_object, new)?;
-        let answer = self.comparison(&old, &new, last, groups)?;
+        let answer = self.comparison(&old, &new, marks, last, groups)?;
         note_object(alloc, left_out, answer)
     }
 
@@ -189,11 +202,12 @@ impl CommandContext<'_> {
         &self,
         old: &Descriptor,
         new: &Descriptor,
+        marks: &[&TypedAce],
         mut last: Vec<Line>,
         groups: &[(Sid, GroupState)],
     ) -> Answered
-        ensures { IfOk result (λ answer. PrintsComparison self.now.settings.now last.items (descriptor_of old.now)
-            (descriptor_of new.now) groups.now (answer_of answer)) }
+        ensures { IfOk result (λ answer. PrintsComparison self.now.settings.now (lent_marks marks.now) last.items
+            (descriptor_of old.now) (descriptor_of new.now) groups.now (answer_of answer)) }
     {
         let base = Base { groups };
         let mut lines = self.own_changes(old, new, &base)?;
@@ -201,6 +215,7 @@ impl CommandContext<'_> {
         lines.append(&mut below)?;
         push_inheritance(self.alloc, &mut lines, old.protected, new.protected)?;
         lines.append(&mut last)?;
+        let lines = self.shown_by(marks, lines)?;
         found(self.alloc, lines, SAME)
     }
 

@@ -1,12 +1,14 @@
 //! Conditions in lines: in the place of a marker, which stands for them, whom they are asked of and what they ask.
-ghost use Rattle.std.specs.Prelude.{◌≡◌, IfOk, map, option_map, string_bytes};
+ghost use Rattle.std.specs.Prelude.{◌≡◌, ◌<◌, ◌^◌, IfOk, IfSome, map, option_map, string_bytes};
 ghost use Rattle.std.specs.List.{list_any};
 ghost use Rattle.sd_commands.specs.Conditions.{condition_text, condition_word, ending, has_marker, hides, shown_by};
 ghost use Rattle.sd_commands.specs.Conditions.{shown_line, shown_part, shown_sid, shown_value, sid_value, sids_value};
 ghost use Rattle.sd_commands.specs.Conditions.{text_from};
+ghost use Rattle.sd_line.specs.Printed.{marked_text};
+ghost use Rattle.sd_line.specs.declared.line.SidMark.TheVariants as states;
 ghost use Rattle.sd_commands.specs.WholeVerdict.{everyone_context};
 ghost use Rattle.sd_specialize.specs.Entry.{trustee};
-ghost use Rattle.sd_specialize.specs.Marked.{is_marker, lent_marks};
+ghost use Rattle.sd_specialize.specs.Marked.{is_marker, lent_marks, unmarked_place};
 ghost use Rattle.sd_whole_text.specs.Data.{condition_in};
 
 use crate::settings::CommandContext;
@@ -14,9 +16,9 @@ use sd_check::GroupState;
 use sd_line::{Line, Part, SidMark, Sids, Value};
 use sd_show::condition_text;
 use sd_sid::Sid;
-use sd_specialize::{Conditions, Context, is_deny, is_marker, marker};
+use sd_specialize::{Conditions, Context, is_deny, is_marker, marker, unmarked_place};
 use sd_text::print_full_sid;
-use sd_whole::TypedAce;
+use sd_whole::{TypedAce, WholeDescriptor};
 use std::alloc::AllocError;
 
 impl CommandContext<'_> {
@@ -101,9 +103,9 @@ impl CommandContext<'_> {
 
     fn sid_value(&self, marks: &[&TypedAce], sid: Sid) -> Result<Value, AllocError>
         ensures { IfOk result (λ shown. shown
-            ≡ sid_value sid (text_from self.now.settings.now 0 (lent_marks marks.now) sid)) }
+            ≡ sid_value sid (text_from self.now.settings.now 0 (lent_marks marks.now) sid states.Plain)) }
     {
-        match self.text_for(marks, &sid)? {
+        match self.text_for(marks, &sid, SidMark::Plain)? {
             Some(text) => Ok(Value::text(text)),
             None => Ok(Value::Sid(sid)),
         }
@@ -139,32 +141,43 @@ impl CommandContext<'_> {
         ensures { IfOk result (λ word. string_bytes word
             ≡ shown_sid (text_from self.now.settings.now 0 (lent_marks marks.now)) (sid, mark)) }
     {
-        let mut word = match self.text_for(marks, &sid)? {
-            Some(text) => text,
-            None => print_full_sid(self.alloc, &sid)?,
-        };
-        word.push_str(mark.text())?;
-        Ok(word)
+        match self.text_for(marks, &sid, mark)? {
+            Some(text) => Ok(text),
+            None => self.marked_sid(&sid, mark),
+        }
     }
 
-    /// What stands in the place of the SID, if it is one of their markers.
-    fn text_for(&self, marks: &[&TypedAce], sid: &Sid) -> Result<Option<String>, AllocError>
+    fn marked_sid(&self, sid: &Sid, mark: SidMark) -> Result<String, AllocError>
+        ensures { IfOk result (λ text. string_bytes text ≡ marked_text (sid.now, mark)) }
+    {
+        let mut text = print_full_sid(self.alloc, sid)?;
+        text.push_str(mark.text())?;
+        Ok(text)
+    }
+
+    /// What stands in the place of the SID with its state, if it is one of their markers.
+    fn text_for(
+        &self,
+        marks: &[&TypedAce],
+        sid: &Sid,
+        state: SidMark,
+    ) -> Result<Option<String>, AllocError>
         ensures { IfOk result (λ text. option_map string_bytes text
-            ≡ text_from self.now.settings.now 0 (lent_marks marks.now) sid.now) }
+            ≡ text_from self.now.settings.now 0 (lent_marks marks.now) sid.now state) }
     {
         for (i, mark) in marks.iter().enumerate() {
             if marker(i).is(sid) {
-                return Ok(Some(self.condition_text(mark)?));
+                return Ok(Some(self.condition_text(mark, state)?));
             }
         }
         Ok(None)
     }
 
-    /// Whom the condition of an entry is asked of, and what it asks ([MS-DTYP] 2.5.3.1.5).
-    fn condition_text(&self, ace: &TypedAce) -> Result<String, AllocError>
-        ensures { IfOk result (λ text. string_bytes text ≡ condition_text self.now.settings.now ace.now) }
+    /// Whom the condition of an entry is asked of, in this state, and what it asks ([MS-DTYP] 2.5.3.1.5).
+    fn condition_text(&self, ace: &TypedAce, state: SidMark) -> Result<String, AllocError>
+        ensures { IfOk result (λ text. string_bytes text ≡ condition_text self.now.settings.now state ace.now) }
     {
-        let mut text = print_full_sid(self.alloc, &self.trustee(ace.sid))?;
+        let mut text = self.marked_sid(&self.trustee(ace.sid), state)?;
         text.push_str(" if ")?;
         text.push_str(self.condition_word(ace.trailing.as_slice())?.as_str())?;
         text.push_str(ending(is_deny(ace.kind)))?;
@@ -191,6 +204,24 @@ impl CommandContext<'_> {
             principal_self: self.settings.principal_self,
         };
         context.trustee(sid)
+    }
+
+    /// The place of the first condition of a descriptor that has no marker beside the other.
+    pub(crate) fn unmarked_place(
+        &self,
+        other: &WholeDescriptor,
+        descriptor: &WholeDescriptor,
+    ) -> Option<usize>
+        ensures place { result
+            ≡ unmarked_place (everyone_context self.now.settings.now) other.now descriptor.now }
+        ensures within { IfSome result (λ place. place < 2 ^ 63) }
+    {
+        let context = Context {
+            conditions: Conditions::Unknown,
+            chain: self.settings.chain.types(),
+            principal_self: self.settings.principal_self,
+        };
+        unmarked_place(&context, other, descriptor)
     }
 
     fn lent<'a>(&self, words: &'a [String]) -> Result<Vec<&'a str>, AllocError>

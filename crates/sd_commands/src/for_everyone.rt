@@ -2,10 +2,9 @@
 ghost use Rattle.std.specs.Prelude.{◌≡◌, IfErr, IfOk, Ok};
 ghost use Rattle.sd_acl.specs.Descriptor.{descriptor_of};
 ghost use Rattle.sd_commands.specs.ForEveryone.{IsForEveryone, IsOfEveryone, IsPlainFor, IsSeen, IsUndecidedBy};
-ghost use Rattle.sd_commands.specs.ForEveryone.{seen_as, view_of};
+ghost use Rattle.sd_commands.specs.ForEveryone.{marks_of, seen_as, view_of};
 ghost use Rattle.sd_commands.specs.WholeVerdict.{everyone_context};
-ghost use Rattle.sd_specialize.specs.Everyone.{unconditional};
-ghost use Rattle.sd_specialize.specs.Marked.{conditionals, marked};
+ghost use Rattle.sd_specialize.specs.Marked.{lent_marks, marked};
 ghost use Rattle.sd_specialize.specs.Specialize.{Gives};
 ghost use Rattle.sd_whole.specs.Plain.{has_sacl};
 
@@ -13,11 +12,9 @@ use crate::command_answer::Answer;
 use crate::descriptor::{missing_dacl, note_sacl};
 use crate::settings::CommandContext;
 use sd_acl::Descriptor;
-use sd_specialize::{
-    SpecializeError, SpecializeFault, conditionals, marked_for_everyone, specialized_for_everyone,
-};
+use sd_specialize::{SpecializeError, SpecializeFault, conditionals, marked_for_everyone};
 use sd_text::TextError;
-use sd_whole::{OddEntry, PlainError, WholeAcl, WholeDescriptor};
+use sd_whole::{OddEntry, PlainError, TypedAce, WholeAcl, WholeDescriptor};
 use sd_whole_parse::read_whole_sddl;
 use std::alloc::AllocError;
 
@@ -31,8 +28,6 @@ pub(crate) struct PlainForEveryone {
 /// As what a whole descriptor is looked at.
 #[derive(Clone, Copy)]
 pub(crate) enum View {
-    /// As an object, where no entry has a condition.
-    Unconditional,
     /// As an object, where markers stand for conditions.
     Marked,
     /// As a container, also by what is made in it.
@@ -43,11 +38,7 @@ impl View {
     pub(crate) fn of(object: bool) -> View
         ensures { result ≡ view_of object }
     {
-        if object {
-            View::Unconditional
-        } else {
-            View::Below
-        }
+        if object { View::Marked } else { View::Below }
     }
 }
 
@@ -69,19 +60,20 @@ pub(crate) enum Unplain {
 }
 
 impl CommandContext<'_> {
-    /// What the argument of this name is whoever asks ([MS-DTYP] 2.5.1.1, 2.5.3.2), as what it is looked at, and of
-    /// whose SACL this is left out. The only error is out of memory.
+    /// What the argument of this name is whoever asks ([MS-DTYP] 2.5.1.1, 2.5.3.2), as what it is looked at, with
+    /// markers behind those of a list before it, and of whose SACL this is left out. The only error is out of memory.
     pub(crate) fn of_everyone(
         &self,
         name: &str,
         what: &str,
         view: View,
+        before: &WholeAcl,
         sddl: &str,
     ) -> Result<ForEveryone, AllocError>
-        ensures { IfOk result (IsOfEveryone name.now what.now view self.now.settings.now sddl.now) }
+        ensures { IfOk result (IsOfEveryone name.now what.now view before.now self.now.settings.now sddl.now) }
     {
         match read_whole_sddl(self.alloc, self.settings.aliases, sddl) {
-            Ok(descriptor) => self.for_everyone(name, what, view, descriptor),
+            Ok(descriptor) => self.for_everyone(name, what, view, before, descriptor),
             Err(TextError::Fault { fault, place }) => {
                 let answer = self.sddl_fault(name, sddl, fault, place)?;
                 Ok(ForEveryone::Refused(answer))
@@ -96,12 +88,13 @@ impl CommandContext<'_> {
         name: &str,
         what: &str,
         view: View,
+        before: &WholeAcl,
         descriptor: WholeDescriptor,
     ) -> Result<ForEveryone, AllocError>
-        ensures { IfOk result (IsForEveryone name.now what.now view self.now.settings.now descriptor) }
+        ensures { IfOk result (IsForEveryone name.now what.now view before.now self.now.settings.now descriptor) }
     {
         let is_there = has_sacl(&descriptor);
-        match self.plain_for(name, view, descriptor)? {
+        match self.plain_for(name, view, before, descriptor)? {
             ForEveryone::Plain(plain) => Ok(ForEveryone::Plain(plain)),
             ForEveryone::Refused(answer) => {
                 let answer = note_sacl(self.alloc, name, what, is_there, answer)?;
@@ -115,14 +108,15 @@ impl CommandContext<'_> {
         &self,
         name: &str,
         view: View,
+        before: &WholeAcl,
         whole: WholeDescriptor,
     ) -> Result<ForEveryone, AllocError>
-        ensures { IfOk result (IsPlainFor name.now view self.now.settings.now whole) }
+        ensures { IfOk result (IsPlainFor name.now view before.now self.now.settings.now whole) }
     {
         if let Some(missing) = missing_dacl(self.settings, &whole.dacl) {
             return Ok(ForEveryone::Refused(self.fault("nodacl", name, missing)?));
         }
-        match self.seen_as(view, &whole) {
+        match self.seen_as(view, before, &whole) {
             Ok(descriptor) => { Ok(ForEveryone::Plain(PlainForEveryone { descriptor, whole })) }
             Err(Unplain::Undecided(fault)) => {
                 Ok(ForEveryone::Refused(self.undecided(name, fault)?))
@@ -134,14 +128,19 @@ impl CommandContext<'_> {
 
     /// The plain descriptor that the whole one is: of a container its plain part, which what is made in it inherits
     /// ([MS-DTYP] 2.5.3.4).
-    fn seen_as(&self, view: View, descriptor: &WholeDescriptor) -> Result<Descriptor, Unplain>
-        ensures plain { IfOk result
-            (λ plain. seen_as view self.now.settings.now descriptor.now ≡ Ok (descriptor_of plain)) }
-        ensures none { IfErr result (IsSeen (seen_as view self.now.settings.now descriptor.now)) }
+    fn seen_as(
+        &self,
+        view: View,
+        before: &WholeAcl,
+        descriptor: &WholeDescriptor,
+    ) -> Result<Descriptor, Unplain>
+        ensures plain { IfOk result (λ plain.
+            seen_as view before.now self.now.settings.now descriptor.now ≡ Ok (descriptor_of plain)) }
+        ensures none { IfErr result
+            (IsSeen (seen_as view before.now self.now.settings.now descriptor.now)) }
     {
         match view {
-            View::Unconditional => undecided(self.unconditional(descriptor)),
-            View::Marked => undecided(self.marked(descriptor)),
+            View::Marked => undecided(self.marked(before, descriptor)),
             View::Below => match descriptor.plain_part(self.alloc) {
                 Ok(part) => Ok(part.descriptor),
                 Err(PlainError::Odd(odd)) => Err(Unplain::Odd(odd)),
@@ -150,23 +149,33 @@ impl CommandContext<'_> {
         }
     }
 
-    /// The plain descriptor that the whole one is for the object types asked about, whoever asks ([MS-DTYP] 2.5.3.2).
-    fn unconditional(&self, descriptor: &WholeDescriptor) -> Result<Descriptor, SpecializeError>
-        ensures { Gives descriptor_of result
-            (unconditional (everyone_context self.now.settings.now) descriptor.now) }
+    /// The plain descriptor that the whole one is for the object types asked about, whoever asks, in which markers
+    /// stand for conditions ([MS-DTYP] 2.5.3.2).
+    fn marked(
+        &self,
+        before: &WholeAcl,
+        descriptor: &WholeDescriptor,
+    ) -> Result<Descriptor, SpecializeError>
+        ensures { Gives descriptor_of result (marked (everyone_context self.now.settings.now)
+            (marks_of before.now descriptor.now.dacl) descriptor.now) }
     {
         let (chain, principal_self) = (self.settings.chain.types(), self.settings.principal_self);
-        specialized_for_everyone(self.alloc, chain, principal_self, descriptor)
+        let marks = self.marks_of(before, &descriptor.dacl)?;
+        marked_for_everyone(self.alloc, chain, principal_self, &marks, descriptor)
     }
 
-    /// That in which markers stand for its conditions.
-    fn marked(&self, descriptor: &WholeDescriptor) -> Result<Descriptor, SpecializeError>
-        ensures { Gives descriptor_of result
-            (marked (everyone_context self.now.settings.now) (conditionals descriptor.now.dacl) descriptor.now) }
+    /// The entries with a condition of two lists, for each of which stands a marker.
+    pub(crate) fn marks_of<'a>(
+        &self,
+        before: &'a WholeAcl,
+        dacl: &'a WholeAcl,
+    ) -> Result<Vec<&'a TypedAce>, AllocError>
+        ensures { IfOk result (λ marks. lent_marks marks.items ≡ marks_of before.now dacl.now) }
     {
-        let (chain, principal_self) = (self.settings.chain.types(), self.settings.principal_self);
-        let marks = conditionals(self.alloc, &descriptor.dacl)?;
-        marked_for_everyone(self.alloc, chain, principal_self, &marks, descriptor)
+        let mut marks = conditionals(self.alloc, before)?;
+        let mut own = conditionals(self.alloc, dacl)?;
+        marks.append(&mut own)?;
+        Ok(marks)
     }
 }
 

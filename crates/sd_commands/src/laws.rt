@@ -1,6 +1,7 @@
-//! What holds of canonical order, of objects, of object types, and of labels. Each law is the contract of a function
-//! that does nothing.
+//! What holds of canonical order, of objects, of object types, of conditions, and of labels. Each law is the contract
+//! of a function that does nothing.
 ghost use Rattle.sd_commands.specs.Labels.{NoLineTakesAlike};
+ghost use Rattle.sd_commands.specs.Limits.{ConditionsAskAlike};
 ghost use Rattle.sd_commands.specs.Object.{ObjectDecidesAlike, ObjectHandsNothingOn};
 ghost use Rattle.sd_commands.specs.ObjectTypes.{OneListForAllTypes, TypesChangeNothing};
 ghost use Rattle.sd_commands.specs.Sort.{CanonicalStays, SortedIsCanonical};
@@ -26,6 +27,7 @@ pub fn object_hands_nothing_on()
 
 /// Where no effective entry has an ObjectType, an answer is about all object types: the plain descriptor is the same
 /// for each ([MS-DTYP] 2.5.3.2).
+#[tactic(auto, using(crate::proofs::TypesAlike::types_change_nothing))]
 pub fn types_change_nothing()
     ensures { TypesChangeNothing }
 {}
@@ -34,6 +36,13 @@ pub fn types_change_nothing()
 /// descriptors of each question have one owner and one list ([MS-DTYP] 2.5.3.2).
 pub fn one_list_for_all_types()
     ensures { OneListForAllTypes }
+{}
+
+/// Where `compare` leaves out nothing of two SACLs, the conditions of both ask about the same claims of the object
+/// ([MS-DTYP] 2.4.4.15).
+#[tactic(auto, using(crate::proofs::Claims::conditions_ask_alike))]
+pub fn conditions_ask_alike()
+    ensures { ConditionsAskAlike }
 {}
 
 /// Where `compare` has no line of a label, both labels take the same from each level ([MS-DTYP] 2.5.3.3).

@@ -53,8 +53,8 @@ pub use concern::{Concern, concern_given, concern_reason, is_placeholder};
 pub use diagnostic::{sid_reason, told_line};
 pub use escaped::escaped_word;
 pub use laws::{
-    no_line_takes_alike, object_decides_alike, object_hands_nothing_on, one_list_for_all_types,
-    sorted_is_canonical, types_change_nothing,
+    conditions_ask_alike, no_line_takes_alike, object_decides_alike, object_hands_nothing_on,
+    one_list_for_all_types, sorted_is_canonical, types_change_nothing,
 };
 pub use logon::{Logon, fits_logon, logon_given, words_for};
 pub use mapping::{kind_given, mapping_given};

@@ -4,7 +4,7 @@ ghost use Rattle.std.specs.Prelude.{IfOk};
 ghost use Rattle.sd_acl.specs.Descriptor.{descriptor_of};
 ghost use Rattle.sd_commands.specs.Answer.{answer_of};
 ghost use Rattle.sd_commands.specs.CommandAnswer.{AnswersCompareOfBoth, AnswersCompareOfWhole, AnswersCompareTo};
-ghost use Rattle.sd_commands.specs.CommandAnswer.{AnswersWhoOfWhole};
+ghost use Rattle.sd_commands.specs.CommandAnswer.{AnswersCompareMarked, AnswersWhoOfWhole};
 
 use crate::command_answer::Answered;
 use crate::descriptor::{ALL_BUT_LABEL, ALL_LEFT_OUT, note_left_out_sacl, note_sacl};
@@ -14,7 +14,8 @@ use crate::limits::{change_has_limits, sacl_left_out};
 use crate::object_types::{change_has_types, note_types, types_left_out, who_has_types};
 use crate::settings::CommandContext;
 use crate::words::{argument, items_from};
-use sd_specialize::conditionals;
+use sd_specialize::{conditional_fault, conditionals};
+use sd_whole::WholeAcl;
 
 impl CommandContext<'_> {
     /// Whom rights are granted to by all that the text is ([MS-DTYP] 2.5.1.1), but its SACL: where an entry has a
@@ -23,7 +24,8 @@ impl CommandContext<'_> {
         ensures { IfOk result (λ answer. AnswersWhoOfWhole self.now.settings.now sddl.now arguments.now
             (answer_of answer)) }
     {
-        let plain = match self.of_everyone("SDDL", ALL_LEFT_OUT, View::Marked, sddl)? {
+        let before = WholeAcl::Absent;
+        let plain = match self.of_everyone("SDDL", ALL_LEFT_OUT, View::Marked, &before, sddl)? {
             ForEveryone::Plain(plain) => plain,
             ForEveryone::Refused(answer) => return Ok(answer),
         };
@@ -42,8 +44,8 @@ impl CommandContext<'_> {
         ensures { IfOk result (λ answer. AnswersCompareOfWhole self.now.settings.now sddl.now arguments.now
             (answer_of answer)) }
     {
-        let view = View::of(self.settings.object);
-        let old = match self.of_everyone("OLD", ALL_BUT_LABEL, view, sddl)? {
+        let (view, before) = (View::of(self.settings.object), WholeAcl::Absent);
+        let old = match self.of_everyone("OLD", ALL_BUT_LABEL, view, &before, sddl)? {
             ForEveryone::Plain(plain) => plain,
             ForEveryone::Refused(answer) => return Ok(answer),
         };
@@ -56,8 +58,8 @@ impl CommandContext<'_> {
         ensures { IfOk result (λ answer. AnswersCompareTo self.now.settings.now old.whole (descriptor_of old.descriptor)
             arguments.now (answer_of answer)) }
     {
-        let view = View::of(self.settings.object);
-        let new = match self.of_everyone("NEW", ALL_BUT_LABEL, view, argument(arguments, 0))? {
+        let (view, text) = (View::of(self.settings.object), argument(arguments, 0));
+        let new = match self.of_everyone("NEW", ALL_BUT_LABEL, view, &old.whole.dacl, text)? {
             ForEveryone::Plain(plain) => plain,
             ForEveryone::Refused(answer) => return Ok(answer),
         };
@@ -66,19 +68,42 @@ impl CommandContext<'_> {
         note_sacl(self.alloc, "NEW", ALL_BUT_LABEL, is_there, answer)
     }
 
+    /// The comparison, unless a SID of one is a marker of conditions of the other.
     fn compare_both(&self, old: PlainForEveryone, new: PlainForEveryone, words: &[&str]) -> Answered
         ensures { IfOk result (λ answer. AnswersCompareOfBoth self.now.settings.now
             old.whole (descriptor_of old.descriptor) new.whole (descriptor_of new.descriptor)
             words.now (answer_of answer)) }
     {
-        let depends = change_has_types(&old.whole, &new.whole);
-        let limited = change_has_limits(!self.settings.object, &old.whole, &new.whole);
-        let mut last = label_changes(self.alloc, &old.whole, &new.whole)?;
+        if let Some(place) = self.unmarked_place(&old.whole, &new.whole) {
+            return self.undecided("NEW", conditional_fault(place));
+        }
+        if let Some(place) = self.unmarked_place(&new.whole, &old.whole) {
+            return self.undecided("OLD", conditional_fault(place));
+        }
+        self.compare_marked(old, new, words)
+    }
+
+    fn compare_marked(
+        &self,
+        old: PlainForEveryone,
+        new: PlainForEveryone,
+        words: &[&str],
+    ) -> Answered
+        ensures { IfOk result (λ answer. AnswersCompareMarked self.now.settings.now
+            old.whole (descriptor_of old.descriptor) new.whole (descriptor_of new.descriptor)
+            words.now (answer_of answer)) }
+    {
+        let (plain_old, plain_new) = (old.descriptor, new.descriptor);
+        let (old, new) = (old.whole, new.whole);
+        let depends = change_has_types(&old, &new);
+        let limited = change_has_limits(self.alloc, !self.settings.object, &old, &new)?;
+        let mut last = label_changes(self.alloc, &old, &new)?;
         let mut limits = sacl_left_out(self.alloc, limited)?;
         let mut types = types_left_out(self.alloc, self.settings, depends)?;
         last.append(&mut limits)?;
         last.append(&mut types)?;
-        let answer = self.compare_with_base(old.descriptor, new.descriptor, last, words)?;
+        let marks = self.marks_of(&old.dacl, &new.dacl)?;
+        let answer = self.compare_with_base(plain_old, plain_new, &marks, last, words)?;
         note_types(self.alloc, self.settings, depends, answer)
     }
 }

@@ -265,7 +265,7 @@ fn part_row(
 /// The row of advice for an entry that is no allow and no deny.
 fn odd_row(question: DescriptorCommand, odd: OddEntry) -> RemedyRow {
     match (question, odd.kind) {
-        (DescriptorCommand::Compare, OddKind::ObjectAce) => OBJECT_ENTRY,
+        (DescriptorCommand::Compare, OddKind::ObjectAce | OddKind::ConditionalAce) => OBJECT_ENTRY,
         _ => ODD_ENTRY,
     }
 }

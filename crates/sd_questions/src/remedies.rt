@@ -237,7 +237,7 @@ pub(crate) const ODD_ENTRY: RemedyRow = (
 );
 
 pub(crate) const OBJECT_ENTRY: RemedyRow = (
-    "an entry for object types",
+    "an entry for object types or with a condition",
     "an allow or a deny",
     "write --object before the command: compare takes it then, but leaves out what is made in a container",
 );

@@ -113,4 +113,4 @@ module _ (c k : ContextValue) (types : c.chain ≡ k.chain) (self : c.principal_
   pub marked_alike : (marks : List TypedAce) (d : WholeDescriptor) → marked c marks d ≡ marked k marks d
   marked_alike marks d =
       ap (λ b. unless_conditional (if option_map_or is_marker d.owner false || b then conditional_place d.dacl else None) (descriptor_by (marked_entry c marks) d)) (hindered_alike d.dacl)
-      ∙ ap (λ rule. unless_conditional (unmarked_place k d) (descriptor_by rule d)) (rule_alike marks)
+      ∙ ap (λ rule. unless_conditional (unmarked_place k d d) (descriptor_by rule d)) (rule_alike marks)

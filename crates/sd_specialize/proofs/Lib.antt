@@ -1,4 +1,5 @@
 pub mod Lists
+pub mod LaterMarks
 pub mod Markers
 pub mod MarkersStand
 pub mod Grants
@@ -10,4 +11,3 @@ pub mod NoMore
 pub mod Chains
 pub mod Alike
 pub mod Unknowns
-pub mod Unmarked

@@ -1,5 +1,4 @@
--- Entries that depend on who asks: the effective ones with a condition ([MS-DTYP] 2.4.4.17); and the plain descriptor
--- that a whole one is for each question about the same object types, whoever asks, where it has none.
+-- Entries that depend on who asks: the effective ones with a condition ([MS-DTYP] 2.4.4.17).
 use Rattle.std.specs.Prelude.{ℕ, ◌+◌, Bool, true, false, not, ◌&&◌, Option, Some, None, Result, Err}
 use Rattle.std.specs.List.{position}
 use Rattle.sd_acl.specs.Descriptor.{DescriptorValue}
@@ -12,9 +11,6 @@ use Rattle.sd_whole.specs.declared.kind.WholeKind.TheVariants.{CallbackObjectDen
 use Rattle.sd_whole.specs.declared.plain.OddKind.TheVariants.{ConditionalAce}
 use Rattle.sd_whole.specs.Reading.{WholeAcl}
 use Rattle.sd_whole.specs.Entry.{for_children_alone}
-use Rattle.sd_whole.specs.declared.descriptor.WholeDescriptor.{WholeDescriptor}
-use Rattle.sd_specialize.specs.Context.{ContextValue}
-use Rattle.sd_specialize.specs.Specialize.{specialized}
 use Rattle.sd_specialize.specs.declared.fault.RefusedKind.TheVariants.{Odd}
 use Rattle.sd_specialize.specs.declared.fault.SpecializeFault.{SpecializeFault}
 use Rattle.sd_specialize.specs.declared.fault.SpecializeFault.TheVariants.{Refused}
@@ -46,7 +42,3 @@ abbrev pub unless_conditional : Option ℕ → Result DescriptorValue Specialize
     → Result DescriptorValue SpecializeFault
 unless_conditional None other = other
 unless_conditional (Some place) other = Err (conditional_fault place)
-
--- what the descriptor is for the question, if none of its effective entries has a condition
-abbrev pub unconditional : ContextValue → WholeDescriptor → Result DescriptorValue SpecializeFault
-unconditional c d = unless_conditional (conditional_place d.dacl) (specialized c d)

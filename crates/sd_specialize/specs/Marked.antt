@@ -126,12 +126,13 @@ hindered_by c (Entries list) = list_any (hinders c) list.entries
 abbrev pub is_hindered : ContextValue → WholeDescriptor → Bool
 is_hindered c d = option_map_or is_marker d.owner false || hindered_by c d.dacl
 
-abbrev pub unmarked_place : ContextValue → WholeDescriptor → Option ℕ
-unmarked_place c d = if is_hindered c d then conditional_place d.dacl else None
+-- the first entry of a descriptor with a condition, if beside the other descriptor no marker can stand for it
+abbrev pub unmarked_place : ContextValue → (other d : WholeDescriptor) → Option ℕ
+unmarked_place c other d = if is_hindered c other then conditional_place d.dacl else None
 
 -- what the descriptor is for all tokens, by these markers; or the first entry with a condition is refused
 abbrev pub marked : ContextValue → List TypedAce → WholeDescriptor → Result DescriptorValue SpecializeFault
-marked c marks d = unless_conditional (unmarked_place c d) (descriptor_by (marked_entry c marks) d)
+marked c marks d = unless_conditional (unmarked_place c d d) (descriptor_by (marked_entry c marks) d)
 
 -- ---- what markers say of a token
 
@@ -190,3 +191,8 @@ MarkersStand =
 abbrev pub AllAreMarked : Type 0
 AllAreMarked = (before after : List TypedAce) (es : List WholeAce)
     → HaveMarkers (before ++ (conditionals_of es ++ after)) es
+
+-- more marks behind those of its conditional entries, whatever is before them, change nothing of what a descriptor is
+abbrev pub LaterMarksChangeNothing : Type 0
+LaterMarksChangeNothing = (c : ContextValue) (before after : List TypedAce) (d : WholeDescriptor)
+    → marked c (before ++ (conditionals d.dacl ++ after)) d ≡ marked c (before ++ conditionals d.dacl) d

@@ -1,50 +1,21 @@
-//! Entries that depend on who asks, and the plain descriptor that a whole one without these is whoever asks.
+//! Entries that depend on who asks: the effective ones with a condition.
 
-ghost use Rattle.std.specs.Prelude.{◌≡◌, ◌<◌, ◌^◌, IfSome, IsErrOf};
+ghost use Rattle.std.specs.Prelude.{◌≡◌, ◌<◌, ◌^◌, IfSome};
 ghost use Rattle.std.specs.List.{position};
-ghost use Rattle.sd_acl.specs.Descriptor.{descriptor_of};
-ghost use Rattle.sd_specialize.specs.Context.{ContextValue};
 ghost use Rattle.sd_specialize.specs.Everyone.{conditional_fault, conditional_place, has_condition, is_conditional};
-ghost use Rattle.sd_specialize.specs.Everyone.{unconditional};
-ghost use Rattle.sd_specialize.specs.Specialize.{Gives, HasDaclEntries};
-ghost use Rattle.sd_specialize.specs.declared.fault.SpecializeError.TheVariants as errors;
 
-use crate::fault::{RefusedEntry, RefusedKind, SpecializeError, SpecializeFault};
-use crate::marked::marked_for_everyone;
-use sd_acl::Descriptor;
-use sd_sid::Sid;
-use sd_whole::{Guid, OddKind, WholeAce, WholeAcl, WholeDescriptor, WholeKind, for_children_alone};
-use std::alloc::Global;
+use crate::fault::{RefusedEntry, RefusedKind, SpecializeFault};
+use sd_whole::{OddKind, WholeAce, WholeAcl, WholeKind, for_children_alone};
 
-/// The plain descriptor that a whole one is for each question about these object types of an object, for which
-/// PRINCIPAL SELF is this SID, whoever asks ([MS-DTYP] 2.5.3.2): `specialized` gives the same one for every token with
-/// any claims. A fault is the first effective entry with a condition, which depends on who asks; or else as that of
-/// `specialized`. There is an allocation for the list.
-pub fn specialized_for_everyone(
-    alloc: Global,
-    chain: &[Guid],
-    principal_self: Option<Sid>,
-    descriptor: &WholeDescriptor,
-) -> Result<Descriptor, SpecializeError>
-    ensures exact { (c : ContextValue) → c.chain ≡ chain.now → c.principal_self ≡ principal_self
-        → Gives descriptor_of result (unconditional c descriptor.now) }
-    ensures memory { IsErrOf result SpecializeError.Memory → HasDaclEntries descriptor.now.dacl }
-{
-    match conditional_place(&descriptor.dacl) {
-        Some(place) => Err(conditional_fault(place)),
-        None => marked_for_everyone(alloc, chain, principal_self, &[], descriptor),
-    }
-}
-
-/// The fault of an entry with a condition at this place.
-pub(crate) fn conditional_fault(place: usize) -> SpecializeError
+/// The fault of an entry with a condition ([MS-DTYP] 2.4.4.17) at this place.
+pub fn conditional_fault(place: usize) -> SpecializeFault
     requires { place < 2 ^ 63 }
-    ensures { result ≡ errors.Fault (conditional_fault place) }
+    ensures { result ≡ conditional_fault place }
 {
-    SpecializeError::Fault(SpecializeFault::Refused(RefusedEntry {
+    SpecializeFault::Refused(RefusedEntry {
         entry: place + 1,
         kind: RefusedKind::Odd(OddKind::ConditionalAce),
-    }))
+    })
 }
 
 /// The place of the first effective entry with a condition ([MS-DTYP] 2.4.4.17), from 0.

@@ -2,7 +2,7 @@
 
 ghost use Rattle.sd_specialize.specs.Laws.{DenyNeverGrants, NoPartChangesNothing, PlainStaysPlain, UnknownFailsClosed};
 ghost use Rattle.sd_specialize.specs.Laws.{WholeIsEveryPart};
-ghost use Rattle.sd_specialize.specs.Marked.{AllAreMarked, MarkersStand};
+ghost use Rattle.sd_specialize.specs.Marked.{AllAreMarked, LaterMarksChangeNothing, MarkersStand};
 
 /// A law: a descriptor whose DACL has allows and denies alone is its plain part for every question, whatever else is
 /// known; but where it has an entry for PRINCIPAL SELF, that is a SID that the question names.
@@ -45,4 +45,11 @@ pub fn markers_stand()
 #[tactic(auto, using(crate::proofs::Markers::all_are_marked))]
 pub fn all_are_marked()
     ensures { AllAreMarked }
+{}
+
+/// A law: more marks after those of its conditional entries change nothing of what a descriptor is by markers: so two
+/// descriptors have one list of marks, and one without conditions is the same by each ([MS-DTYP] 2.4.4.17).
+#[tactic(auto, using(crate::proofs::LaterMarks::later_marks_change_nothing))]
+pub fn later_marks_change_nothing()
+    ensures { LaterMarksChangeNothing }
 {}

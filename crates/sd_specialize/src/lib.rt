@@ -25,10 +25,10 @@ mod rule;
 
 pub use context::{Conditions, Context};
 pub use descriptor::specialized;
-pub use everyone::{conditional_place, specialized_for_everyone};
+pub use everyone::{conditional_fault, conditional_place};
 pub use fault::{RefusedEntry, RefusedKind, SpecializeError, SpecializeFault};
 pub use laws::{
-    all_are_marked, deny_never_grants, markers_stand, no_part_changes_nothing, plain_stays_plain,
-    unknown_fails_closed, whole_is_every_part,
+    all_are_marked, deny_never_grants, later_marks_change_nothing, markers_stand,
+    no_part_changes_nothing, plain_stays_plain, unknown_fails_closed, whole_is_every_part,
 };
-pub use marked::{conditionals, is_deny, is_marker, marked_for_everyone, marker};
+pub use marked::{conditionals, is_deny, is_marker, marked_for_everyone, marker, unmarked_place};

@@ -67,8 +67,8 @@ fn marked(
     ensures exact { Gives descriptor_of result (marked (context_of context.now) (lent_marks marks.now) descriptor.now) }
     ensures memory { IsErrOf result SpecializeError.Memory → HasDaclEntries descriptor.now.dacl }
 {
-    if let Some(place) = unmarked_place(context, descriptor) {
-        return Err(conditional_fault(place));
+    if let Some(place) = unmarked_place(context, descriptor, descriptor) {
+        return Err(SpecializeError::Fault(conditional_fault(place)));
     }
     descriptor_by(alloc, Rule::Marked(Marks { context, marks }), descriptor)
 }
@@ -221,12 +221,17 @@ fn is_of_types(context: &Context<'_>, ace: &TypedAce) -> bool
 
 // ---- what no marker can stand for
 
-/// The place of the first entry with a condition, if no marker can stand for one.
-fn unmarked_place(context: &Context<'_>, descriptor: &WholeDescriptor) -> Option<usize>
-    ensures place { result ≡ unmarked_place (context_of context.now) descriptor.now }
+/// The place of the first entry of a descriptor with a condition ([MS-DTYP] 2.4.4.17), if beside the other descriptor
+/// no marker can stand for one: an entry or the owner of that is a marker, or has a condition and is for OWNER RIGHTS.
+pub fn unmarked_place(
+    context: &Context<'_>,
+    other: &WholeDescriptor,
+    descriptor: &WholeDescriptor,
+) -> Option<usize>
+    ensures place { result ≡ unmarked_place (context_of context.now) other.now descriptor.now }
     ensures within { IfSome result (λ place. place < 2 ^ 63) }
 {
-    if is_hindered(context, descriptor) {
+    if is_hindered(context, other) {
         conditional_place(&descriptor.dacl)
     } else {
         None

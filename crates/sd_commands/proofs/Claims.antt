@@ -1,0 +1,27 @@
+-- Where `compare` leaves out nothing of two SACLs, the conditions of both ask about the same claims.
+use Rattle.sd_commands.proofs.Cited.{Bool, List, [], ap, arith, false, inl, inr, length, not, refl, sym, true, ◌&&◌, ◌∙◌, ◌∷◌, ◌==◌, ◌≡◌, ◌||◌}
+use Rattle.std.proofs.Common.{suc, ℕ}
+use Rattle.std.proofs.lemmas.Bool.{cases_Bool}
+use Rattle.sd_access.specs.Access.{resource_claims}
+use Rattle.sd_access.specs.Limits.{has_limits}
+use Rattle.sd_commands.specs.Limits.{ConditionsAskAlike, both_ask, has_claims}
+
+longer : (n : ℕ) → not (suc n == 0) ≡ false → ⊥
+longer n none = grind (arith, none)
+
+empty : {X : Type 0} (xs : List X) → not (length xs == 0) ≡ false → xs ≡ []
+empty [] none = refl
+empty (x ∷ xs) none = absurd (longer (length xs) none)
+
+neither : (limits ask one other : Bool) → ask ≡ true → false ≡ ((limits || (ask && (one || other))) && true) → (one ≡ false) × (other ≡ false)
+neither limits ask one other asks h = (grind (arith, asks, h), grind (arith, asks, h))
+
+pub conditions_ask_alike : ConditionsAskAlike
+conditions_ask_alike below old new (same, decides, none) ask = elim (cases_Bool same) [
+  | inl is ↦ ap resource_claims (decides.0 is)
+  | inr isnt ↦
+      let limits = has_limits below old.sacl || has_limits below new.sacl in
+      let claims = has_claims old.sacl || has_claims new.sacl in
+      let without = neither limits (both_ask old new) (has_claims old.sacl) (has_claims new.sacl) ask (none ∙ ap (λ b. (limits || (both_ask old new && claims)) && not b) isnt) in
+      empty (resource_claims old.sacl) without.0 ∙ sym (empty (resource_claims new.sacl) without.1)
+]
