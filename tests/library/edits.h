@@ -50,17 +50,35 @@ typedef struct kept_row {
     uint64_t place;
 } kept_row;
 
-/* Adds that node, or judges it. */
+/* The bytes of its descriptors. */
+typedef struct kept_bytes {
+    unsigned char bytes[3][200];
+    size_t lengths[3];
+} kept_bytes;
+
+static inline kept_bytes bytes_of(const kept_row *row)
+{
+    const char *const texts[3] = { row->own, row->kept, row->offer };
+    kept_bytes all;
+    size_t at;
+    for (at = 0; at < 3; at++) {
+        all.lengths[at] = (size_t)hudarin_sddl_to_bytes(texts[at], strlen(texts[at]), all.bytes[at], sizeof all.bytes[at]).length;
+    }
+    return all;
+}
+
+/* Adds the node of these bytes, or judges it. */
+static inline hudarin_verdict stored_of(hudarin_store *store, const kept_row *row, const kept_bytes *all, int is_judged)
+{
+    return (is_judged ? hudarin_store_judge_stored : hudarin_store_add_stored)(
+        store, row->kind, row->path, strlen(row->path), all->bytes[0], all->lengths[0], all->bytes[1], all->lengths[1],
+        all->bytes[2], all->lengths[2]);
+}
+
 static inline hudarin_verdict stored(hudarin_store *store, const kept_row *row, int is_judged)
 {
-    unsigned char bytes[3][200];
-    const char *const texts[3] = { row->own, row->kept, row->offer };
-    size_t lengths[3], at;
-    for (at = 0; at < 3; at++) {
-        lengths[at] = (size_t)hudarin_sddl_to_bytes(texts[at], strlen(texts[at]), bytes[at], sizeof bytes[at]).length;
-    }
-    return (is_judged ? hudarin_store_judge_stored : hudarin_store_add_stored)(
-        store, row->kind, row->path, strlen(row->path), bytes[0], lengths[0], bytes[1], lengths[1], bytes[2], lengths[2]);
+    kept_bytes all = bytes_of(row);
+    return stored_of(store, row, &all, is_judged);
 }
 
 /* The texts of what the node at a place keeps, with a newline between them; nothing if it keeps nothing. */

@@ -123,13 +123,15 @@ static void each_request_of_kept(void)
     hudarin_written told;
     unsigned char room[100];
     long at, is_judged, refused = 0;
+    /* (before any request is refused) */
+    const kept_bytes bytes = bytes_of(&file);
     HOLDS(is_made(opened(&store, ROOT)));
     for (is_judged = 1; is_judged >= 0; is_judged--) {
         hudarin_verdict answer = { HUDARIN_MEMORY, 0, 0, 0, 0, 0 };
         for (at = 0; answer.status == HUDARIN_MEMORY && at < 1000; at++) {
             HOLDS(hudarin_journal_length(&store.kept).length == 0);
             granted = at;
-            answer = stored(&store, &file, (int)is_judged);
+            answer = stored_of(&store, &file, &bytes, (int)is_judged);
             granted = -1;
             refused += answer.status == HUDARIN_MEMORY;
         }
