@@ -385,7 +385,7 @@ REJECTED = r"""
 
 # The mistakes, by number from 1.
 MISTAKES = """NoCommand UnknownCommand UnknownOption NotAlone RepeatedOption NoValue MisplacedOption ExcludedOption NoText
-MissingArgument SurplusArgument NoWorkers LacksWhole TooManyTypes LacksObject""".split()
+MissingArgument SurplusArgument NoWorkers LacksWhole TooManyTypes LacksObject NoPairs""".split()
 
 
 def is_help(status, output, errors):
