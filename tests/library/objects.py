@@ -558,7 +558,8 @@ def kept() -> None:
     own, folder = Descriptor.from_sddl("O:BAG:SYD:(A;;FA;;;BA)"), Descriptor.from_sddl("O:BAG:SYD:(A;OICI;FR;;;BU)")
     shown = "O:BAG:SYD:AI(A;;FA;;;BA)"
     with Store(folder) as store, Store(folder) as again:
-        gives("a judged one", (None, 0), lambda: (store.judge.add_object("/f", own, kept=inherited, offer=offer), len(store)))
+        store.judge.add_object("/f", own, kept=inherited, offer=offer)
+        gives("a judged one isn't made", 0, lambda: len(store))
         store.add_object("/f", own, kept=inherited, offer=offer)
         store.add_container("/d", own)
         for number in range(40):
@@ -584,14 +585,14 @@ def kept() -> None:
             gives("as any other", shown + "(A;ID;FX;;;BU)", lambda: str(view.descriptor("/f")))
             gives("what it keeps all the same", Stored(inherited, offer), lambda: view.stored("/f"))
             gives("the same lists, changed", *_shown(view, other))
-        for lists, argument in (((folder, offer), "kept"), ((inherited, folder), "offer")):
-            given = dict(zip(("kept", "offer"), lists))
+        for had, offered, argument in ((folder, offer, "kept"), (inherited, folder, "offer")):
+            lists = {"kept": had, "offer": offered}
             wanted = ("parts", 0, None, 0, argument)
-            gives(f"{argument} with an owner", wanted, lambda: refused(lambda: store.add_object("/x", own, **given)))
-            gives(f"{argument}, judged", wanted, lambda: refused(lambda: store.judge.add_container("/x", own, **given)))
+            gives(f"{argument} with an owner", wanted, lambda: refused(lambda: store.add_object("/x", own, **lists)))
+            gives(f"{argument}, judged", wanted, lambda: refused(lambda: store.judge.add_container("/x", own, **lists)))
         raises("kept without an offer", TypeError, lambda: store.add_object("/x", own, kept=inherited))
         raises("an offer without kept", TypeError, lambda: store.add_object("/x", own, offer=inherited))
-        raises("lists by position", TypeError, lambda: store.add_object("/x", own, inherited, offer))
+        raises("lists by position", TypeError, lambda: store.add_object("/x", own, inherited, offer))  # type: ignore[misc]
 
 
 def _shown(one: View, other: View) -> Tuple[List[str], Callable[[], List[str]]]:
