@@ -130,7 +130,8 @@ class Answers(Sources):
 
     def test_lint_and_the_report(self) -> None:
         """A finding doesn't hide that nodes are left out: the status is 4 all the same."""
-        self.assertEqual(self.runs(4, "lint", "script", says=f"0 findings; {SUM}"), [MOVED, self.skipped])
+        risk = "lint\t/a/moved\tS-1-1-0 is granted full-control"
+        self.assertEqual(self.runs(4, "lint", "script", says=f"1 finding; {SUM}"), [risk, MOVED, self.skipped])
         self.assertEqual(self.runs(4, "report", "script", "page", says=SUM), [MOVED, self.skipped])
         data = json.loads((self.room / "page").read_text().partition('application/json">')[2].partition("<")[0])
         self.assertEqual(data["sum"], f"2 folders, 2 files: {SUM}")
@@ -138,10 +139,10 @@ class Answers(Sources):
         self.assertIn("not read, and 1 node below: its descriptor isn't supported", data["gaps"][1][2])
         self.assertEqual([node[8] for node in data["nodes"]], ["", "", MOVED.split("\t")[2], ""])
         self.write("doubtful", self.script + "dacl /d D:(A;;FA;;;WD)\npublish\n")
-        rows = self.runs(4, "lint", "doubtful", says=f"1 finding; {SUM}")
-        self.assertEqual(rows[0], "lint\t/d\tS-1-1-0 is granted full-control")
+        rows = self.runs(4, "lint", "doubtful", says=f"2 findings; {SUM}")
+        self.assertEqual(rows[:2], [risk, "lint\t/d\tS-1-1-0 is granted full-control"])
         self.runs(4, "report", "doubtful", "page")
-        self.assertIn('["S-1-1-0 is granted full-control"]', (self.room / "page").read_text())
+        self.assertIn('["risk","S-1-1-0 is granted full-control"]', (self.room / "page").read_text())
 
     def test_review_and_plan(self) -> None:
         """Of nodes that change, or whose folder passes down other entries; a change elsewhere leaves nothing out."""
