@@ -7,6 +7,7 @@ ghost use Rattle.sd_sid.specs.Sid.{IsSid};
 
 use std::error::Error;
 use std::fmt;
+use std::hash::{Hash, Hasher};
 use std::marker::Model;
 
 /// The most sub-authorities that a SID has ([MS-DTYP] 2.4.2.2, SubAuthorityCount).
@@ -21,7 +22,7 @@ pub const AUTHORITY_LIMIT: u64 = 0x1_0000_0000_0000;
 /// A security identifier ([MS-DTYP] 2.4.2): an authority below 2^48, and 1 to 15 sub-authorities of 32 bits.
 /// Contracts see it as that pair. It is a plain value: two are compared whole, without a test of the number of
 /// sub-authorities, since the unused ones are zeros.
-#[derive(Clone, Copy, Debug, PartialEq, Eq, PartialOrd, Ord, Hash)]
+#[derive(Clone, Copy, Debug, PartialEq, Eq, PartialOrd, Ord)]
 pub struct Sid {
     authority: u64,
     subs: [u32; MAX_SUBS],
@@ -47,6 +48,20 @@ impl Model for Sid {
     ghost use Rattle.sd_sid.specs.SidParts.{parts_come_back};
 
     ghost inverse_ok = { parts_come_back };
+}
+
+impl Hash for Sid {
+    ghost use Rattle.sd_sid.specs.SidParts.{alike, hash_input};
+
+    ghost hash_input = { hash_input };
+
+    ghost respects_eq = { alike };
+
+    // (without the zeros behind the sub-authorities: a hash costs a third)
+    fn hash<H: Hasher>(&self, state: &mut H) {
+        self.authority.hash(state);
+        self.subs().hash(state);
+    }
 }
 
 /// Why parts or bytes are no SID.
