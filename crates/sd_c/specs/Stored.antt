@@ -11,6 +11,7 @@ use Rattle.sd_path.specs.Names.{Names}
 use Rattle.sd_path.specs.PathText.{path_of}
 use Rattle.sd_wire.specs.Reading.{descriptor_read}
 use Rattle.sd_wire.specs.Writing.{wire_of}
+use Rattle.sd_edit.specs.Descriptors.{stored_dacl}
 use Rattle.sd_edit.specs.History.{History}
 use Rattle.sd_edit.specs.Journal.{replay}
 use Rattle.sd_edit.specs.declared.edit.Edit.{Edit}
@@ -55,12 +56,6 @@ IsNoLists kept offer why =
     ⊎ ((inherited : List Ace) × IsList kept inherited × IsNoList arguments.Offer offer why)
 
 -- ---- the edit
-
--- a list that isn't protected, with what was inherited and what was offered where it was stored; another DACL keeps
--- nothing
-abbrev pub stored_dacl : NodeDacl → List Ace → List Ace → NodeDacl
-stored_dacl (own.List false entries) inherited offer = own.Stored entries inherited offer
-stored_dacl dacl inherited offer = dacl
 
 -- the bytes hold a node's owner, its group and its own DACL, and what it keeps: this is its DACL
 abbrev pub IsStoredNode : List ℕ → List ℕ → List ℕ → SidValue → SidValue → NodeDacl → Type 0

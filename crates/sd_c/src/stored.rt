@@ -6,7 +6,7 @@ ghost use Rattle.sd_c.specs.Kept.{Stays};
 ghost use Rattle.sd_c.specs.Publishing.{Edits, Judges};
 ghost use Rattle.sd_c.specs.Stored.{IsKept, IsKeptAt, IsList, IsNoList, IsNoLists, IsNoStoredNode, IsNoStoring};
 ghost use Rattle.sd_c.specs.Stored.{IsNotKept, IsNotKeptAt, IsStoredNode, IsStoring, ListsComeBack};
-ghost use Rattle.sd_c.specs.Stored.{descriptor_of_list, kept_part, stored_dacl};
+ghost use Rattle.sd_c.specs.Stored.{descriptor_of_list, kept_part};
 ghost use Rattle.sd_c.specs.Views.{TellsBytes};
 
 use crate::call_answer::{CheckAnswer, Written, write};
@@ -133,7 +133,7 @@ fn stored_node_of(alloc: Global, own: &[u8], kept: &[u8], offer: &[u8]) -> Resul
 {
     let RootSpec { owner, group, dacl } = node_of(alloc, own)?;
     let (inherited, offered) = lists_of(alloc, kept, offer)?;
-    let dacl = stored_dacl(dacl, inherited, offered);
+    let dacl = dacl.stored(inherited, offered);
     Ok(RootSpec { owner, group, dacl })
 }
 
@@ -162,23 +162,6 @@ fn list_of(alloc: Global, argument: EditArgument, bytes: &[u8]) -> Result<AceLis
     match (owner, group, protected, dacl) {
         (None, None, false, Dacl::List(list)) => Ok(list),
         _ => Err(NotDone::Parts(argument)),
-    }
-}
-
-/// A list that isn't protected, with what was inherited and what was offered where it was stored.
-fn stored_dacl(dacl: NodeDacl, inherited: AceList, offer: AceList) -> NodeDacl
-    ensures { result ≡ stored_dacl dacl inherited offer }
-{
-    match dacl {
-        NodeDacl::List {
-            protected: false,
-            entries,
-        } => NodeDacl::Stored {
-            entries,
-            inherited,
-            offer,
-        },
-        other => other,
     }
 }
 

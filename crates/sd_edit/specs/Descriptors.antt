@@ -45,6 +45,11 @@ own_dacl protected Absent = own.List false []
 own_dacl protected Null = own.Null
 own_dacl protected (Entries entries) = own.List protected entries
 
+-- a list that isn't protected, with what was inherited and what was offered where it was stored
+abbrev pub stored_dacl : NodeDacl → List Ace → List Ace → NodeDacl
+stored_dacl (own.List false entries) inherited offer = own.Stored entries inherited offer
+stored_dacl dacl inherited offer = dacl
+
 -- what was given to a node: its descriptor without what it inherits
 abbrev pub own_descriptor_of_row : NodeRow → DescriptorValue
 own_descriptor_of_row row = record {

@@ -1,7 +1,7 @@
 //! What is given to a node.
 
 ghost use Rattle.std.specs.Prelude.{◌≡◌, IfOk};
-ghost use Rattle.sd_edit.specs.Descriptors.{own_dacl};
+ghost use Rattle.sd_edit.specs.Descriptors.{own_dacl, stored_dacl};
 
 use crate::entries::Entries;
 use sd_acl::{AceList, Dacl, Descriptor};
@@ -44,6 +44,24 @@ impl NodeDacl {
                 protected: descriptor.protected,
                 entries: Entries::new(Vec::from_slice(alloc, list.entries())?),
             }),
+        }
+    }
+
+    /// The DACL with what the node had inherited elsewhere, and what was offered there, if it is a list that isn't
+    /// protected; any other is as it was ([MS-DTYP] 2.5.3.4).
+    pub fn stored(self, inherited: AceList, offer: AceList) -> NodeDacl
+        ensures { result ≡ stored_dacl self inherited offer }
+    {
+        match self {
+            NodeDacl::List {
+                protected: false,
+                entries,
+            } => NodeDacl::Stored {
+                entries,
+                inherited,
+                offer,
+            },
+            other => other,
         }
     }
 

@@ -17,7 +17,7 @@ use Rattle.sd_edit.specs.Descriptors.{own_dacl}
 use Rattle.sd_edit.specs.Inheritance.{inherited_entry}
 use Rattle.sd_path.specs.Names.{Names}
 use Rattle.sd_edit.specs.declared.node.NodeDacl.{NodeDacl}
-use Rattle.sd_edit.specs.declared.node.NodeDacl.TheVariants.{List as Entries, Stored}
+use Rattle.sd_edit.specs.declared.node.NodeDacl.TheVariants.{List as Entries}
 use Rattle.sd_edit.specs.declared.opening.RootSpec.{RootSpec}
 use Rattle.sd_script.specs.Fault.{Reading, SomeOr, Then}
 use Rattle.sd_script.specs.Paths.{IsPath}
@@ -126,11 +126,6 @@ list_of d = beside (is_nothing d.1) (only_list d.0.owner d.0.group d.0.protected
 
 abbrev pub list : Notation → List ℕ → Reading (List Ace × Bool)
 list notation word = Then (descriptor notation word) (λ d read. read ≡ list_of d)
-
--- a list that isn't protected, with what was inherited and what was offered where it was stored
-abbrev pub stored_dacl : NodeDacl → List Ace → List Ace → NodeDacl
-stored_dacl (Entries false own) inherited offer = Stored own inherited offer
-stored_dacl dacl inherited offer = dacl
 
 -- what such a node had: its own entries, and those that it had inherited
 abbrev pub given_with : List Ace → List Ace → Bool → Given

@@ -7,6 +7,7 @@ use Rattle.sd_sid.specs.Sid.{SidValue}
 use Rattle.sd_check.specs.Token.{TokenValue}
 use Rattle.sd_check.specs.declared.token.GroupState.{GroupState}
 use Rattle.sd_edit.specs.Additions.{addition_of, row_of}
+use Rattle.sd_edit.specs.Descriptors.{stored_dacl}
 use Rattle.sd_edit.specs.Refusals.{own_entries}
 use Rattle.sd_acl.specs.declared.ace.Ace.{Ace}
 use Rattle.sd_path.specs.Names.{Names}
@@ -19,7 +20,7 @@ use Rattle.sd_edit.specs.declared.opening.RootSpec.{RootSpec}
 use Rattle.sd_edit.specs.declared.request.Request.{Request}
 use Rattle.sd_edit.specs.declared.request.Request.TheVariants as requests
 use Rattle.sd_script.specs.Argument.{number, path, sid, mask, token, base, node, dacl, imported}
-use Rattle.sd_script.specs.Argument.{given_with, list, stored_dacl}
+use Rattle.sd_script.specs.Argument.{given_with, list}
 use Rattle.sd_script.specs.Fault.{Reading, Just, Then, UnlessMemory}
 use Rattle.sd_script.specs.Lines.{words_of}
 use Rattle.sd_answer.specs.Word.{texts}

@@ -1,6 +1,6 @@
 //! What gives a node the descriptor of a text, of which something may be left out ([MS-DTYP] 2.5.1).
 ghost use Rattle.std.specs.Prelude.{◌≡◌, ◌&&◌, IfOk, Some};
-ghost use Rattle.sd_script.specs.Argument.{given_with, stored_dacl};
+ghost use Rattle.sd_script.specs.Argument.{given_with};
 ghost use Rattle.sd_script.specs.Command.{Parses, adds, begins_list, keeps, keeps_lists, opens_with, sets_dacl};
 ghost use Rattle.sd_script.specs.Command.{stored};
 ghost use Rattle.sd_edit.specs.Refusals.{own_entries};
@@ -65,7 +65,7 @@ impl Parser {
         let (offer, offers_all) = self.list(offer)?;
         let is_all = are_all(is_all, has_all, offers_all);
         let given = given_with(self.alloc, own_entries(&dacl), inherited.entries(), is_all)?;
-        let dacl = stored_dacl(dacl, inherited, offer);
+        let dacl = dacl.stored(inherited, offer);
         let added = path.copy(self.alloc)?;
         Ok(Some(LineRequest::Importing {
             edit: Edit::addition(kind, added, RootSpec { owner, group, dacl }),
@@ -93,23 +93,6 @@ impl Parser {
         } else {
             Ok(LineRequest::Trimming { edit })
         }
-    }
-}
-
-/// A list that isn't protected, with what was inherited and what was offered where it was stored.
-fn stored_dacl(dacl: NodeDacl, inherited: AceList, offer: AceList) -> NodeDacl
-    ensures { result ≡ stored_dacl dacl inherited offer }
-{
-    match dacl {
-        NodeDacl::List {
-            protected: false,
-            entries,
-        } => NodeDacl::Stored {
-            entries,
-            inherited,
-            offer,
-        },
-        other => other,
     }
 }
 
