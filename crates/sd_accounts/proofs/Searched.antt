@@ -192,10 +192,6 @@ groups_opened rows member groups walked old new i over is opens =
     opens_like (λ sid at. direct_in rows member sid (subst (λ l. Contains l sid) is (subst (λ l. Contains l sid) (take_all i groups over) at)))
     (λ sid in'. subst (λ l. Contains l sid) (sym (take_all i groups over)) (subst (λ l. Contains l sid) (sym is) (in_direct rows member sid in'))) opens
 
-pub no_groups_opened : (rows : List AccountRow) (member : SidValue) (walked old : List SidValue) → direct_groups rows member ≡ [] → Opens (IsIn rows member) walked old old
-no_groups_opened rows member walked old none =
-    opens_none (IsIn rows member) walked old (λ sid in'. nothing_in sid (subst (λ l. Contains l sid) none (in_direct rows member sid in')))
-
 -- the starts so far, and one more
 pub start_opened : (rows : List AccountRow) (starts walked old mid new : List SidValue) (i : ℕ) (one : SidValue) → i < length starts → one ≡ get_or starts i one
     → Opens (IsStart rows (take i starts)) walked old mid → Opens (IsIn rows one) walked mid new → Opens (IsStart rows (take (i + 1) starts)) walked old new

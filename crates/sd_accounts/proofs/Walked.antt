@@ -1,35 +1,37 @@
 -- The walk over the groups: each SID that is found is visited once, and its groups are added.
-use Rattle.std.proofs.Common.{◌≡◌, ◌++◌, ◌∙◌, ◌+◌, ◌-◌, ◌<◌, ◌≤◌, ◌⊎◌, ℕ, inl, inr, List, [], ◌∷◌, Bool, true, false, length, drop, take, get_or, refl, ap, sym, subst, arith}
-use Rattle.std.proofs.lemmas.Bool.{cases_lt}
+use Rattle.std.proofs.Common.{◌≡◌, ◌++◌, ◌∙◌, ◌+◌, ◌-◌, ◌<◌, ◌≤◌, ◌⊎◌, ℕ, inl, inr, List, [], ◌∷◌, Bool, true, false, length, map, nat_eq, drop, take, get_or, refl, ap, sym, subst, arith}
+use Rattle.std.proofs.lemmas.Bool.{cases_lt, cases_order, eq-eqb, true≢false}
 use Rattle.std.proofs.Math.Seq.{take-append-add}
-use Rattle.std.proofs.lemmas.List.{append-nil, append_assoc, length-append, get_or_append_left, take-append-drop, take-append-le, take_all, take_more}
-use Rattle.std.proofs.lemmas.List.Elements.{Contains-append_left, Contains-get_or, Contains-push, Contains-push_cases}
-use Rattle.std.proofs.lemmas.Option.{get_or_from_slice_get, slice_get_cases, slice_get_read, slice_get_within}
+use Rattle.std.proofs.lemmas.List.{append-nil, append_assoc, get_or-map, length-append, length-map, map-append, get_or_append_left, take-append-drop, take-append-le, take_all, take_more}
+use Rattle.std.proofs.lemmas.List.Elements.{Contains-append_left, Contains-append_right, Contains-get_or, Contains-push, Contains-push_cases, filter_map-append}
+use Rattle.std.proofs.lemmas.Option.{get_or_from_slice_get, slice_get-get_or, slice_get_cases, slice_get_read, slice_get_within}
 use Rattle.std.proofs.lemmas.Map.Keys.{IsDistinct-from_apart, apart_from_distinct}
 use Rattle.std.proofs.lemmas.Map.Views.{Contains-from_any}
-use Rattle.std.specs.List.{Contains, IsDistinct, list_any}
+use Rattle.std.specs.List.{Contains, IsDistinct, cons_option, filter_map, list_any}
 use Rattle.std.specs.Global.{Vec}
 use Rattle.std.specs.declared.alloc.AllocError.{AllocError}
 use Rattle.std.specs.Prelude.{Err, IfOk, None, Ok, Result, Some, if◌then◌else◌, slice_get}
 use Rattle.indexmap.specs.IndexSet.{insert_key}
 use Rattle.sd_sid.specs.Sid.{SidValue, same_sid}
 use Rattle.sd_accounts.specs.Groups.{AreGroupsOf, Belongs, IsIn, directly, further}
-use Rattle.sd_accounts.specs.Index.{direct_groups}
+use Rattle.sd_accounts.specs.Index.{AreApart, AreWithin, direct_groups, nobody, sid_at, sids_at}
 use Rattle.sd_accounts.specs.Row.{AccountRow}
 use Rattle.sd_accounts.specs.Walk.{Adds, AreReached, Extends, HasStarts, IsReached, IsStart, IsWalked}
 use Rattle.sd_accounts.proofs.Direct.{direct_in, in_direct, nothing_in}
-use Rattle.sd_accounts.proofs.Sids.{sid_eq, sid_eq-true, sid_eq-same}
+use Rattle.sd_accounts.proofs.Indexed.{from_map, in_map}
+use Rattle.sd_accounts.proofs.Sids.{sid_eq, sid_eq-same}
+use Rattle.sd_sid.proofs.Compared.{same_sid-itself, same_sid-true}
 
 -- ---- what is added
 
-pub still_in : {P : SidValue → Type 0} {old new : List SidValue} → Extends P old new → (sid : SidValue) → Contains old sid → Contains new sid
+pub still_in : {A : Type 0} {P : A → Type 0} {old new : List A} → Extends P old new → (sid : A) → Contains old sid → Contains new sid
 still_in {old = old} more sid at = subst (λ l. Contains l sid) (sym more.front) (Contains-append_left old more.further sid at)
 
-pub unchanged : (P : SidValue → Type 0) (old : List SidValue) → ((sid : SidValue) → P sid → ⊥) → Extends P old old
+pub unchanged : {A : Type 0} (P : A → Type 0) (old : List A) → ((sid : A) → P sid → ⊥) → Extends P old old
 unchanged P old none = record { further = []; front = sym (append-nil old); sound = λ sid at. inl at; all = λ sid p. absurd (none sid p) }
 
-pub joined : {P Q : SidValue → Type 0} {one two three : List SidValue} → Extends P one two → Extends Q two three → Extends (λ sid. P sid ⊎ Q sid) one three
-joined {P} {Q} {one} {two} {three} first second = record {
+pub joined : {A : Type 0} {P Q : A → Type 0} {one two three : List A} → Extends P one two → Extends Q two three → Extends (λ sid. P sid ⊎ Q sid) one three
+joined {A} {P} {Q} {one} {two} {three} first second = record {
   further = first.further ++ second.further;
   front = second.front ∙ ap (λ l. l ++ second.further) first.front ∙ append_assoc one first.further second.further;
   sound = λ sid at. elim (second.sound sid at) [
@@ -39,7 +41,7 @@ joined {P} {Q} {one} {two} {three} first second = record {
   all = λ sid either. elim either [ inl p ↦ still_in second sid (first.all sid p) | inr q ↦ second.all sid q ];
 }
 
-pub alike : {P Q : SidValue → Type 0} {old new : List SidValue} → ((sid : SidValue) → P sid → Q sid) → ((sid : SidValue) → Q sid → P sid) → Extends P old new → Extends Q old new
+pub alike : {A : Type 0} {P Q : A → Type 0} {old new : List A} → ((sid : A) → P sid → Q sid) → ((sid : A) → Q sid → P sid) → Extends P old new → Extends Q old new
 alike to from more = record {
   further = more.further;
   front = more.front;
@@ -47,25 +49,26 @@ alike to from more = record {
   all = λ sid q. more.all sid (from sid q);
 }
 
--- one SID is inserted
-pub inserted : (old new : List SidValue) (one : SidValue) → new ≡ insert_key sid_eq old one → Extends (λ sid. one ≡ sid) old new
-inserted old new one is = by (list_any (sid_eq one) old) refl
-  where
-    by : (b : Bool) → list_any (sid_eq one) old ≡ b → Extends (λ sid. one ≡ sid) old new
-    by true e =
-        let same : new ≡ old = is ∙ ap (λ t. if t then old else old ++ one ∷ []) e in record {
-          further = [];
-          front = same ∙ sym (append-nil old);
-          sound = λ sid at. inl (subst (λ l. Contains l sid) same at);
-          all = λ sid is_one. subst (λ l. Contains l sid) (sym same) (subst (Contains old) is_one (Contains-from_any sid_eq-true one old e));
-        }
-    by false e =
-        let more : new ≡ old ++ one ∷ [] = is ∙ ap (λ t. if t then old else old ++ one ∷ []) e in record {
-          further = one ∷ [];
-          front = more;
-          sound = λ sid at. Contains-push_cases old one sid (subst (λ l. Contains l sid) more at);
-          all = λ sid is_one. subst (λ l. Contains l sid) (sym more) (subst (Contains (old ++ one ∷ [])) is_one (Contains-push old one));
-        }
+-- one is inserted
+module _ {A : Type 0} (eq : A → A → Bool) (eq-true : (a b : A) → eq a b ≡ true → a ≡ b) where
+  inserted : (old new : List A) (one : A) → new ≡ insert_key eq old one → Extends (λ other. one ≡ other) old new
+  inserted old new one is = by (list_any (eq one) old) refl
+    where
+      by : (b : Bool) → list_any (eq one) old ≡ b → Extends (λ other. one ≡ other) old new
+      by true e =
+          let same : new ≡ old = is ∙ ap (λ t. if t then old else old ++ one ∷ []) e in record {
+            further = [];
+            front = same ∙ sym (append-nil old);
+            sound = λ other at. inl (subst (λ l. Contains l other) same at);
+            all = λ other is_one. subst (λ l. Contains l other) (sym same) (subst (Contains old) is_one (Contains-from_any eq-true one old e));
+          }
+      by false e =
+          let more : new ≡ old ++ one ∷ [] = is ∙ ap (λ t. if t then old else old ++ one ∷ []) e in record {
+            further = one ∷ [];
+            front = more;
+            sound = λ other at. Contains-push_cases old one other (subst (λ l. Contains l other) more at);
+            all = λ other is_one. subst (λ l. Contains l other) (sym more) (subst (Contains (old ++ one ∷ [])) is_one (Contains-push old one));
+          }
 
 -- ---- one more of a list
 
@@ -76,12 +79,13 @@ more_to xs i d x low (inr is) = subst (λ l. Contains l x) (sym (take_more xs i 
 pub more_from : {A : Type 0} (xs : List A) (i : ℕ) (d x : A) → i < length xs → Contains (take (i + 1) xs) x → Contains (take i xs) x ⊎ (get_or xs i d ≡ x)
 more_from xs i d x low at = Contains-push_cases (take i xs) (get_or xs i d) x (subst (λ l. Contains l x) (take_more xs i d low) at)
 
--- the groups so far, and one more
-pub group_more : (groups old mid new : List SidValue) (i : ℕ) (one : SidValue) → i < length groups → one ≡ get_or groups i one
-    → Extends (Contains (take i groups)) old mid → new ≡ insert_key sid_eq mid one → Extends (Contains (take (i + 1) groups)) old new
-group_more groups old mid new i one low is before insert =
-    let at = subst (λ g. new ≡ insert_key sid_eq mid g) is insert in
-    alike (λ sid. more_to groups i one sid low) (λ sid. more_from groups i one sid low) (joined before (inserted mid new (get_or groups i one) at))
+-- those so far, and one more
+module _ {A : Type 0} (eq : A → A → Bool) (eq-true : (a b : A) → eq a b ≡ true → a ≡ b) where
+  pub one_more : (groups old mid new : List A) (i : ℕ) (d one : A) → i < length groups → one ≡ get_or groups i d
+      → Extends (Contains (take i groups)) old mid → new ≡ insert_key eq mid one → Extends (Contains (take (i + 1) groups)) old new
+  one_more groups old mid new i d one low is before insert =
+      let at = subst (λ g. new ≡ insert_key eq mid g) is insert in
+      alike (λ other. more_to groups i d other low) (λ other. more_from groups i d other low) (joined before (inserted eq eq-true mid new (get_or groups i d) at))
 
 -- the starts so far, and one more
 pub start_more : (rows : List AccountRow) (starts old mid new : List SidValue) (i : ℕ) (one : SidValue) → i < length starts → one ≡ get_or starts i one
@@ -193,20 +197,95 @@ module _ (rows : List AccountRow) (starts : List SidValue) where
 pub starts_done : (rows : List AccountRow) (starts keys : List SidValue) (i : ℕ) → length starts ≤ i → HasStarts rows (take i starts) keys → HasStarts rows starts keys
 starts_done rows starts keys i over has = subst (λ l. HasStarts rows l keys) (take_all i starts over) has
 
--- all groups of the member
-pub groups_done : (rows : List AccountRow) (member : SidValue) (groups old new : List SidValue) (i : ℕ) → length groups ≤ i → groups ≡ direct_groups rows member
-    → Extends (Contains (take i groups)) old new → Adds rows member old new
-groups_done rows member groups old new i over is added =
-    alike (λ sid at. direct_in rows member sid (subst (λ l. Contains l sid) is (subst (λ l. Contains l sid) (take_all i groups over) at)))
-    (λ sid in'. subst (λ l. Contains l sid) (sym (take_all i groups over)) (subst (λ l. Contains l sid) (sym is) (in_direct rows member sid in'))) added
+-- all of them
+pub all_more : {A : Type 0} (groups old new : List A) (i : ℕ) → length groups ≤ i → Extends (Contains (take i groups)) old new → Extends (Contains groups) old new
+all_more groups old new i over added =
+    alike (λ one at. subst (λ l. Contains l one) (take_all i groups over) at) (λ one at. subst (λ l. Contains l one) (sym (take_all i groups over)) at) added
 
--- a member without groups
-pub no_groups : (rows : List AccountRow) (member : SidValue) (old : List SidValue) → direct_groups rows member ≡ [] → Adds rows member old old
-no_groups rows member old none = unchanged (IsIn rows member) old (λ sid in'. nothing_in sid (subst (λ l. Contains l sid) none (in_direct rows member sid in')))
+-- numbers are added: the groups of a member
+pub adds_groups : (rows : List AccountRow) (keys : List SidValue) (member : SidValue) (numbers old new : List ℕ) → sids_at keys numbers ≡ direct_groups rows member
+    → Extends (Contains numbers) old new → Adds rows member (sids_at keys old) (sids_at keys new)
+adds_groups rows keys member numbers old new are added = record {
+  further = sids_at keys added.further;
+  front = ap (sids_at keys) added.front ∙ map-append (sid_at keys) old added.further;
+  sound = λ sid at. by sid (from_map (sid_at keys) new sid at);
+  all = λ sid in'.
+      let n = from_map (sid_at keys) numbers sid (subst (λ l. Contains l sid) (sym are) (in_direct rows member sid in')) in
+      subst (Contains (sids_at keys new)) n.2 (in_map (sid_at keys) new n.0 (added.all n.0 n.1));
+}
+  where
+    by : (sid : SidValue) → ((n : ℕ) × Contains new n × (sid_at keys n ≡ sid)) → Contains (sids_at keys old) sid ⊎ IsIn rows member sid
+    by sid (n, at, is) = elim (added.sound n at) [
+      | inl before ↦ inl (subst (Contains (sids_at keys old)) is (in_map (sid_at keys) old n before))
+      | inr here ↦ inr (direct_in rows member sid (subst (λ l. Contains l sid) are (subst (Contains (sids_at keys numbers)) is (in_map (sid_at keys) numbers n here))))
+    ]
+
+pub still_within : (keys : List SidValue) (numbers old new : List ℕ) → AreWithin keys old → AreWithin keys numbers → Extends (Contains numbers) old new → AreWithin keys new
+still_within keys numbers old new before more added n at = elim (added.sound n at) [ inl was ↦ before n was | inr is ↦ more n is ]
 
 -- what is at a place of those found
-pub found_at : (keys : List SidValue) (i : ℕ) (one : SidValue) → slice_get keys i ≡ Some one → (i < length keys) × (one ≡ get_or keys i one)
+pub found_at : (keys : List ℕ) (i : ℕ) (one : ℕ) → slice_get keys i ≡ Some one → (i < length keys) × (one ≡ get_or keys i one)
 found_at keys i one at = (slice_get_within keys i one at, sym (get_or_from_slice_get keys i one one at))
+
+-- what is found is within
+pub number_within : (keys : List SidValue) (found : List ℕ) (i n : ℕ) → slice_get found i ≡ Some n → AreWithin keys found → n < length keys
+number_within keys found i n at within = within n (i, slice_get_within found i n at, get_or_from_slice_get found i n n at)
+
+-- the SID at the same place
+pub sid_found : (keys : List SidValue) (found : List ℕ) (i n : ℕ) (sid : SidValue) → slice_get found i ≡ Some n → slice_get keys n ≡ Some sid
+    → (i < length (sids_at keys found)) × (sid ≡ get_or (sids_at keys found) i sid)
+sid_found keys found i n sid at is =
+    let low = slice_get_within found i n at in (
+      omega (arith, length-map found (sid_at keys), low),
+      sym (get_or_from_slice_get keys n sid nobody is) ∙ ap (sid_at keys) (sym (get_or_from_slice_get found i n n at)) ∙ sym (get_or-map (sid_at keys) found i n sid low),
+    )
+
+-- no groups and no starts
+pub none_started : (rows : List AccountRow) (starts keys : List SidValue) (found : List ℕ) → found ≡ [] → HasStarts rows (take 0 starts) (sids_at keys found) × AreWithin keys found
+none_started rows starts keys found none = subst (λ ns. HasStarts rows [] (sids_at keys ns) × AreWithin keys ns) (sym none)
+    (unchanged (IsStart rows []) [] (λ sid start. nothing_in start.0 start.1), λ n at. absurd (nothing_in n at))
+
+-- the SIDs of numbers that are keys'
+pub sids_found : (keys : List SidValue) (found : List ℕ) → AreWithin keys found → filter_map (slice_get keys) found ≡ sids_at keys found
+sids_found keys [] within = refl
+sids_found keys (n ∷ ns) within =
+    ap (λ o. cons_option o (filter_map (slice_get keys) ns)) (slice_get-get_or keys n nobody (within n (Contains-append_left (n ∷ []) ns n (Contains-push [] n))))
+    ∙ ap (λ l. sid_at keys n ∷ l) (sids_found keys ns (λ m at. within m (Contains-append_right (n ∷ []) ns m at)))
+
+turned : (a b : SidValue) → same_sid a b ≡ false → same_sid b a ≡ false
+turned a b two = by (same_sid b a) refl
+  where
+    by : (t : Bool) → same_sid b a ≡ t → same_sid b a ≡ false
+    by true e = absurd (true≢false (sym (ap (same_sid a) (same_sid-true b a e) ∙ same_sid-itself a) ∙ two))
+    by false e = e
+
+-- the SIDs so far, and one more
+pub one_sid : (keys : List SidValue) (found : List ℕ) (i n : ℕ) → slice_get found i ≡ Some n
+    → filter_map (slice_get keys) (take (i + 1) found) ≡ filter_map (slice_get keys) (take i found) ++ cons_option (slice_get keys n) []
+one_sid keys found i n at =
+    ap (filter_map (slice_get keys)) (take_more found i n (slice_get_within found i n at))
+    ∙ ap (λ m. filter_map (slice_get keys) (take i found ++ m ∷ [])) (get_or_from_slice_get found i n n at)
+    ∙ filter_map-append (slice_get keys) (take i found) (n ∷ [])
+
+-- numbers of one key each are those of SIDs that are two
+pub two_sids : (keys : List SidValue) (found : List ℕ) → AreApart keys → AreWithin keys found → IsDistinct nat_eq found → IsDistinct same_sid (sids_at keys found)
+two_sids keys found keys_apart within once = IsDistinct-from_apart same_sid (sids_at keys found) at
+  where
+    differ : (m n : ℕ) → m < length keys → n < length keys → nat_eq m n ≡ false → same_sid (sid_at keys m) (sid_at keys n) ≡ false
+    differ m n low high two = elim (cases_order m n) [
+      | inl same ↦ absurd (true≢false (sym (eq-eqb m n same) ∙ two))
+      | inr (inl less) ↦ keys_apart m n nobody less high
+      | inr (inr more) ↦ turned (sid_at keys n) (sid_at keys m) (keys_apart n m nobody more low)
+    ]
+
+    at : (i j : ℕ) (d : SidValue) → i < j → j < length (sids_at keys found) → same_sid (get_or (sids_at keys found) i d) (get_or (sids_at keys found) j d) ≡ false
+    at i j d less low =
+        let high : j < length found = omega (arith, length-map found (sid_at keys), low) in
+        let front : i < length found = omega (arith, less, high) in
+        ap (λ s. same_sid s (get_or (sids_at keys found) j d)) (get_or-map (sid_at keys) found i 0 d front)
+        ∙ ap (same_sid (sid_at keys (get_or found i 0))) (get_or-map (sid_at keys) found j 0 d high)
+        ∙ differ (get_or found i 0) (get_or found j 0) (within _ (Contains-get_or found i 0 front)) (within _ (Contains-get_or found j 0 high))
+        (apart_from_distinct nat_eq found i j 0 once less high)
 
 -- a copy of those found
 pub copies : (P : List SidValue → Type 0) (keys : List SidValue) (copy : Result (Vec SidValue) AllocError) → IfOk copy (λ c. c.items ≡ keys)
@@ -214,9 +293,5 @@ pub copies : (P : List SidValue → Type 0) (keys : List SidValue) (copy : Resul
 copies P keys (Ok copy) same are = subst P (sym same) are
 copies P keys (Err e) same are = tt
 
-pub none_at : (keys : List SidValue) (i : ℕ) → slice_get keys i ≡ None → length keys ≤ i
+pub none_at : (keys : List ℕ) (i : ℕ) → slice_get keys i ≡ None → length keys ≤ i
 none_at keys i none = elim (slice_get_cases keys i).1 [ inl some ↦ (let is = some.2 in cc) | inr past ↦ past.0 ]
-
--- SIDs that `==` finds apart are two
-pub apart : (keys : List SidValue) → IsDistinct sid_eq keys → IsDistinct same_sid keys
-apart keys once = IsDistinct-from_apart same_sid keys (λ i j d less low. sym (sid_eq-same (get_or keys i d) (get_or keys j d)) ∙ apart_from_distinct sid_eq keys i j d once less low)

@@ -1,39 +1,47 @@
 -- The way to a group, walked back.
-use Rattle.std.proofs.Common.{◌≡◌, ◌++◌, ◌∙◌, ◌<◌, ℕ, inl, inr, List, [], ◌∷◌, Bool, false, cond, Option, Some, None, Decides, get_or, length, reverse, take, ap, sym, subst, arith}
+use Rattle.std.proofs.Common.{◌≡◌, ◌++◌, ◌∙◌, ◌<◌, ℕ, inl, inr, List, [], ◌∷◌, Bool, true, false, cond, ◌||◌, refl, Option, Some, None, Decides, get_or, length, reverse, take, ap, sym, subst, arith}
 use Rattle.std.proofs.lemmas.Bool.{cases_lt, false≢true, lt-ltb}
 use Rattle.std.proofs.lemmas.List.{append_assoc, get_or-take, reverse-append}
-use Rattle.std.proofs.lemmas.List.Elements.{Contains-get_or, Decides-contains, at_read, contains_decides}
+use Rattle.std.proofs.lemmas.List.Elements.{Contains-append_left, Contains-append_right, Contains-get_or, Contains-push, at_read}
+use Rattle.std.proofs.lemmas.Option.{slice_get-get_or}
 use Rattle.std.proofs.lemmas.List.Sums.{fails_before_first}
 use Rattle.std.proofs.lemmas.List.Quantifiers.{position-Some}
-use Rattle.std.specs.List.{Contains, HoldsAt, IsAnyAnswer, position, position_or_len}
+use Rattle.std.specs.List.{Contains, HoldsAt, list_any, position, position_or_len}
+use Rattle.std.specs.Option.{option_to_list}
 use Rattle.std.specs.Prelude.{IfNone, IfSome}
 use Rattle.sd_sid.specs.Sid.{SidValue, same_sid}
 use Rattle.sd_sid.proofs.Compared.{same_sid-itself, same_sid-true}
 use Rattle.sd_accounts.specs.Groups.{IsIn}
-use Rattle.sd_accounts.specs.Index.{direct_groups}
+use Rattle.sd_accounts.specs.Index.{AreWithin, direct_groups, is_numbered, nobody, sid_at, sids_at}
 use Rattle.sd_accounts.specs.Row.{AccountRow}
 use Rattle.sd_accounts.specs.Walk.{AreReached, IsReached, IsStart}
 use Rattle.sd_accounts.specs.Way.{IsWay, by_way, straight}
-use Rattle.sd_accounts.proofs.Direct.{direct_in, in_direct, nothing_in}
-use Rattle.sd_accounts.proofs.Sids.{sid_eq, sid_eq-itself, sid_eq-true}
+use Rattle.sd_accounts.proofs.Direct.{direct_in, in_direct}
+use Rattle.sd_accounts.proofs.Searched.{found_in, in_found}
+use Rattle.sd_accounts.proofs.Sids.{sid_eq, sid_eq-same}
 
 -- ---- whether a member is directly in a group
 
-sid_decided : (a b : SidValue) → Decides (sid_eq a b) (a ≡ b)
-sid_decided a b = (sid_eq-true a b, λ same. ap (sid_eq a) (sym same) ∙ sid_eq-itself a)
+or_none : (b : Bool) → (b || false) ≡ b
+or_none true = refl
+or_none false = refl
 
--- the groups of a member, and whether the group is among them
-pub is_in_decided : (rows : List AccountRow) (member group : SidValue) (groups : List SidValue) (among : Bool) → groups ≡ direct_groups rows member
-    → IsAnyAnswer (λ one t. sid_eq one group ≡ t) groups among → Decides among (IsIn rows member group)
-is_in_decided rows member group groups among are answer =
-    let decided = Decides-contains groups group among (contains_decides sid_eq sid_decided groups group among answer) in (
-      λ yes. direct_in rows member group (subst (λ l. Contains l group) are (decided.0 yes)),
-      λ in'. decided.1 (subst (λ l. Contains l group) (sym are) (in_direct rows member group in')),
+-- a SID that has one of the numbers is among the SIDs of these
+any_numbered : (keys : List SidValue) (sid : SidValue) (numbers : List ℕ) → AreWithin keys numbers → list_any (is_numbered keys sid) numbers ≡ list_any (sid_eq sid) (sids_at keys numbers)
+any_numbered keys sid [] within = refl
+any_numbered keys sid (n ∷ ns) within =
+    ap (λ o. list_any (same_sid sid) (option_to_list o) || list_any (is_numbered keys sid) ns) (slice_get-get_or keys n nobody (within n (Contains-append_left (n ∷ []) ns n (Contains-push [] n))))
+    ∙ ap (λ b. b || list_any (is_numbered keys sid) ns) (or_none (same_sid sid (sid_at keys n)) ∙ sym (sid_eq-same sid (sid_at keys n)))
+    ∙ ap (λ b. sid_eq sid (sid_at keys n) || b) (any_numbered keys sid ns (λ m at. within m (Contains-append_right (n ∷ []) ns m at)))
+
+-- the numbers of a member's groups, and whether the group has one of them
+pub is_in_decided : (rows : List AccountRow) (keys : List SidValue) (member group : SidValue) (numbers : List ℕ) (among : Bool) → AreWithin keys numbers
+    → sids_at keys numbers ≡ direct_groups rows member → among ≡ list_any (is_numbered keys group) numbers → Decides among (IsIn rows member group)
+is_in_decided rows keys member group numbers among within are answer =
+    let is = answer ∙ any_numbered keys group numbers within in (
+      λ yes. direct_in rows member group (subst (λ l. Contains l group) are (found_in group (sids_at keys numbers) (sym is ∙ yes))),
+      λ in'. is ∙ in_found group (sids_at keys numbers) (subst (λ l. Contains l group) (sym are) (in_direct rows member group in')),
     )
-
-pub is_in_nothing : (rows : List AccountRow) (member group : SidValue) → direct_groups rows member ≡ [] → Decides false (IsIn rows member group)
-is_in_nothing rows member group none =
-    (λ yes. absurd (false≢true yes), λ in'. absurd (nothing_in group (subst (λ l. Contains l group) none (in_direct rows member group in'))))
 
 -- ---- the SID before one that was found
 

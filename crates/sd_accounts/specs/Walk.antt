@@ -5,13 +5,13 @@ use Rattle.sd_sid.specs.Sid.{SidValue}
 use Rattle.sd_accounts.specs.Groups.{Belongs, IsIn}
 use Rattle.sd_accounts.specs.Row.{AccountRow}
 
--- the SIDs that were found, and after them further ones: each was found before or passes the test, and each that passes
--- is among them
-pub record Extends (Passes : SidValue → Type 0) (old new : List SidValue) : Type 0 where
-  pub further : List SidValue
+-- what was found, and after it further ones: each was found before or passes the test, and each that passes is among
+-- them
+pub record Extends {A : Type 0} (Passes : A → Type 0) (old new : List A) : Type 0 where
+  pub further : List A
   pub front : new ≡ old ++ further
-  pub sound : (sid : SidValue) → Contains new sid → Contains old sid ⊎ Passes sid
-  pub all : (sid : SidValue) → Passes sid → Contains new sid
+  pub sound : (one : A) → Contains new one → Contains old one ⊎ Passes one
+  pub all : (one : A) → Passes one → Contains new one
 
 -- the groups in which the member directly is are added
 abbrev pub Adds : List AccountRow → SidValue → List SidValue → List SidValue → Type 0

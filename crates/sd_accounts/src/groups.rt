@@ -1,13 +1,15 @@
 //! The groups that an account really has.
 
-ghost use Rattle.std.specs.Prelude.{◌≡◌, ◌<◌, ◌^◌, OnOk, IfOk, length};
-ghost use Rattle.std.specs.List.{IsDistinct};
-ghost use Rattle.sd_sid.specs.Sid.{same_sid};
+ghost use Rattle.std.specs.Prelude.{◌≡◌, ◌<◌, ◌^◌, OnOk, IfOk, Contains, length, nat_eq, slice_get};
+ghost use Rattle.std.specs.List.{IsDistinct, filter_map};
+ghost use Rattle.indexmap.specs.IndexMap.{keys};
 ghost use Rattle.sd_accounts.specs.Accounts.{rows_of};
 ghost use Rattle.sd_accounts.specs.Groups.{AreGroupsOf};
-ghost use Rattle.sd_accounts.specs.Walk.{Adds, AreReached, HasStarts};
+ghost use Rattle.sd_accounts.specs.Index.{AreWithin, sids_at};
+ghost use Rattle.sd_accounts.specs.Walk.{AreReached, Extends, HasStarts};
 
 use crate::accounts::Accounts;
+use crate::index::{Index, groups_in, numbered};
 use indexmap::IndexSet;
 use sd_sid::Sid;
 use std::alloc::{AllocError, Global};
@@ -32,46 +34,60 @@ impl Accounts {
         ensures order { IfOk result (λ groups. AreReached (rows_of self.now) starts.now groups.items) }
     {
         let mut found = self.direct_groups(alloc, starts)?;
-        // (each SID that is found is visited once, in order; the last one ends the walk)
+        // (each group that is found is visited once, in order; the last one ends the walk)
         for place in 0..usize::MAX {
-            let Some(member) = found.get_index(place).copied() else {
+            let Some(number) = found.get_index(place).copied() else {
                 break;
             };
-            self.add_groups(&mut found, &member)?;
+            if let Some((_, groups)) = numbered(&self.index, number) {
+                add_all(&mut found, groups)?;
+            }
         }
-        all_of(alloc, &found)
+        sids_of(alloc, &self.index, &found)
     }
 
-    /// The groups in which one of these SIDs directly is.
-    fn direct_groups(&self, alloc: Global, starts: &[Sid]) -> Result<IndexSet<Sid>, AllocError>
-        ensures { IfOk result (λ found. HasStarts (rows_of self.now) starts.now found.keys) }
+    /// The groups in which one of these SIDs directly is, by their numbers.
+    fn direct_groups(&self, alloc: Global, starts: &[Sid]) -> Result<IndexSet<usize>, AllocError>
+        ensures starts { IfOk result (λ found.
+            HasStarts (rows_of self.now) starts.now (sids_at (keys self.now.index) found.keys)) }
+        ensures within { IfOk result (λ found. AreWithin (keys self.now.index) found.keys) }
     {
         let mut found = IndexSet::new(alloc);
         for start in starts {
-            self.add_groups(&mut found, start)?;
+            add_all(&mut found, groups_in(&self.index, start))?;
         }
         Ok(found)
     }
-
-    /// Adds the groups in which the member directly is.
-    fn add_groups(&self, found: &mut IndexSet<Sid>, member: &Sid) -> Result<(), AllocError>
-        ensures { OnOk result (Adds (rows_of self.now) member.now found.old.keys found.new.keys) }
-    {
-        let Some(groups) = self.index.get(member) else {
-            return Ok(());
-        };
-        for group in groups {
-            found.insert(*group)?;
-        }
-        Ok(())
-    }
 }
 
-/// The SIDs of a set, in its order.
-fn all_of(alloc: Global, found: &IndexSet<Sid>) -> Result<Vec<Sid>, AllocError>
-    ensures all { IfOk result (λ all. all.items ≡ found.now.keys) }
-    ensures few { length found.now.keys < 2 ^ 63 }
-    ensures once { IsDistinct same_sid found.now.keys }
+/// Adds numbers to a set.
+fn add_all(found: &mut IndexSet<usize>, numbers: &[usize]) -> Result<(), AllocError>
+    ensures { OnOk result (Extends (Contains numbers.now) found.old.keys found.new.keys) }
 {
-    found.iter().copied().collect(alloc)
+    for number in numbers {
+        found.insert(*number)?;
+    }
+    Ok(())
+}
+
+/// The SIDs of numbers, in their order.
+fn sids_of(
+    alloc: Global,
+    index: &Index,
+    found: &IndexSet<usize>,
+) -> Result<Vec<Sid>, AllocError>
+    ensures sids { IfOk result (λ sids. sids.items ≡ filter_map (slice_get (keys index.now)) found.now.keys) }
+    ensures few { length found.now.keys < 2 ^ 63 }
+    ensures once { IsDistinct nat_eq found.now.keys }
+{
+    let mut sids = Vec::with_capacity(alloc, found.len())?;
+    for place in 0..found.len() {
+        let Some(number) = found.get_index(place) else {
+            break;
+        };
+        if let Some((sid, _)) = numbered(index, *number) {
+            sids.push(*sid)?;
+        }
+    }
+    Ok(sids)
 }

@@ -9,6 +9,7 @@ ghost use Rattle.sd_accounts.specs.Search.{searched, wanted_by};
 ghost use Rattle.sd_accounts.specs.Wanted.{AreOpen, AreUnwanted, HasNone, HasWanted, IsOneWanted, Opens};
 
 use crate::accounts::Accounts;
+use crate::index::{groups_in, numbered};
 use crate::search::Search;
 use indexmap::IndexSet;
 use sd_sid::Sid;
@@ -94,12 +95,11 @@ impl<'a> Search<'a> {
         ensures { OnOk result (Opens (IsIn (searched self.now) member.now) self.now.walked.keys fresh.old.items
             fresh.new.items) }
     {
-        let Some(groups) = self.accounts.index.get(member) else {
-            return Ok(());
-        };
-        for group in groups {
-            if !self.walked.contains(group) {
-                fresh.push(*group)?;
+        for number in groups_in(&self.accounts.index, member) {
+            if let Some((group, _)) = numbered(&self.accounts.index, *number) {
+                if !self.walked.contains(group) {
+                    fresh.push(*group)?;
+                }
             }
         }
         Ok(())

@@ -2,14 +2,17 @@
 
 ghost use Rattle.std.specs.Prelude.{◌≡◌, ◌<◌, IfNone, IfOk, IfSome, length};
 ghost use Rattle.std.specs.Bool.{Decides};
-ghost use Rattle.std.specs.List.{HoldsAt, position};
+ghost use Rattle.std.specs.List.{HoldsAt, list_any, position};
+ghost use Rattle.indexmap.specs.IndexMap.{keys};
 ghost use Rattle.sd_sid.specs.Sid.{same_sid};
 ghost use Rattle.sd_accounts.specs.Accounts.{rows_of};
 ghost use Rattle.sd_accounts.specs.Groups.{Belongs, IsIn};
+ghost use Rattle.sd_accounts.specs.Index.{is_numbered};
 ghost use Rattle.sd_accounts.specs.Walk.{AreReached, IsStart};
 ghost use Rattle.sd_accounts.specs.Way.{IsWay};
 
 use crate::accounts::Accounts;
+use crate::index::{Index, groups_in, numbered};
 use sd_sid::Sid;
 use std::alloc::{AllocError, Global};
 
@@ -89,10 +92,26 @@ impl Accounts {
     fn is_directly_in(&self, member: &Sid, group: &Sid) -> bool
         ensures { Decides result (IsIn (rows_of self.now) member.now group.now) }
     {
-        match self.index.get(member) {
-            Some(groups) => groups.contains(group),
-            None => false,
-        }
+        one_is(&self.index, groups_in(&self.index, member), group)
+    }
+}
+
+/// Whether the SID has one of these numbers.
+fn one_is(index: &Index, numbers: &[usize], sid: &Sid) -> bool
+    ensures { result ≡ list_any (is_numbered (keys index.now) sid.now) numbers.now }
+{
+    numbers
+        .iter()
+        .any(|number| is_numbered(index, *number, sid))
+}
+
+/// Whether the SID has this number.
+fn is_numbered(index: &Index, number: usize, sid: &Sid) -> bool
+    ensures { result ≡ is_numbered (keys index.now) sid.now number }
+{
+    match numbered(index, number) {
+        Some((own, _)) => sid.is(own),
+        None => false,
     }
 }
 
