@@ -28,7 +28,7 @@ fn main(rt: HostRuntime) -> ExitCode {
 }
 
 // The status with which the program ends. An `Err` says that there are no words: an argument isn't
-// Unicode, or there is no memory for them.
+// Unicode, or there is no memory for them or for the accounts file.
 fn run<T, R, W, E>(rt: &T, input: R, output: W, errors: &mut E) -> io::Result<u8>
 where
     T: Env + Files + AllocGlobal + Threads + Wait + Sync,
@@ -61,8 +61,7 @@ where
             &mut Watched::new(errors),
         ));
     };
-    let Ok(text) = fs::read(rt, file) else {
-        let _ = errors.write_all(b"sdstore: --accounts: the file can't be read\n");
+    let Some(text) = read_accounts(rt, file, errors)? else {
         return Ok(3);
     };
     let (mut input, mut output) = (Watched::new(input), Watched::new(output));
@@ -76,4 +75,21 @@ where
         &mut output,
         &mut Watched::new(errors),
     ))
+}
+
+// The bytes of the accounts file; none, as the errors then say, where it can't be read. An `Err` says that there is no
+// memory for them.
+fn read_accounts<T: Files + AllocGlobal, E: Write>(
+    rt: &T,
+    file: &str,
+    errors: &mut E,
+) -> io::Result<Option<Vec<u8>>> {
+    match fs::read(rt, file) {
+        Ok(text) => Ok(Some(text)),
+        Err(error) if error.kind() == ErrorKind::OutOfMemory => Err(error),
+        Err(_) => {
+            let _ = errors.write_all(b"sdstore: --accounts: the file can't be read\n");
+            Ok(None)
+        }
+    }
 }
