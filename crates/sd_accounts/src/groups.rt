@@ -71,11 +71,7 @@ fn add_all(found: &mut IndexSet<usize>, numbers: &[usize]) -> Result<(), AllocEr
 }
 
 /// The SIDs of numbers, in their order.
-fn sids_of(
-    alloc: Global,
-    index: &Index,
-    found: &IndexSet<usize>,
-) -> Result<Vec<Sid>, AllocError>
+fn sids_of(alloc: Global, index: &Index, found: &IndexSet<usize>) -> Result<Vec<Sid>, AllocError>
     ensures sids { IfOk result (λ sids. sids.items ≡ filter_map (slice_get (keys index.now)) found.now.keys) }
     ensures few { length found.now.keys < 2 ^ 63 }
     ensures once { IsDistinct nat_eq found.now.keys }

@@ -50,9 +50,7 @@ fn add_group(alloc: Global, index: &mut Index, member: Sid, group: Sid) -> Resul
     ensures sound { OnOk result (IsSound index.new) }
 {
     let none = Vec::new(alloc);
-    let mut groups = index
-        .insert(member, none)?
-        .unwrap_or(Vec::new(alloc));
+    let mut groups = index.insert(member, none)?.unwrap_or(Vec::new(alloc));
     let number = number_of(alloc, index, group)?;
     groups.push(number)?;
     index.insert(member, groups)?;
