@@ -1,5 +1,5 @@
 -- The walk over the groups: each SID that is found is visited once, and its groups are added.
-use Rattle.std.proofs.Common.{◌≡◌, ◌++◌, ◌∙◌, ◌+◌, ◌-◌, ◌<◌, ◌≤◌, ◌⊎◌, ℕ, inl, inr, List, [], ◌∷◌, Bool, true, false, length, map, nat_eq, drop, take, get_or, refl, ap, sym, subst, arith}
+use Rattle.std.proofs.Common.{◌≡◌, ◌++◌, ◌∙◌, ◌+◌, ◌-◌, ◌<◌, ◌≤◌, ◌⊎◌, ℕ, inl, inr, List, [], ◌∷◌, Bool, true, false, length, nat_eq, drop, take, get_or, refl, ap, sym, subst, arith}
 use Rattle.std.proofs.lemmas.Bool.{cases_lt, cases_order, eq-eqb, true≢false}
 use Rattle.std.proofs.Math.Seq.{take-append-add}
 use Rattle.std.proofs.lemmas.List.{append-nil, append_assoc, get_or-map, length-append, length-map, map-append, get_or_append_left, take-append-drop, take-append-le, take_all, take_more}
@@ -19,7 +19,6 @@ use Rattle.sd_accounts.specs.Row.{AccountRow}
 use Rattle.sd_accounts.specs.Walk.{Adds, AreReached, Extends, HasStarts, IsReached, IsStart, IsWalked}
 use Rattle.sd_accounts.proofs.Direct.{direct_in, in_direct, nothing_in}
 use Rattle.sd_accounts.proofs.Indexed.{from_map, in_map}
-use Rattle.sd_accounts.proofs.Sids.{sid_eq, sid_eq-same}
 use Rattle.sd_sid.proofs.Compared.{same_sid-itself, same_sid-true}
 
 -- ---- what is added
