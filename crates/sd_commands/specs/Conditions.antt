@@ -5,16 +5,14 @@ use Rattle.std.specs.List.{list_any}
 use Rattle.hex.specs.Hex.{encode_lower}
 use Rattle.sd_sid.specs.Sid.{SidValue, same_sid}
 use Rattle.sd_check.specs.declared.token.GroupState.{GroupState}
-use Rattle.sd_line.specs.Line.{LineOf, PartOf, line_with, part_of}
+use Rattle.sd_line.specs.Line.{LineOf}
 use Rattle.sd_line.specs.Printed.{marked_text}
 use Rattle.sd_line.specs.declared.line.SidMark.{SidMark}
-use Rattle.sd_line.specs.declared.line.SidMark.TheVariants as states
-use Rattle.sd_line.specs.declared.line.Value.{Value}
-use Rattle.sd_line.specs.declared.line.Value.TheVariants as values
 use Rattle.sd_whole.specs.declared.ace.TypedAce.{TypedAce}
 use Rattle.sd_whole_text.specs.Data.{condition_in}
 use Rattle.sd_specialize.specs.Entry.{trustee}
 use Rattle.sd_specialize.specs.Marked.{is_deny, is_marker, marker}
+use Rattle.sd_commands.specs.SidTexts.{TextsOf, shown_line}
 use Rattle.sd_commands.specs.WholeVerdict.{everyone_context}
 use Rattle.sd_commands.specs.declared.settings.Settings.{Settings}
 
@@ -40,41 +38,13 @@ text_from settings n (e ∷ es) sid state =
 
 -- ---- in a line
 
-abbrev pub Texts : Type 0
-Texts = SidValue → SidMark → Option (List ℕ)
-
-abbrev pub sid_word : SidValue × SidMark → Option (List ℕ) → List ℕ
-sid_word one None = marked_text one
-sid_word one (Some text) = text
-
-abbrev pub shown_sid : Texts → SidValue × SidMark → List ℕ
-shown_sid texts one = sid_word one (texts one.0 one.1)
-
-abbrev pub sid_value : SidValue → Option (List ℕ) → Value
-sid_value sid None = values.Sid sid
-sid_value sid (Some text) = values.Text text
-
-abbrev pub has_marker : List (SidValue × SidMark) → Bool
-has_marker sids = list_any (λ (one : SidValue × SidMark). is_marker one.0) sids
-
-abbrev pub sids_value : Texts → List (SidValue × SidMark) → Value
-sids_value texts sids = if has_marker sids then values.Words (map (shown_sid texts) sids) else values.Sids sids
-
-abbrev pub shown_value : Texts → Value → Value
-shown_value texts (values.Sid sid) = sid_value sid (texts sid states.Plain)
-shown_value texts (values.Sids sids) = sids_value texts sids
-shown_value texts value = value
-
-abbrev pub shown_part : Texts → PartOf → PartOf
-shown_part texts p = part_of p.form (map (shown_value texts) p.values)
-
-abbrev pub shown_line : Texts → LineOf → LineOf
-shown_line texts l = line_with l.kind (map (shown_part texts) l.parts)
+abbrev pub texts_of : Settings → List TypedAce → TextsOf
+texts_of settings marks = record { has = is_marker; text = text_from settings 0 marks }
 
 -- without conditions lines stand as they are
 abbrev pub shown_by : Settings → List TypedAce → List LineOf → List LineOf
 shown_by settings [] lines = lines
-shown_by settings (m ∷ marks) lines = map (shown_line (text_from settings 0 (m ∷ marks))) lines
+shown_by settings (m ∷ marks) lines = map (shown_line (texts_of settings (m ∷ marks))) lines
 
 -- ---- a base
 

@@ -19,6 +19,7 @@ pub mod ObjectTypes
 pub mod Pointer
 pub mod Required
 pub mod Risks
+pub mod SidTexts
 pub mod Sort
 pub mod Value
 pub mod Whole

@@ -151,7 +151,8 @@ impl CommandContext<'_> {
     }
 }
 
-pub(crate) fn outcome_of(verdict: &Verdict) -> Outcome
+/// How an answer with this verdict ends.
+pub fn outcome_of(verdict: &Verdict) -> Outcome
     ensures { result ≡ verdict_outcome verdict.now }
 {
     match verdict {

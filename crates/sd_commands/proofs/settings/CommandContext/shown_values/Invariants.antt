@@ -1,8 +1,0 @@
--- What was shown so far.
-use Rattle.std.proofs.Common.{◌≡◌, map}
-use Rattle.sd_specialize.specs.Marked.{lent_marks}
-use Rattle.sd_commands.specs.Conditions.{shown_value, text_from}
-use Rattle.sd_commands.proofs.settings.CommandContext.shown_values.Given as goal
-
-abbrev pub invariant-loop-value : goal.invariant-loop-value
-invariant-loop-value l = l.shown.items ≡ map (shown_value (text_from l.self.settings.now 0 (lent_marks l.marks))) l.yielded
