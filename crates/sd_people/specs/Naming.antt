@@ -1,11 +1,11 @@
 -- Lines with names in the place of SIDs.
-use Rattle.std.specs.Prelude.{ℕ, Bool, true, false, List, [], ◌∷◌, ◌++◌, Option, Some, None, codes, if◌then◌else◌, map}
-use Rattle.std.specs.Prelude.{flat_map, option_map}
+use Rattle.std.specs.Prelude.{ℕ, Bool, true, false, List, [], ◌∷◌, ◌++◌, Option, codes, if◌then◌else◌, map}
+use Rattle.std.specs.Prelude.{flat_map, fold, is_some, option_map}
 use Rattle.std.specs.List.{filter_map}
 use Rattle.sd_sid.specs.Sid.{SidValue}
 use Rattle.sd_text.specs.Canon.{full_canon}
-use Rattle.sd_line.specs.Line.{LineOf, PartOf, line_with, part_of, with_tail}
-use Rattle.sd_line.specs.Printed.{mark_text, spaced}
+use Rattle.sd_line.specs.Line.{LineOf, PartOf, part_of, with_tail}
+use Rattle.sd_line.specs.Printed.{mark_text}
 use Rattle.sd_line.specs.declared.line.SidMark.{SidMark}
 use Rattle.sd_line.specs.declared.line.Value.{Value}
 use Rattle.sd_line.specs.declared.line.Value.TheVariants as values
@@ -14,6 +14,8 @@ use Rattle.sd_line.specs.declared.print.Output.TheVariants.{Coloured, Json, Text
 use Rattle.sd_line.specs.declared.print.Style.{Style}
 use Rattle.sd_line.specs.declared.spelling.Spelling.{Spelling}
 use Rattle.sd_line.specs.declared.spelling.Spelling.TheVariants.{Names, Number}
+use Rattle.sd_analysis.specs.Risks.{with_sid}
+use Rattle.sd_commands.specs.SidTexts.{TextsOf, shown_line}
 use Rattle.sd_people.specs.Lines.{Told}
 use Rattle.sd_people.specs.Names.{has_byte}
 use Rattle.sd_people.specs.declared.forms.TheConstants.{NAMES}
@@ -58,39 +60,34 @@ sids_named style lines told =
 abbrev pub name_word : List ℕ → List ℕ
 name_word name = if has_byte 32 name then codes "\"" ++ (name ++ codes "\"") else name
 
-abbrev pub shown_sid : SidValue → Option (List ℕ) → List ℕ
-shown_sid sid None = full_canon sid
-shown_sid sid (Some name) = name_word name
+-- it stands in the place of the SID, with what that is in a token
+abbrev pub name_text : SidMark → List ℕ → List ℕ
+name_text state name = name_word name ++ mark_text state
 
-abbrev pub shown_mark : NamesOf → SidValue × SidMark → List ℕ
-shown_mark names one = shown_sid one.0 (names one.0) ++ mark_text one.1
-
-abbrev pub sid_value : SidValue → Option (List ℕ) → Value
-sid_value sid None = values.Sid sid
-sid_value sid (Some name) = values.Text (name_word name)
-
-abbrev pub named_value : NamesOf → Value → Value
-named_value names (values.Sid sid) = sid_value sid (names sid)
-named_value names (values.Sids sids) = values.Text (spaced (map (shown_mark names) sids))
-named_value names value = value
-
-abbrev pub named_part : NamesOf → PartOf → PartOf
-named_part names p = part_of p.form (map (named_value names) p.values)
+abbrev pub texts_of : NamesOf → TextsOf
+texts_of names = record {
+  has = λ (sid : SidValue). is_some (names sid);
+  text = λ (sid : SidValue) (state : SidMark). option_map (name_text state) (names sid);
+}
 
 abbrev pub named_text : NamesOf → LineOf → LineOf
-named_text names l = line_with l.kind (map (named_part names) l.parts)
+named_text names l = shown_line (texts_of names) l
 
 -- ---- names in an object, beside the SIDs
 
 abbrev pub sid_and_name : NamesOf → SidValue → Option (List ℕ)
 sid_and_name names sid = option_map (λ (name : List ℕ). full_canon sid ++ (codes " " ++ name)) (names sid)
 
+-- each once, where it stands first
+abbrev pub once : List SidValue → List SidValue
+once sids = fold with_sid [] sids
+
 abbrev pub with_words : List (List ℕ) → LineOf → LineOf
 with_words [] l = l
 with_words (word ∷ words) l = with_tail (part_of NAMES.now (values.Words (word ∷ words) ∷ [])) l
 
 abbrev pub named_object : NamesOf → LineOf → LineOf
-named_object names l = with_words (filter_map (sid_and_name names) (sids_of_line l)) l
+named_object names l = with_words (filter_map (sid_and_name names) (once (sids_of_line l))) l
 
 -- ---- lines
 

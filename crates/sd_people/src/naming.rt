@@ -1,20 +1,41 @@
 //! Lines with names in the place of SIDs, or beside them.
 ghost use Rattle.std.specs.Prelude.{◌≡◌, IfOk, map, option_map, string_bytes};
 ghost use Rattle.std.specs.List.{filter_map};
-ghost use Rattle.sd_line.specs.Printed.{spaced};
 ghost use Rattle.sd_people.specs.Names.{names_in};
-ghost use Rattle.sd_people.specs.Naming.{has_names, named_line, named_object, named_part, named_text, named_told};
-ghost use Rattle.sd_people.specs.Naming.{name_word, named_value, shown_mark, shown_sid, sid_and_name, with_words};
+ghost use Rattle.sd_people.specs.Naming.{has_names, name_word, named_line, named_object, named_told, sid_and_name};
+ghost use Rattle.sd_people.specs.Naming.{texts_of, with_words};
 
 use crate::forms::NAMES;
 use crate::names::{Names, has_byte};
 use crate::people::Told;
-use crate::sids::push_sids_of_line;
-use sd_line::{Line, Output, Part, SidMark, Spelling, Style, Value};
-use sd_named::lent;
+use crate::sids::{once, push_sids_of_line};
+use sd_commands::{SidTexts, shown_line, words_value};
+use sd_line::{Line, Output, Part, SidMark, Spelling, Style};
 use sd_sid::Sid;
 use sd_text::print_full_sid;
 use std::alloc::{AllocError, Global};
+
+impl SidTexts for Names {
+    ghost texts = { λ it. texts_of (names_in it) };
+
+    fn has_text(&self, sid: &Sid) -> bool {
+        self.of(sid).is_some()
+    }
+
+    fn text_for(
+        &self,
+        alloc: Global,
+        sid: &Sid,
+        state: SidMark,
+    ) -> Result<Option<String>, AllocError> {
+        let Some(name) = self.of(sid) else {
+            return Ok(None);
+        };
+        let mut text = name_word(alloc, name)?;
+        text.push_str(state.text())?;
+        Ok(Some(text))
+    }
+}
 
 /// Whether names are asked for, as masks are by theirs.
 pub(crate) fn has_names(spelling: Spelling) -> bool
@@ -71,70 +92,8 @@ fn named_line(alloc: Global, style: Style, names: &Names, line: Line) -> Result<
     }
     match style.output {
         Output::Json => named_object(alloc, names, line),
-        Output::Text | Output::Coloured => named_text(alloc, names, line),
+        Output::Text | Output::Coloured => shown_line(alloc, names, line),
     }
-}
-
-/// The line with names in the place of SIDs.
-fn named_text(alloc: Global, names: &Names, line: Line) -> Result<Line, AllocError>
-    ensures { IfOk result (λ named. named ≡ named_text (names_in names.now) line) }
-{
-    let (kind, parts) = line.into_parts()?;
-    Ok(Line::of(kind, named_parts(alloc, names, parts)?))
-}
-
-fn named_parts(alloc: Global, names: &Names, parts: Vec<Part>) -> Result<Vec<Part>, AllocError>
-    ensures { IfOk result (λ named. named.items ≡ map (named_part (names_in names.now)) parts.items) }
-{
-    let mut named = Vec::with_capacity(alloc, parts.len())?;
-    for part in parts {
-        named.push(named_part(alloc, names, part)?)?;
-    }
-    Ok(named)
-}
-
-fn named_part(alloc: Global, names: &Names, part: Part) -> Result<Part, AllocError>
-    ensures { IfOk result (λ named. named ≡ named_part (names_in names.now) part) }
-{
-    let (form, values) = part.into_values();
-    Ok(Part::new(form, named_values(alloc, names, values)?))
-}
-
-fn named_values(alloc: Global, names: &Names, values: Vec<Value>) -> Result<Vec<Value>, AllocError>
-    ensures { IfOk result (λ named. named.items ≡ map (named_value (names_in names.now)) values.items) }
-{
-    let mut named = Vec::with_capacity(alloc, values.len())?;
-    for value in values {
-        named.push(named_value(alloc, names, value)?)?;
-    }
-    Ok(named)
-}
-
-fn named_value(alloc: Global, names: &Names, value: Value) -> Result<Value, AllocError>
-    ensures { IfOk result (λ named. named ≡ named_value (names_in names.now) value) }
-{
-    match value {
-        Value::Sid(sid) => match names.of(&sid) {
-            Some(name) => Ok(Value::text(name_word(alloc, name)?)),
-            None => Ok(Value::Sid(sid)),
-        },
-        Value::Sids(sids) => Ok(Value::text(marks_text(alloc, names, sids.as_slice())?)),
-        other => Ok(other),
-    }
-}
-
-/// SIDs with what they are in a token, each after a space.
-fn marks_text(alloc: Global, names: &Names, sids: &[(Sid, SidMark)]) -> Result<String, AllocError>
-    ensures { IfOk result
-        (λ text. string_bytes text ≡ spaced (map (shown_mark (names_in names.now)) sids.now)) }
-{
-    let mut text = String::new(alloc);
-    for one in sids {
-        text.push_str(" ")?;
-        text.push_str(shown_sid(alloc, names, &one.0)?.as_str())?;
-        text.push_str(one.1.text())?;
-    }
-    Ok(text)
 }
 
 /// The name, between quotation marks where it has a blank.
@@ -150,24 +109,13 @@ fn name_word(alloc: Global, name: &str) -> Result<String, AllocError>
     Ok(word)
 }
 
-/// The SID's name, or the SID in full.
-fn shown_sid(alloc: Global, names: &Names, sid: &Sid) -> Result<String, AllocError>
-    ensures { IfOk result
-        (λ text. string_bytes text ≡ shown_sid sid.now (names_in names.now sid.now)) }
-{
-    match names.of(sid) {
-        Some(name) => name_word(alloc, name),
-        None => print_full_sid(alloc, sid),
-    }
-}
-
 /// The line with the names of its SIDs behind it.
 fn named_object(alloc: Global, names: &Names, line: Line) -> Result<Line, AllocError>
     ensures { IfOk result (λ named. named ≡ named_object (names_in names.now) line) }
 {
     let mut sids = Vec::new(alloc);
     push_sids_of_line(&mut sids, &line)?;
-    let words = sids_and_names(alloc, names, &sids)?;
+    let words = sids_and_names(alloc, names, &once(alloc, &sids)?)?;
     with_words(alloc, line, &words)
 }
 
@@ -177,7 +125,7 @@ fn with_words(alloc: Global, line: Line, words: &[String]) -> Result<Line, Alloc
     if words.is_empty() {
         return Ok(line);
     }
-    let words = Value::words(alloc, &lent(alloc, words)?)?;
+    let words = words_value(alloc, words)?;
     line.with_tail(Part::new(NAMES, vec![in alloc; words]?))
 }
 

@@ -1,11 +1,13 @@
 //! The SIDs of lines.
-ghost use Rattle.std.specs.Prelude.{◌≡◌, ◌++◌, OnOk, flat_map, map};
-ghost use Rattle.sd_people.specs.Naming.{listed_sid, sids_of_line, sids_of_part, sids_of_told, sids_of_value};
+ghost use Rattle.std.specs.Prelude.{◌≡◌, ◌++◌, IfOk, OnOk, flat_map, map};
+ghost use Rattle.sd_analysis.specs.Risks.{with_sid};
+ghost use Rattle.sd_analysis.specs.Sufficient.{is_among};
+ghost use Rattle.sd_people.specs.Naming.{listed_sid, once, sids_of_line, sids_of_part, sids_of_told, sids_of_value};
 
 use crate::people::Told;
 use sd_line::{Line, Part, SidMark, Value};
 use sd_sid::Sid;
-use std::alloc::AllocError;
+use std::alloc::{AllocError, Global};
 
 /// Adds the SIDs of lines.
 pub(crate) fn push_sids_of_lines(sids: &mut Vec<Sid>, lines: &[Line]) -> Result<(), AllocError>
@@ -86,4 +88,30 @@ fn push_listed(sids: &mut Vec<Sid>, listed: &[(Sid, SidMark)]) -> Result<(), All
         sids.push(one.0)?;
     }
     Ok(())
+}
+
+/// The SIDs, each once, where it stands first.
+pub(crate) fn once(alloc: Global, sids: &[Sid]) -> Result<Vec<Sid>, AllocError>
+    ensures { IfOk result (λ found. found.items ≡ once sids.now) }
+{
+    let mut found = Vec::new(alloc);
+    for sid in sids {
+        add_once(&mut found, sid)?;
+    }
+    Ok(found)
+}
+
+fn add_once(found: &mut Vec<Sid>, sid: &Sid) -> Result<(), AllocError>
+    ensures { OnOk result (found.new.items ≡ with_sid found.old.items sid.now) }
+{
+    if !is_among(found, sid) {
+        found.push(*sid)?;
+    }
+    Ok(())
+}
+
+fn is_among(sids: &[Sid], sid: &Sid) -> bool
+    ensures { result ≡ is_among sids.now sid.now }
+{
+    sids.iter().any(|one| one.is(sid))
 }
