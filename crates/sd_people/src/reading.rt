@@ -4,13 +4,12 @@ ghost use Rattle.std.specs.List.{AllByRecursion};
 ghost use Rattle.sd_sid.specs.Sid.{IsSid};
 ghost use Rattle.sd_commands.specs.Answer.{answer_of};
 ghost use Rattle.sd_commands.specs.Required.{missing_dacl};
-ghost use Rattle.sd_commands.specs.WholeVerdict.{verdict_outcome};
 ghost use Rattle.sd_people.specs.Reading.{IsReadingOf, SaysWhy, enabled, token_with};
 
 use sd_acl::{Dacl, Descriptor};
 use sd_answer::why_lines;
-use sd_check::{GroupState, Privileges, Token, Verdict, check};
-use sd_commands::{Answer, Outcome, Settings};
+use sd_check::{GroupState, Privileges, Token, check};
+use sd_commands::{Answer, Settings, outcome_of};
 use sd_line::read_mask_in;
 use sd_sid::{Mask, Sid};
 use sd_text::read_sddl_in;
@@ -86,15 +85,6 @@ fn lacks_list(is_required: bool, dacl: &Dacl) -> bool
         Dacl::Absent if is_required => true,
         Dacl::Null if is_required => true,
         _ => false,
-    }
-}
-
-fn outcome_of(verdict: &Verdict) -> Outcome
-    ensures { result ≡ verdict_outcome verdict.now }
-{
-    match verdict {
-        Verdict::Granted(_) => Outcome::Done,
-        _ => Outcome::Refused,
     }
 }
 
