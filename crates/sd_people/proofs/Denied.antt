@@ -1,19 +1,18 @@
 -- Whom a list grants nothing: a token that stands for no allow entry's subject and not for the owner, without privileges.
-use Rattle.std.proofs.Common.{◌≡◌, ◌++◌, ◌∙◌, ◌<◌, ◌&&◌, ◌||◌, ◌==◌, ℕ, zero, suc, inl, inr, List, [], ◌∷◌, Bool, true, false, cond, drop, not, Option, Some, None, find, get_or, map, nat_lt, refl, ap, sym, subst, arith, codes}
+use Rattle.std.proofs.Common.{◌≡◌, ◌++◌, ◌∙◌, ◌<◌, ◌&&◌, ◌||◌, ◌==◌, ℕ, zero, suc, List, [], ◌∷◌, Bool, true, false, cond, not, Option, Some, None, nat_lt, refl, ap, sym, subst, arith, codes}
 use Rattle.std.proofs.lemmas.List.Folds.{list_any-append}
 use Rattle.std.proofs.lemmas.List.FromFn.{get_or-map-range_with_len}
 use Rattle.std.specs.List.{AllByRecursion, list_any}
 use Rattle.std.specs.Prelude.{if◌then◌else◌}
 use Rattle.sd_sid.specs.Mapping.{MappingValue, mapped}
 use Rattle.sd_sid.specs.Mask.{holds}
-use Rattle.sd_sid.specs.Sid.{SidValue, same_sid}
+use Rattle.sd_sid.specs.Sid.{SidValue}
 use Rattle.sd_acl.specs.Ace.{is_allow, is_inherit_only}
-use Rattle.sd_acl.specs.Descriptor.{DescriptorValue}
 use Rattle.sd_acl.specs.declared.ace.Ace.{Ace}
 use Rattle.sd_acl.specs.declared.ace.AceKind.{AceKind}
 use Rattle.sd_acl.specs.declared.ace.AceKind.TheVariants.{Allow, Deny}
-use Rattle.sd_check.specs.Check.{acl_grants, applies, applies_again, decides, first, is_allowed_by, is_given, is_granted, is_listed, is_restricting_subject, limits_owner, reserved_of, stands_for_subject, subject, without_maximum}
-use Rattle.sd_check.specs.Token.{TokenValue, is_restricted, no_privileges, stands_for}
+use Rattle.sd_check.specs.Check.{applies, applies_again, decides, first, is_allowed_by, is_granted, is_restricting_subject, limits_owner, reserved_of, stands_for_subject, subject, without_maximum}
+use Rattle.sd_check.specs.Token.{TokenValue, is_restricted, no_privileges}
 use Rattle.sd_check.specs.declared.verdict.Verdict.{Verdict}
 use Rattle.sd_check.specs.declared.verdict.Verdict.TheVariants.{Granted, Denied, Reserved, EmptyRequest}
 use Rattle.sd_explain.proofs.Causes.{named_grants}

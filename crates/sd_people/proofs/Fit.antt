@@ -1,10 +1,10 @@
 -- The users who are passed over, by what the search says; and whom it is for.
-use Rattle.std.proofs.Common.{ℕ, ◌≡◌, ◌++◌, ◌+◌, ◌<◌, ◌∙◌, ◌&&◌, not, List, [], ◌∷◌, Bool, Result, Ok, Err, IfOk, arith, true, false, Option, Some, None, ap, get_or, is_some, length, refl, subst, sym, take}
+use Rattle.std.proofs.Common.{ℕ, ◌≡◌, ◌++◌, ◌+◌, ◌<◌, ◌∙◌, ◌&&◌, not, List, [], ◌∷◌, Bool, arith, true, false, Option, Some, None, ap, get_or, is_some, length, refl, subst, sym, take}
 use Rattle.std.proofs.lemmas.List.{append_assoc, take_more}
 use Rattle.std.proofs.lemmas.List.Elements.{Contains-append_left, Contains-append_right, Contains-get_or, Contains-push, filter_map-append}
 use Rattle.std.specs.List.{AllByRecursion, Contains, cons_option, filter_map}
 use Rattle.std.specs.Option.{option_to_list}
-use Rattle.std.specs.Prelude.{IfSome, if◌then◌else◌}
+use Rattle.std.specs.Prelude.{if◌then◌else◌}
 use Rattle.sd_sid.specs.Sid.{SidValue}
 use Rattle.sd_acl.specs.Ace.{is_allow, is_inherit_only}
 use Rattle.sd_acl.specs.declared.ace.Ace.{Ace}
@@ -18,7 +18,7 @@ use Rattle.sd_commands.specs.declared.settings.Settings.{Settings}
 use Rattle.sd_named.specs.Arguments.{AreOfAccount, starts}
 use Rattle.sd_named.specs.declared.word.NamedWord.{NamedWord}
 use Rattle.sd_people.specs.Asked.{Changed, EachAsked, Granted}
-use Rattle.sd_people.specs.Passed.{IsFit, Speaks, allowed_sid, subjects}
+use Rattle.sd_people.specs.Passed.{IsFit, allowed_sid, subjects}
 use Rattle.sd_people.specs.People.{IsGrantedNothing}
 use Rattle.sd_people.proofs.Passed.{passed}
 

@@ -6,8 +6,7 @@ use Rattle.std.proofs.lemmas.List.Elements.{Contains-append_cases, Contains-appe
 use Rattle.std.specs.Borrow.{Bor}
 use Rattle.std.specs.List.{AllByRecursion, Contains, list_any}
 use Rattle.std.specs.Prelude.{MatchBool, bit_or}
-use Rattle.sd_sid.specs.Mapping.{MappingValue}
-use Rattle.sd_sid.specs.Sid.{IsSid, SidValue, owner_rights, same_sid}
+use Rattle.sd_sid.specs.Sid.{SidValue, owner_rights, same_sid}
 use Rattle.sd_acl.specs.Ace.{is_allow, is_inherit_only}
 use Rattle.sd_acl.specs.Dacl.{Dacl}
 use Rattle.sd_acl.specs.Descriptor.{DescriptorValue}
@@ -37,25 +36,21 @@ use Rattle.sd_line.specs.declared.spelling.Spelling.{Spelling}
 use Rattle.sd_line.specs.declared.spelling.Spelling.TheVariants.{Number, Names}
 use Rattle.sd_answer.proofs.OneToken.{token_one, token_or_none}
 use Rattle.sd_answer.proofs.Words.{not_spelled}
-use Rattle.sd_answer.specs.VerdictLines.{fault_line}
 use Rattle.sd_answer.specs.Why.{part_lines, why_lines}
 use Rattle.sd_answer.specs.Word.{IsToken, texts, token_of}
 use Rattle.sd_answer.specs.declared.forms.TheConstants.{LABEL_ALONE}
 use Rattle.sd_accounts.specs.Groups.{AreGroupsOf, Belongs, directly, further}
 use Rattle.sd_accounts.specs.Row.{AccountRow}
 use Rattle.sd_named.specs.Arguments.{AreAdded, AreOfAccount, added, added_texts, group_text, is_said, logon_groups, starts}
-use Rattle.sd_named.specs.declared.word.Role.{Role}
 use Rattle.sd_named.specs.declared.word.Role.TheVariants as roles
 use Rattle.sd_usage.specs.declared.row.DescriptorCommand.TheVariants.{Why}
 use Rattle.sd_usage.specs.declared.row.TextCommand.TheVariants.{Descriptor}
 use Rattle.sd_commands.specs.Answer.{AnswerValue, IsFaultOf, IsTold}
 use Rattle.sd_commands.specs.CommandAnswer.{AnswersOn, AnswersPlainly, AnswersQuestion, AnswersWholly, IsRefusedArgument, IsWordFault, argument}
-use Rattle.sd_commands.specs.Diagnostic.{told_line}
 use Rattle.sd_commands.specs.Logon.{fits_logon, words_for}
 use Rattle.sd_commands.specs.Required.{missing_dacl}
 use Rattle.sd_commands.specs.Whole.{is_compare, takes_whole}
 use Rattle.sd_commands.specs.WholeVerdict.{verdict_outcome}
-use Rattle.sd_commands.specs.declared.command_answer.Outcome.{Outcome}
 use Rattle.sd_commands.specs.declared.command_answer.Outcome.TheVariants as outcomes
 use Rattle.sd_commands.specs.declared.logon.Logon.{Logon}
 use Rattle.sd_commands.specs.declared.settings.Settings.{Settings}

@@ -1,12 +1,12 @@
 -- What is read once and said of a user's token is what `why` answers of the user's texts, which are never printed.
-use Rattle.std.proofs.Common.{ℕ, ◌≡◌, ◌++◌, ◌+◌, ◌<◌, ◌∙◌, ◌&&◌, ◌||◌, List, [], ◌∷◌, Bool, true, false, drop, filter, fold, get_or, length, map, Option, Some, None, is_some, ap, inl, inr, refl, subst, sym, take, codes, arith}
+use Rattle.std.proofs.Common.{ℕ, ◌≡◌, ◌++◌, ◌+◌, ◌∙◌, ◌&&◌, ◌||◌, List, [], ◌∷◌, Bool, true, false, drop, fold, map, Option, is_some, ap, inl, refl, subst, sym, arith}
 use Rattle.std.proofs.lemmas.Bool.{true≢false}
-use Rattle.std.proofs.lemmas.List.{append-nil, append_assoc, map-append, take_more}
+use Rattle.std.proofs.lemmas.List.{append-nil, append_assoc}
 use Rattle.std.specs.Borrow.{Bor}
 use Rattle.std.specs.List.{AllByRecursion, IsDistinct}
 use Rattle.std.specs.Prelude.{MatchBool}
 use Rattle.sd_sid.specs.Sid.{IsSid, SidValue}
-use Rattle.sd_acl.specs.Descriptor.{DescriptorValue, descriptor_of}
+use Rattle.sd_acl.specs.Descriptor.{descriptor_of}
 use Rattle.sd_check.specs.Token.{TokenValue}
 use Rattle.sd_check.specs.declared.token.GroupState.{GroupState}
 use Rattle.sd_text.specs.Canon.{full_canon}
@@ -16,20 +16,18 @@ use Rattle.sd_line.specs.Mask.{IsMaskIn}
 use Rattle.sd_answer.specs.Word.{IsToken, texts, token_of, with_word}
 use Rattle.sd_accounts.specs.Groups.{AreGroupsOf}
 use Rattle.sd_accounts.specs.Row.{AccountRow}
-use Rattle.sd_named.specs.Arguments.{AreAdded, AreOfAccount, added, added_texts, group_text, is_said, logon_groups, starts}
+use Rattle.sd_named.specs.Arguments.{AreAdded, AreOfAccount, added, added_texts, group_text, logon_groups, starts}
 use Rattle.sd_named.specs.declared.word.NamedWord.{NamedWord}
 use Rattle.sd_named.specs.declared.word.Role.TheVariants as roles
 use Rattle.sd_usage.specs.declared.row.DescriptorCommand.TheVariants.{Why}
 use Rattle.sd_usage.specs.declared.row.TextCommand.TheVariants.{Descriptor}
 use Rattle.sd_commands.specs.Answer.{AnswerValue, IsTold}
-use Rattle.sd_commands.specs.CommandAnswer.{AnswersOn, AnswersPlainly, AnswersQuestion, AnswersWholly, IsTaken, argument}
-use Rattle.sd_commands.specs.Diagnostic.{all_left_out, sacl_note}
+use Rattle.sd_commands.specs.CommandAnswer.{AnswersOn, AnswersPlainly, AnswersQuestion, AnswersWholly, argument}
 use Rattle.sd_commands.specs.Logon.{fits_logon, words_for}
 use Rattle.sd_commands.specs.Whole.{is_compare, takes_whole}
 use Rattle.sd_commands.specs.declared.logon.Logon.{Logon}
 use Rattle.sd_commands.specs.declared.settings.Settings.{Settings}
 use Rattle.sd_whole_parse.specs.Part.{IsPart}
-use Rattle.sd_people.proofs.Denied.{all_both}
 use Rattle.sd_people.proofs.Passed.{AreThree, are_three, no_belongs}
 use Rattle.sd_people.proofs.Spelled.{full_spelled}
 use Rattle.sd_people.proofs.Tokens.{enabled_word, words_of}

@@ -1,5 +1,5 @@
 -- A SID in full is parsed as that SID, whether it has an alias or not.
-use Rattle.std.proofs.Common.{ℕ, ◌≡◌, ◌++◌, ◌∙◌, List, [], ◌∷◌, Ok, Option, Some, None, ap, inl, inr, refl, subst, sym}
+use Rattle.std.proofs.Common.{ℕ, ◌≡◌, ◌++◌, ◌∙◌, List, [], Ok, Option, Some, None, ap, inl, refl, subst, sym}
 use Rattle.std.proofs.Common.{rules, unwrap_or}
 use Rattle.std.proofs.lemmas.List.{append-nil}
 use Rattle.std.specs.Fmt.{digits}

@@ -1,9 +1,7 @@
 -- The token of a user and of the texts of groups.
-use Rattle.std.proofs.Common.{ℕ, ◌≡◌, ◌++◌, ◌∙◌, ◌&&◌, ◌||◌, List, [], ◌∷◌, Bool, true, false, fold, map, ap, inl, inr, refl, subst, sym, codes, arith}
-use Rattle.std.proofs.lemmas.Bool.{true≢false}
-use Rattle.std.proofs.lemmas.List.{append-nil}
+use Rattle.std.proofs.Common.{◌≡◌, ◌++◌, ◌∙◌, ◌&&◌, ◌||◌, List, [], ◌∷◌, Bool, true, false, fold, map, ap, inl, inr, refl, subst, sym, codes, arith}
 use Rattle.std.proofs.lemmas.List.Elements.{Contains-append_right, Contains-get_or}
-use Rattle.std.specs.List.{AllByRecursion, Contains, list_any}
+use Rattle.std.specs.List.{AllByRecursion, Contains}
 use Rattle.sd_sid.specs.Sid.{IsSid, SidValue, same_sid}
 use Rattle.sd_sid.proofs.Compared.{same_sid-true}
 use Rattle.sd_acl.specs.declared.ace.AceKind.TheVariants.{Allow}
@@ -13,7 +11,7 @@ use Rattle.sd_check.specs.declared.token.GroupState.TheVariants.{Enabled}
 use Rattle.sd_text.specs.Canon.{full_canon}
 use Rattle.sd_text.specs.declared.alias.Aliases.{Aliases}
 use Rattle.sd_answer.proofs.Words.{apart}
-use Rattle.sd_answer.specs.Word.{AreEach, IsGroup, IsToken, IsWord, token_of, with_word}
+use Rattle.sd_answer.specs.Word.{AreEach, IsWord, token_of, with_word}
 use Rattle.sd_answer.specs.declared.word.Word.{Word}
 use Rattle.sd_answer.specs.declared.word.Word.TheVariants.{Group}
 use Rattle.sd_named.specs.Arguments.{group_text}

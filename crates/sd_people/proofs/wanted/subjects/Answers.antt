@@ -1,5 +1,5 @@
 -- One entry more.
-use Rattle.std.proofs.Common.{Some, None, [], ap, sym, ◌++◌, ◌∙◌}
+use Rattle.std.proofs.Common.{Some, None, ap, sym, ◌∙◌}
 use Rattle.std.proofs.lemmas.List.{append-nil}
 use Rattle.sd_people.proofs.Fit.{subject_more}
 use Rattle.sd_people.proofs.wanted.subjects.Goals as goal

@@ -1,8 +1,6 @@
 -- Who has none of the SIDs is granted nothing.
-use Rattle.std.proofs.Common.{Some, ap, subst, ◌∙◌}
+use Rattle.std.proofs.Common.{ap, subst, ◌∙◌}
 use Rattle.sd_accounts.specs.Accounts.{rows_of}
-use Rattle.sd_accounts.specs.Search.{searched, wanted_by}
-use Rattle.sd_accounts.specs.Wanted.{HasNone}
 use Rattle.sd_named.specs.Arguments.{starts}
 use Rattle.sd_people.specs.Passed.{IsFit}
 use Rattle.sd_people.proofs.Fit.{passed_over}
