@@ -10,10 +10,10 @@ use Rattle.sd_usage.specs.Table.{command_named, takes_count}
 use Rattle.sd_usage.specs.declared.row.Command.{Command}
 use Rattle.sd_usage.specs.declared.row.CommandName.{CommandName}
 use Rattle.sd_usage.specs.declared.row.CommandName.TheVariants as names
-use Rattle.sd_usage.specs.declared.row.OptionName.TheVariants.{Stdin}
+use Rattle.sd_usage.specs.declared.row.OptionName.TheVariants.{Stdin, Whole}
 use Rattle.sd_usage.specs.declared.row.DescriptorCommand.TheVariants.{Compare}
 use Rattle.sd_usage.specs.declared.row.TextCommand.{TextCommand}
-use Rattle.sd_usage.specs.declared.row.TextCommand.TheVariants.{Descriptor, Diff}
+use Rattle.sd_usage.specs.declared.row.TextCommand.TheVariants.{Descriptor, Diff, Types}
 use Rattle.sd_arguments.specs.declared.command_line.Call.{Call}
 use Rattle.sd_arguments.specs.declared.command_line.ProgramRequest.{ProgramRequest}
 use Rattle.sd_arguments.specs.declared.command_line.ProgramRequest.TheVariants as asked
@@ -112,9 +112,19 @@ call_of call = record {
   arguments = call.arguments.now;
 }
 
--- what it asks for, where each option before it may go there
+-- the command goes only beside `--whole`
+abbrev pub is_of_whole : CommandName → Bool
+is_of_whole (names.Ask Types) = true
+is_of_whole name = false
+
+-- which isn't given
+abbrev pub lacks_whole : CallValue → Bool
+lacks_whole call = is_of_whole call.command.name && not (has call.options Whole)
+
+-- what it asks for, where each option before it may go there, and none is missing
 abbrev pub asks : CallValue → InvocationValue → Option InvocationValue
-asks call invocation = if go_before call.name call.options call.words then Some invocation else None
+asks call invocation =
+    if go_before call.name call.options call.words && not (lacks_whole call) then Some invocation else None
 
 -- with pairs a line is the first two arguments of its command
 abbrev pub arguments_of_line : (pairs : Bool) → ℕ

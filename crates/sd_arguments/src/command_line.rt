@@ -2,7 +2,8 @@
 ghost use Rattle.std.specs.Prelude.{◌≡◌, is_some, option_map};
 ghost use Rattle.sd_arguments.specs.CommandLine.{arguments_in, arguments_of_line, asked_by, asked_by_words, asks};
 ghost use Rattle.sd_arguments.specs.CommandLine.{asks_input, audit_by, call_in, call_of, each_by, run_by, takes_pairs};
-ghost use Rattle.sd_arguments.specs.CommandLine.{command_line_of, first_call, help_on, invocation_of, line_of, reading};
+ghost use Rattle.sd_arguments.specs.CommandLine.{command_line_of, first_call, help_on, invocation_of, is_of_whole};
+ghost use Rattle.sd_arguments.specs.CommandLine.{lacks_whole, line_of, reading};
 ghost use Rattle.sd_arguments.specs.CommandLine.{request_after, request_of, request_on, shown_by, workers_of};
 ghost use Rattle.sd_arguments.specs.Laws.{shows};
 ghost use Rattle.sd_arguments.specs.UsageError.{accepted};
@@ -79,14 +80,25 @@ struct Call<'a> {
 }
 
 impl<'a> Call<'a> {
-    /// What is asked for, where each option before the command may go there.
+    /// What is asked for, where each option before the command may go there, and none is missing.
     fn asks(self, invocation: Invocation<'a>) -> Result<Invocation<'a>, UsageError>
         ensures { accepted invocation_of result ≡ asks (call_of self.entry) (invocation_of invocation.entry) }
     {
         match misplaced_in(self.name, self.named, self.options, self.words) {
             Some(usage_error) => Err(usage_error),
+            None if self.lacks_whole() => {
+                let wrong = UsageErrorKind::WithoutWhole;
+                Err(UsageError::new(self.named, self.named, wrong))
+            }
             None => Ok(invocation),
         }
+    }
+
+    /// Whether the command goes only beside `--whole`, which isn't given.
+    fn lacks_whole(self) -> bool
+        ensures { result ≡ lacks_whole (call_of self.entry) }
+    {
+        is_of_whole(self.command.name) && !self.options.has(OptionName::Whole)
     }
 
     /// The mistake of a wrong number of arguments: the one that is missing, or the first that is too many.
@@ -339,6 +351,13 @@ fn arguments_in<'a>(words: &'a [&'a str]) -> &'a [&'a str]
         [word, rest @ ..] if *word == "--" => rest,
         _ => words,
     }
+}
+
+/// Whether the command goes only beside `--whole`.
+fn is_of_whole(command: CommandName) -> bool
+    ensures { result ≡ is_of_whole command }
+{
+    matches!(command, CommandName::Ask(TextCommand::Types))
 }
 
 /// How many arguments of a command a line is.

@@ -34,6 +34,8 @@ pub(crate) enum UsageErrorKind {
     ExcludedOption,
     /// The option goes only beside `--whole`, which isn't given.
     LacksWhole,
+    /// The command goes only beside `--whole`, which isn't given.
+    WithoutWhole,
     /// Before this command the option goes only beside `--object`, which isn't given.
     LacksObject,
     /// There are more than five object types.
@@ -59,6 +61,7 @@ impl UsageErrorKind {
         match self {
             UsageErrorKind::NoCommand => "COMMAND",
             UsageErrorKind::MisplacedOption(_)
+            | UsageErrorKind::WithoutWhole
             | UsageErrorKind::LacksObject
             | UsageErrorKind::NoText
             | UsageErrorKind::NoPairs => name,
@@ -79,6 +82,7 @@ impl UsageErrorKind {
             UsageErrorKind::MisplacedOption(_) => " doesn't take this option (7 MisplacedOption)",
             UsageErrorKind::ExcludedOption => "this option excludes another one (8 ExcludedOption)",
             UsageErrorKind::LacksWhole => "this option goes only beside --whole (13 LacksWhole)",
+            UsageErrorKind::WithoutWhole => " goes only beside --whole (17 WithoutWhole)",
             UsageErrorKind::LacksObject => {
                 " takes this option only beside --object (15 LacksObject)"
             }
@@ -148,6 +152,7 @@ fn hint(alloc: Global, name: &str, wrong: UsageErrorKind) -> Result<String, Allo
         | UsageErrorKind::NoValue
         | UsageErrorKind::ExcludedOption
         | UsageErrorKind::LacksWhole
+        | UsageErrorKind::WithoutWhole
         | UsageErrorKind::LacksObject
         | UsageErrorKind::TooManyTypes
         | UsageErrorKind::NoPairs => Ok(String::new(alloc)),

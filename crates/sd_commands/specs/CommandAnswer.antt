@@ -1,7 +1,7 @@
 -- What a command about a descriptor answers, and whether it did what was asked for. The arguments are read from left to
 -- right, and the answer is the fault of the first that is invalid.
 use Rattle.std.specs.Prelude.{◌≡◌, ◌⊎◌, ℕ, Bool, false, not, ◌&&◌, ◌||◌, MatchBool, List, [], ◌∷◌, ◌++◌, codes}
-use Rattle.std.specs.Prelude.{Option, Some, None, drop}
+use Rattle.std.specs.Prelude.{Option, Some, None, drop, option_map}
 use Rattle.std.specs.Prelude.{slice_get}
 use Rattle.std.specs.Option.{option_map_or}
 use Rattle.std.specs.Borrow.{Bor}
@@ -45,7 +45,10 @@ use Rattle.sd_commands.specs.Required.{missing_dacl}
 use Rattle.sd_usage.specs.declared.row.TextCommand.{TextCommand}
 use Rattle.sd_usage.specs.declared.row.TextCommand.TheVariants as questions
 use Rattle.sd_commands.specs.Risks.{risk_lines}
+use Rattle.sd_commands.specs.Nodes.{tree_in}
 use Rattle.sd_commands.specs.Sort.{move_notes, sorted_descriptor}
+use Rattle.sd_commands.specs.Types.{AnswersOfTree, AreNodeVerdicts, NodesValue}
+use Rattle.sd_types.specs.Tree.{chains_in, chains_of}
 use Rattle.sd_commands.specs.Diagnostic.{all_but_label, all_left_out, object_note, sddl_fault_text, told_line}
 use Rattle.sd_commands.specs.Diagnostic.{word_argument, IsStateReason, IsWordReason}
 use Rattle.sd_usage.specs.declared.row.DescriptorCommand.{DescriptorCommand}
@@ -53,6 +56,7 @@ use Rattle.sd_usage.specs.declared.row.DescriptorCommand.TheVariants as about
 use Rattle.sd_commands.specs.declared.command_answer.Outcome.TheVariants.{Done}
 use Rattle.sd_commands.specs.declared.descriptor.Given.{Given}
 use Rattle.sd_commands.specs.declared.descriptor.Given.TheVariants as givens
+use Rattle.sd_commands.specs.declared.nodes.NodesAsked.{NodesAsked}
 use Rattle.sd_commands.specs.declared.settings.Settings.{Settings}
 use Rattle.sd_commands.specs.declared.verdict.Form.{Form}
 use Rattle.sd_commands.specs.declared.verdict.Subject.{Subject}
@@ -139,14 +143,18 @@ AnswersOfArgument argument settings written Answers answer =
 
 -- ---- verdicts
 
--- the descriptor that a verdict is on: a plain one, or under `--whole` all of it
+-- the descriptor that a verdict is on: a plain one, or under `--whole` all of it, also for each of these nodes
 pub data Judged : Type 0 where
   Plain : DescriptorValue → Judged
-  Whole : WholeDescriptor → Judged
+  Whole : WholeDescriptor → Option NodesValue → Judged
+
+abbrev pub nodes_of : Option (Bor NodesAsked) → Option NodesValue
+nodes_of asked =
+    option_map (λ asked. record { nodes = asked.now.nodes.items; tree = chains_in asked.now.tree }) asked
 
 abbrev pub judged_of : Subject → Judged
 judged_of (subjects.Plain d) = Plain (descriptor_of d.now)
-judged_of (subjects.Whole d) = Whole d.now
+judged_of (subjects.Whole d nodes) = Whole d.now (nodes_of nodes)
 
 -- the verdict's line, or with it the reasons
 abbrev pub form_lines : Settings → Form → DescriptorValue → TokenValue → ℕ → List LineOf
@@ -180,15 +188,21 @@ abbrev pub IsClientFault : Settings → List (Bor (List ℕ)) → AnswerValue �
 IsClientFault settings =
     IsFirstFault (IsFirstNoClientWord settings.aliases) (IsWordReason settings.points settings.aliases)
 
+-- the answer is the verdict on the descriptor, or that on each of these nodes
+abbrev pub AreVerdictsOn : Settings → Form → WholeDescriptor → Option NodesValue → ClientValue → ℕ → AnswerValue
+    → Type 0
+AreVerdictsOn settings form d None client asked = IsWholeVerdict settings form d client asked
+AreVerdictsOn settings form d (Some nodes) client asked = AreNodeVerdicts settings nodes d client asked
+
 -- the words make who asks, for whom this is the verdict; or one of them is no word
 abbrev pub AnswersWords : Settings → Form → Judged → SidValue → ℕ → List (Bor (List ℕ)) → AnswerValue → Type 0
 AnswersWords settings form (Plain d) user asked words answer =
     ((token : TokenValue) × IsToken settings.aliases user (texts words) token
     × IsVerdict settings form d token asked answer)
     ⊎ IsWordFault settings words answer
-AnswersWords settings form (Whole d) user asked words answer =
+AnswersWords settings form (Whole d nodes) user asked words answer =
     ((client : ClientValue) × IsClient settings.aliases user (texts words) client
-    × IsWholeVerdict settings form d client asked answer)
+    × AreVerdictsOn settings form d nodes client asked answer)
     ⊎ IsClientFault settings words answer
 
 -- so do the words with the groups of the logon behind them
@@ -217,7 +231,19 @@ AnswersUser settings form arguments on = AnswersOfSid (codes "USER") settings (a
 abbrev pub AnswersWholeUser : Settings → Form → List ℕ → List (Bor (List ℕ)) → AnswerValue → Type 0
 AnswersWholeUser settings form text arguments = AnswersOfWhole (codes "SDDL") settings text
     (λ d. AnswersFit (codes "SDDL") (missing_dacl settings.require_dacl d.dacl)
-    (AnswersUser settings form arguments (Whole d)))
+    (AnswersUser settings form arguments (Whole d None)))
+
+-- ---- verdicts on the nodes of a tree of object types
+
+-- the arguments are the tree, the user, the mask and words
+abbrev pub AnswersTypesOn : Settings → List (Bor (List ℕ)) → WholeDescriptor → AnswerValue → Type 0
+AnswersTypesOn settings arguments d = AnswersOfTree (tree_in (argument arguments 0)) (λ nodes.
+    AnswersUser settings Short (drop 1 arguments) (Whole d (Some (record { nodes = nodes; tree = chains_of nodes }))))
+
+-- what is answered of all that the text is, where it doesn't lack the list that is required
+abbrev pub AnswersTypes : Settings → List ℕ → List (Bor (List ℕ)) → AnswerValue → Type 0
+AnswersTypes settings text arguments = AnswersOfWhole (codes "SDDL") settings text
+    (λ d. AnswersFit (codes "SDDL") (missing_dacl settings.require_dacl d.dacl) (AnswersTypesOn settings arguments d))
 
 -- ---- other forms
 
@@ -420,5 +446,6 @@ AnswersQuestion settings (questions.Descriptor question) text arguments =
 AnswersQuestion settings questions.FromBinary text arguments = AnswersFromBinary settings text
 AnswersQuestion settings questions.Show text arguments = AnswersShow settings text
 AnswersQuestion settings questions.Diff text arguments = AnswersDiff settings text (argument arguments 0)
+AnswersQuestion settings questions.Types text arguments = AnswersTypes settings text arguments
 AnswersQuestion settings questions.Rights text arguments = AnswersRights settings text
 AnswersQuestion settings questions.Sid text arguments = AnswersSid settings text

@@ -14,6 +14,7 @@ pub mod Labels
 pub mod Limits
 pub mod Logon
 pub mod Mapping
+pub mod Nodes
 pub mod Object
 pub mod ObjectTypes
 pub mod Pointer
@@ -21,6 +22,7 @@ pub mod Required
 pub mod Risks
 pub mod SidTexts
 pub mod Sort
+pub mod Types
 pub mod Value
 pub mod Whole
 pub mod WholeSort

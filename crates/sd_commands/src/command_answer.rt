@@ -132,6 +132,7 @@ pub fn answer_question(
         TextCommand::FromBinary => command.from_binary(text),
         TextCommand::Show => command.show(text),
         TextCommand::Diff => command.diff(text, argument(arguments, 0)),
+        TextCommand::Types => command.types(text, arguments),
         TextCommand::Rights => command.rights(text),
         TextCommand::Sid => command.sid(text),
     }

@@ -1,7 +1,7 @@
 //! The commands about one descriptor: text in, the lines of an answer out.
 //!
-//! `answer_question` answers `verdict`, `why`, `who`, `compare`, `lint`, `print`, `sort`, `tobin`, `frombin` and
-//! `rights`, as `Settings` says.
+//! `answer_question` answers `verdict`, `why`, `types`, `who`, `compare`, `lint`, `print`, `sort`, `tobin`, `frombin`
+//! and `rights`, as `Settings` says.
 //! It needs no stream and no thread. `sd_command_line` parses a command line to its arguments.
 //!
 //! ```text
@@ -23,6 +23,7 @@ mod descriptor;
 mod diagnostic;
 mod escaped;
 mod for_everyone;
+mod forms;
 mod kinds;
 mod labels;
 mod laws;
@@ -31,6 +32,7 @@ mod lint;
 mod logon;
 mod loose;
 mod mapping;
+mod nodes;
 mod object;
 mod object_types;
 mod pointer;
@@ -40,6 +42,7 @@ mod settings;
 mod show;
 mod sid_texts;
 mod sort;
+mod types;
 mod value;
 mod verdict;
 mod whole;

@@ -9,6 +9,7 @@ ghost use Rattle.sd_commands.specs.WholeVerdict.{verdict_outcome};
 
 use crate::command_answer::{Answer, Answered, Outcome};
 use crate::logon::{fits_logon, words_for};
+use crate::nodes::NodesAsked;
 use crate::settings::CommandContext;
 use crate::words::{argument, items_from};
 use sd_acl::Descriptor;
@@ -24,8 +25,9 @@ use std::alloc::AllocError;
 #[derive(Clone, Copy)]
 pub(crate) enum Subject<'a> {
     Plain(&'a Descriptor),
-    /// With its SACL and entries of every type.
-    Whole(&'a WholeDescriptor),
+    /// With its SACL and entries of every type; for each node of a tree of object types, or without one for those of
+    /// `--type`.
+    Whole(&'a WholeDescriptor, Option<&'a NodesAsked>),
 }
 
 /// What an answer says of a verdict.
@@ -90,7 +92,9 @@ impl CommandContext<'_> {
         let words = words_for(self.alloc, self.settings.logon, words)?;
         match on {
             Subject::Plain(descriptor) => { self.for_token(form, descriptor, user, asked, &words) }
-            Subject::Whole(descriptor) => { self.for_client(form, descriptor, user, asked, &words) }
+            Subject::Whole(descriptor, nodes) => {
+                self.for_client(form, descriptor, nodes, user, asked, &words)
+            }
         }
     }
 

@@ -1,9 +1,10 @@
 //! The answers to `verdict` and `why` under `--whole`: whether a whole descriptor grants a mask to a client, and why.
-ghost use Rattle.std.specs.Prelude.{◌≡◌, ◌<◌, IfOk, codes, length, string_bytes};
+ghost use Rattle.std.specs.Prelude.{◌≡◌, ◌<◌, IfOk, None, codes, length, string_bytes};
 ghost use Rattle.sd_answer.specs.Word.{texts};
 ghost use Rattle.sd_client.specs.Word.{IsFirstNoClientWord};
 ghost use Rattle.sd_commands.specs.Answer.{AnswersFit, answer_of};
-ghost use Rattle.sd_commands.specs.CommandAnswer.{AnswersUser, AnswersWholeUser, AnswersWords, IsClientFault, Whole};
+ghost use Rattle.sd_commands.specs.CommandAnswer.{AnswersUser, AnswersWholeUser, AnswersWords, AreVerdictsOn};
+ghost use Rattle.sd_commands.specs.CommandAnswer.{IsClientFault, Whole, nodes_of};
 ghost use Rattle.sd_commands.specs.Required.{missing_dacl};
 ghost use Rattle.sd_commands.specs.WholeVerdict.{AnswersShortly, AnswersWhy, IsUndecided, IsWholeVerdict, fault_place};
 ghost use Rattle.sd_commands.specs.WholeVerdict.{judged_outcome, question_of, short_line, specialize_fault_line};
@@ -14,6 +15,7 @@ use crate::command_answer::{Answer, Answered, Outcome, fault_told};
 use crate::descriptor::missing_dacl;
 use crate::diagnostic::told_line;
 use crate::limits::sacl_left_out;
+use crate::nodes::NodesAsked;
 use crate::settings::CommandContext;
 use crate::verdict::{Form, Subject, outcome_of};
 use crate::whole::entry_place;
@@ -27,6 +29,7 @@ use sd_show::SACL_LEFT_OUT;
 use sd_sid::{Mask, Sid};
 use sd_specialize::{SpecializeError, SpecializeFault};
 use sd_text::TextError;
+use sd_types::TreeQuestion;
 use sd_whole::WholeDescriptor;
 use sd_whole_parse::read_whole_sddl;
 use sd_whole_text::AclKind;
@@ -54,28 +57,30 @@ impl CommandContext<'_> {
     ) -> Answered
         ensures { IfOk result (λ answer. AnswersFit (codes "SDDL")
             (missing_dacl self.now.settings.now.require_dacl descriptor.now.dacl)
-            (AnswersUser self.now.settings.now form arguments.now (Whole descriptor.now)) (answer_of answer)) }
+            (AnswersUser self.now.settings.now form arguments.now (Whole descriptor.now None)) (answer_of answer)) }
     {
         match missing_dacl(self.settings, &descriptor.dacl) {
-            None => self.verdict(form, Subject::Whole(descriptor), arguments),
+            None => self.verdict(form, Subject::Whole(descriptor, None), arguments),
             Some(missing) => self.fault("nodacl", "SDDL", missing),
         }
     }
 
-    /// The verdict on a whole descriptor for the client of the user and these words ([MS-DTYP] 2.5.3.2).
+    /// The verdict on a whole descriptor for the client of the user and these words, or that on each of these nodes
+    /// ([MS-DTYP] 2.5.3.2).
     pub(crate) fn for_client(
         &self,
         form: Form,
         descriptor: &WholeDescriptor,
+        nodes: Option<&NodesAsked>,
         user: Sid,
         asked: Mask,
         words: &[&str],
     ) -> Answered
-        ensures { IfOk result (λ answer. AnswersWords self.now.settings.now form (Whole descriptor.now) user asked
-            words.now (answer_of answer)) }
+        ensures { IfOk result (λ answer. AnswersWords self.now.settings.now form
+            (Whole descriptor.now (nodes_of nodes.entry)) user asked words.now (answer_of answer)) }
     {
         match read_client(self.alloc, self.settings.aliases, user, words) {
-            Ok(client) => self.verdict_for_client(form, descriptor, &client, asked),
+            Ok(client) => self.parts_for_client(form, descriptor, nodes, &client, asked),
             Err(TokenError::NoWord { place }) => self.client_fault(words, place),
             Err(TokenError::Memory) => Err(AllocError),
         }
@@ -90,6 +95,30 @@ impl CommandContext<'_> {
         let word = argument(words, place);
         let reason = self.word_reason(word)?;
         self.token_fault(place, word, reason.as_str())
+    }
+
+    fn parts_for_client(
+        &self,
+        form: Form,
+        descriptor: &WholeDescriptor,
+        nodes: Option<&NodesAsked>,
+        client: &Client,
+        asked: Mask,
+    ) -> Answered
+        ensures { IfOk result (λ answer. AreVerdictsOn self.now.settings.now form descriptor.now
+            (nodes_of nodes.entry) client.now asked (answer_of answer)) }
+    {
+        let Some(NodesAsked { nodes, tree }) = nodes else {
+            return self.verdict_for_client(form, descriptor, client, asked);
+        };
+        let question = TreeQuestion {
+            client,
+            types: tree,
+            principal_self: self.settings.principal_self,
+            mapping: &self.settings.mapping,
+            asked,
+        };
+        self.nodes_answer(&question, nodes, descriptor)
     }
 
     fn verdict_for_client(

@@ -1,5 +1,5 @@
 -- A question with SIDs in the place of the names of accounts, in which a user has the groups of its account.
-use Rattle.std.specs.Prelude.{◌≡◌, ℕ, Bool, true, false, MatchBool, List, ◌∷◌, Option, Some, None, is_some}
+use Rattle.std.specs.Prelude.{◌≡◌, ℕ, Bool, true, false, MatchBool, List, [], ◌∷◌, Option, Some, None, is_some}
 use Rattle.sd_text.specs.declared.alias.Aliases.{Aliases}
 use Rattle.sd_answer.specs.Word.{texts}
 use Rattle.sd_accounts.specs.Row.{AccountRow}
@@ -7,7 +7,7 @@ use Rattle.sd_named.specs.Arguments.{AreOfUser, AreOfWords}
 use Rattle.sd_named.specs.Sddl.{IsNamedSddl}
 use Rattle.sd_usage.specs.declared.row.DescriptorCommand.TheVariants as about
 use Rattle.sd_usage.specs.declared.row.TextCommand.{TextCommand}
-use Rattle.sd_usage.specs.declared.row.TextCommand.TheVariants.{Descriptor}
+use Rattle.sd_usage.specs.declared.row.TextCommand.TheVariants.{Descriptor, Types}
 use Rattle.sd_commands.specs.Logon.{words_for}
 use Rattle.sd_commands.specs.declared.logon.Logon.{Logon}
 use Rattle.sd_commands.specs.declared.settings.Settings.{Settings}
@@ -18,6 +18,7 @@ use Rattle.sd_arguments.specs.CommandLine.{RequestValue}
 -- the command's text is a descriptor's
 abbrev pub has_sddl : TextCommand → Bool
 has_sddl (Descriptor question) = true
+has_sddl Types = true
 has_sddl question = false
 
 -- in a descriptor's text SIDs stand in the place of names; any other stands as it is
@@ -38,6 +39,12 @@ AreOfVerdict rows known logon (user ∷ mask ∷ words) named =
     AreOfUser rows known (is_some logon) user mask (words_for logon words) named
 AreOfVerdict rows known logon arguments named = named ≡ arguments
 
+-- the arguments TREE USER MASK WORD.., of which the first names nobody
+abbrev pub AreOfTypes : List AccountRow → Aliases → Option Logon → List (List ℕ) → List (List ℕ) → Type 0
+AreOfTypes rows known logon [] named = named ≡ []
+AreOfTypes rows known logon (tree ∷ arguments) named = (rest : List (List ℕ))
+    × AreOfVerdict rows known logon arguments rest × (named ≡ tree ∷ rest)
+
 -- one argument, which may be a descriptor's text, and words
 abbrev pub AreOfRest : List AccountRow → Aliases → (is_sddl : Bool) → List (List ℕ) → List (List ℕ) → Type 0
 AreOfRest rows known is_sddl (first ∷ words) named = (own : List ℕ) × (rest : List (List ℕ))
@@ -54,6 +61,7 @@ abbrev pub AreNamed : List AccountRow → Aliases → Option Logon → (pairs : 
     → List (List ℕ) → Type 0
 AreNamed rows known logon pairs (Descriptor about.Verdict) = AreOfVerdict rows known logon
 AreNamed rows known logon pairs (Descriptor about.Why) = AreOfVerdict rows known logon
+AreNamed rows known logon pairs Types = AreOfTypes rows known logon
 AreNamed rows known logon pairs (Descriptor about.Who) = AreOfRest rows known false
 AreNamed rows known logon pairs (Descriptor about.Compare) = AreOfCompare rows known pairs
 AreNamed rows known logon pairs (Descriptor about.Lint) = AreOfWords rows known

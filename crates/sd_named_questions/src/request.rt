@@ -3,8 +3,8 @@ ghost use Rattle.std.specs.Prelude.{◌≡◌, IfOk, ◌∷◌, map, option_map,
 ghost use Rattle.sd_answer.specs.Word.{texts};
 ghost use Rattle.sd_accounts.specs.Accounts.{rows_of};
 ghost use Rattle.sd_arguments.specs.CommandLine.{request_of};
-ghost use Rattle.sd_named_questions.specs.Request.{AreNamed, AreOfCompare, AreOfRest, AreOfVerdict, IsGiven, IsText};
-ghost use Rattle.sd_named_questions.specs.Request.{has_sddl};
+ghost use Rattle.sd_named_questions.specs.Request.{AreNamed, AreOfCompare, AreOfRest, AreOfTypes, AreOfVerdict};
+ghost use Rattle.sd_named_questions.specs.Request.{IsGiven, IsText, has_sddl};
 
 use sd_accounts::Accounts;
 use sd_arguments::TextRequest;
@@ -75,7 +75,7 @@ fn given(
 fn has_sddl(question: TextCommand) -> bool
     ensures { result ≡ has_sddl question }
 {
-    matches!(question, TextCommand::Descriptor(_))
+    matches!(question, TextCommand::Descriptor(_) | TextCommand::Types)
 }
 
 /// A text, with SIDs in the place of names if it is a descriptor's. The only error is out of memory.
@@ -105,6 +105,7 @@ fn named_arguments(
         TextCommand::Descriptor(DescriptorCommand::Verdict | DescriptorCommand::Why) => {
             of_verdict(naming, logon, arguments)
         }
+        TextCommand::Types => of_types(naming, logon, arguments),
         TextCommand::Descriptor(DescriptorCommand::Who) => of_rest(naming, false, arguments),
         TextCommand::Descriptor(DescriptorCommand::Compare) => of_compare(naming, pairs, arguments),
         TextCommand::Descriptor(DescriptorCommand::Lint) => naming.of_words(arguments),
@@ -126,6 +127,25 @@ fn of_verdict(
     };
     let words = words_for(naming.alloc, logon, words)?;
     naming.of_user(logon.is_some(), user, mask, &words)
+}
+
+/// The arguments `TREE USER MASK WORD..`.
+fn of_types(
+    naming: Naming<'_>,
+    logon: Option<Logon>,
+    arguments: &[&str],
+) -> Result<Vec<String>, NamedError>
+    ensures { IfOk result (λ named. AreOfTypes (rows_of naming.entry.accounts.now) naming.entry.known logon
+        (texts arguments.now) (map string_bytes named.items)) }
+{
+    let alloc = naming.alloc;
+    let [tree, asked @ ..] = arguments else {
+        return Ok(Vec::new(alloc));
+    };
+    let mut rest = of_verdict(naming, logon, asked)?;
+    let mut named = vec![in alloc; String::from_str(alloc, tree)?]?;
+    named.append(&mut rest)?;
+    Ok(named)
 }
 
 /// The arguments `NEW WORD..`, or with `pairs` the words alone.

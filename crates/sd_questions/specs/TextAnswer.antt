@@ -15,7 +15,7 @@ use Rattle.sd_line.specs.declared.print.Style.{Style}
 use Rattle.sd_text.specs.Alias.{in_domain}
 use Rattle.sd_usage.specs.declared.row.DescriptorCommand.TheVariants as about
 use Rattle.sd_usage.specs.declared.row.TextCommand.{TextCommand}
-use Rattle.sd_usage.specs.declared.row.TextCommand.TheVariants.{Descriptor, Diff, Show}
+use Rattle.sd_usage.specs.declared.row.TextCommand.TheVariants.{Descriptor, Diff, Show, Types}
 use Rattle.sd_commands.specs.Answer.{AnswerValue, IsFault}
 use Rattle.sd_commands.specs.CommandAnswer.{AnswersQuestion, argument}
 use Rattle.sd_commands.specs.Concern.{IsConcernReason}
@@ -163,6 +163,7 @@ after_answer (Descriptor about.Why) = text_line [] ∷ []
 after_answer (Descriptor about.Who) = text_line [] ∷ []
 after_answer (Descriptor about.Compare) = text_line [] ∷ []
 after_answer (Descriptor about.Lint) = text_line [] ∷ []
+after_answer Types = text_line [] ∷ []
 after_answer Show = text_line [] ∷ []
 after_answer Diff = text_line [] ∷ []
 after_answer question = []

@@ -108,7 +108,8 @@ fn push_left_out(
     advice: &mut String,
 ) -> Result<(), AllocError> {
     let what = match question {
-        TextCommand::Descriptor(DescriptorCommand::Verdict | DescriptorCommand::Why) => POLICIES,
+        TextCommand::Types
+        | TextCommand::Descriptor(DescriptorCommand::Verdict | DescriptorCommand::Why) => POLICIES,
         TextCommand::Descriptor(DescriptorCommand::Compare) if options.has(OptionName::Object) => {
             ALL_BUT_LABELS
         }
@@ -181,6 +182,7 @@ fn remedy(
             Some(row) => Some(row),
             None => held_row(answer),
         },
+        TextCommand::Types => types_row(alloc, settings, request, text, answer),
         TextCommand::Show => whole_row(alloc, settings, text),
         TextCommand::Diff => diff_row(alloc, settings, text, request.arguments),
         TextCommand::Rights => found_in_mask(settings, text),
@@ -221,6 +223,28 @@ fn whole_row(alloc: Global, settings: &Settings, text: &str) -> Option<RemedyRow
     match read_whole_sddl(alloc, settings.aliases, text).err()? {
         TextError::Fault { fault, place } => found_in_whole(text, fault, place),
         TextError::Memory => None,
+    }
+}
+
+/// The row of advice for the texts of a question about a tree of object types: nothing where the tree is none.
+fn types_row(
+    alloc: Global,
+    settings: &Settings,
+    request: &TextRequest<'_>,
+    text: &str,
+    answer: &Answer,
+) -> Option<RemedyRow> {
+    if let Some(row) = whole_row(alloc, settings, text) {
+        return Some(row);
+    }
+    match (answer.lines.first()?.value(b"of")?, request.arguments) {
+        (Value::Text(of), [_tree, asked @ ..]) if of.as_str() != "tree" => argument_row(
+            alloc,
+            settings,
+            DescriptorCommand::Verdict,
+            asked,
+        ),
+        _ => None,
     }
 }
 

@@ -228,7 +228,8 @@ fn push_after_answer(
     ensures { OnOk result (lines.new.items ≡ lines.old.items ++ after_answer question) }
 {
     match question {
-        TextCommand::Show
+        TextCommand::Types
+        | TextCommand::Show
         | TextCommand::Diff
         | TextCommand::Descriptor(
             DescriptorCommand::Why

@@ -43,6 +43,15 @@ pub(crate) fn notes_on(
             push_lacking(alloc, settings, text, request.arguments, &mut notes)?;
             push_repeated(alloc, settings, request.arguments, &mut notes)?;
         }
+        (TextCommand::Types, [_tree, asked @ ..]) => {
+            push_empty(alloc, text, &mut notes)?;
+            push_limits(alloc, settings, false, text, &mut notes)?;
+            if let [_user, mask, words @ ..] = asked {
+                push_mask(alloc, mask, words, &mut notes)?;
+                push_view(alloc, settings, mask, &mut notes)?;
+            }
+            push_repeated(alloc, settings, asked, &mut notes)?;
+        }
         (TextCommand::Descriptor(DescriptorCommand::Who), [mask, words @ ..]) => {
             push_empty(alloc, text, &mut notes)?;
             push_limits(alloc, settings, true, text, &mut notes)?;

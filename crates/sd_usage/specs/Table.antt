@@ -46,6 +46,7 @@ count_of arguments.Nothing = 0
 count_of (arguments.One first) = 1
 count_of (arguments.Two first second) = 2
 count_of (arguments.Three first second third) = 3
+count_of (arguments.Four first second third fourth) = 4
 
 -- which one at this place, from 0
 abbrev pub argument_at : Arguments → ℕ → Option Argument
@@ -55,6 +56,9 @@ argument_at (arguments.Two first second) place =
     if place == 0 then Some first else (if place == 1 then Some second else None)
 argument_at (arguments.Three first second third) place =
     if place == 0 then Some first else (if place == 1 then Some second else (if place == 2 then Some third else None))
+argument_at (arguments.Four first second third fourth) place =
+    if place == 0 then Some first else (if place == 1 then Some second
+    else (if place == 2 then Some third else (if place == 3 then Some fourth else None)))
 
 -- it takes so many
 abbrev pub takes_count : Command → ℕ → Bool

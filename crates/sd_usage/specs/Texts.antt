@@ -58,6 +58,7 @@ argument_name names.Descriptor = codes "SDDL"
 argument_name names.Old = codes "OLD"
 argument_name names.New = codes "NEW"
 argument_name names.Bytes = codes "BYTES"
+argument_name names.Tree = codes "TREE"
 argument_name names.User = codes "USER"
 argument_name names.Mask = codes "MASK"
 argument_name names.Sid = codes "SID"
@@ -88,6 +89,8 @@ arguments_text arguments.Nothing = []
 arguments_text (arguments.One first) = first_text first
 arguments_text (arguments.Two first second) = first_text first ++ argument_text second
 arguments_text (arguments.Three first second third) = first_text first ++ argument_text second ++ argument_text third
+arguments_text (arguments.Four first second third fourth) =
+    first_text first ++ argument_text second ++ argument_text third ++ argument_text fourth
 
 abbrev pub repeated_text : Option Argument → List ℕ
 repeated_text None = []

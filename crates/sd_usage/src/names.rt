@@ -99,6 +99,7 @@ pub fn argument_name(argument: Argument) -> &'static str
         Argument::Old => "OLD",
         Argument::New => "NEW",
         Argument::Bytes => "BYTES",
+        Argument::Tree => "TREE",
         Argument::User => "USER",
         Argument::Mask => "MASK",
         Argument::Sid => "SID",
@@ -150,6 +151,10 @@ fn arguments_text(alloc: Global, arguments: Arguments) -> Result<String, AllocEr
         Arguments::One(argument) => first_text(alloc, argument),
         Arguments::Two(argument, next) => two_text(alloc, argument, next),
         Arguments::Three(argument, next, last) => three_text(alloc, argument, next, last),
+        Arguments::Four(first, second, third, last) => {
+            let before = three_text(alloc, first, second, third)?;
+            with_argument(alloc, before, last)
+        }
     }
 }
 
@@ -172,6 +177,15 @@ fn three_text(
 {
     let (first, last) = (two_text(alloc, argument, next)?, argument_name(last));
     let text = format!(in alloc; "{first} <{last}>")?;
+    Ok(text)
+}
+
+/// The text, and one argument more.
+fn with_argument(alloc: Global, before: String, argument: Argument) -> Result<String, AllocError>
+    ensures { IfOk result (λ text. string_bytes text ≡ string_bytes before ++ argument_text argument) }
+{
+    let (before, name) = (before.as_str(), argument_name(argument));
+    let text = format!(in alloc; "{before} <{name}>")?;
     Ok(text)
 }
 

@@ -9,6 +9,7 @@ pub(crate) fn notes_of(command: CommandName) -> &'static str {
         CommandName::Ask(TextCommand::FromBinary) => FROM_BINARY_NOTES,
         CommandName::Ask(TextCommand::Show) => SHOW_NOTES,
         CommandName::Ask(TextCommand::Diff) => DIFF_NOTES,
+        CommandName::Ask(TextCommand::Types) => TYPES_NOTES,
         CommandName::Ask(TextCommand::Rights) => RIGHTS_NOTES,
         CommandName::Ask(TextCommand::Sid) => SID_NOTES,
         CommandName::Script => SCRIPT_NOTES,
@@ -112,6 +113,23 @@ rights below 0x200000, granted or denied. With '--whole' the last line may be, w
 
 Statuses:
   0  granted
+  1  another verdict, that last line, or an invalid argument
+  2  the arguments aren't a valid command line
+  3  out of memory, or an output error";
+
+const TYPES_NOTES: &str = "\
+A first '--' after 'types' is dropped, and everything after it is an argument. Options go before
+'types': 'sdstore help' lists them. It goes only with '--whole'.
+
+Prints the verdict on each node, in the order of TREE, by [MS-DTYP] 2.5.3.2 (ObjectTypeList):
+  denied 0x10 at 0:bf967aba-0de6-11d0-a285-00aa003049e2
+  granted 0x10 at 1:e48d0154-bcf8-11d1-8702-00c04fb96050
+A right is granted on a node with others below it only if it is on all of these. MAXIMUM_ALLOWED,
+0x02000000, requests all rights that are granted. The last line may be, with status 1:
+  of the DACL and the label alone: the rest of the SACL is left out
+
+Statuses:
+  0  granted on each node
   1  another verdict, that last line, or an invalid argument
   2  the arguments aren't a valid command line
   3  out of memory, or an output error";
@@ -325,7 +343,7 @@ Statuses:
 const EACH_NOTES: &str = "\
 Each line of standard input is the first argument of COMMAND, as a descriptor, and has one answer,
 in order, a fault too. Every complete line is answered before more input is read: a program can
-write a line, wait for its answer, and write the next. Answers of 'why', 'who', 'compare',
+write a line, wait for its answer, and write the next. Answers of 'why', 'types', 'who', 'compare',
 'lint', 'show' and 'diff', which may have several lines, end with an empty line.
 
 A line ends with a line feed, and one carriage return before it is dropped; with '-0' it ends with a

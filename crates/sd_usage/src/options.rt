@@ -77,6 +77,24 @@ pub(crate) const VERDICT_OPTIONS: &[OptionName] = &[
     OptionName::StrictStatus,
 ];
 
+/// Of `types`: which object types are asked about, an argument of it says.
+pub(crate) const TYPES_OPTIONS: &[OptionName] = &[
+    OptionName::Stdin,
+    OptionName::Names,
+    OptionName::Whole,
+    OptionName::RequireDacl,
+    OptionName::Domain,
+    OptionName::Aliases,
+    OptionName::Mapping,
+    OptionName::Accounts,
+    OptionName::Logon,
+    OptionName::PrincipalSelf,
+    OptionName::Json,
+    OptionName::Color,
+    OptionName::Caret,
+    OptionName::StrictStatus,
+];
+
 pub(crate) const WHO_OPTIONS: &[OptionName] = &[
     OptionName::Stdin,
     OptionName::Names,

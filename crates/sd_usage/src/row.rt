@@ -49,6 +49,8 @@ pub enum TextCommand {
     Show,
     /// `diff`.
     Diff,
+    /// `types`.
+    Types,
     /// `rights`.
     Rights,
     /// `sid`.
@@ -176,6 +178,7 @@ pub enum Arguments {
     One(Argument),
     Two(Argument, Argument),
     Three(Argument, Argument, Argument),
+    Four(Argument, Argument, Argument, Argument),
 }
 
 /// An argument of a command.
@@ -189,6 +192,8 @@ pub enum Argument {
     New,
     /// `BYTES`: a descriptor in self-relative form ([MS-DTYP] 2.4.6).
     Bytes,
+    /// `TREE`: a tree of object types ([MS-DTYP] 2.5.3.2, ObjectTypeList).
+    Tree,
     /// `USER`: a user's SID ([MS-DTYP] 2.4.2.1).
     User,
     /// `MASK`: an access mask ([MS-DTYP] 2.4.3).
@@ -367,12 +372,17 @@ impl Arguments {
         ensures { result ≡ argument_at self place }
     {
         match self {
-            Arguments::One(first) | Arguments::Two(first, _) | Arguments::Three(first, ..)
-                if place == 0 => Some(first),
-            Arguments::Two(_, second) | Arguments::Three(_, second, _) if place == 1 => Some(
-                second,
+            Arguments::One(first)
+            | Arguments::Two(first, _)
+            | Arguments::Three(first, ..)
+            | Arguments::Four(first, ..) if place == 0 => Some(first),
+            Arguments::Two(_, second)
+            | Arguments::Three(_, second, _)
+            | Arguments::Four(_, second, ..) if place == 1 => Some(second),
+            Arguments::Three(_, _, third) | Arguments::Four(_, _, third, _) if place == 2 => Some(
+                third,
             ),
-            Arguments::Three(_, _, third) if place == 2 => Some(third),
+            Arguments::Four(_, _, _, fourth) if place == 3 => Some(fourth),
             _ => None,
         }
     }
@@ -386,6 +396,7 @@ impl Arguments {
             Arguments::One(..) => 1,
             Arguments::Two(..) => 2,
             Arguments::Three(..) => 3,
+            Arguments::Four(..) => 4,
         }
     }
 }

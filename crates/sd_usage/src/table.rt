@@ -2,7 +2,8 @@
 
 use crate::options::{
     BYTES_OPTIONS, COMPARE_OPTIONS, LINT_OPTIONS, PRINT_OPTIONS, RIGHTS_OPTIONS, SCRIPT_OPTIONS,
-    SHOW_OPTIONS, SID_OPTIONS, SORT_OPTIONS, TO_BINARY_OPTIONS, VERDICT_OPTIONS, WHO_OPTIONS,
+    SHOW_OPTIONS, SID_OPTIONS, SORT_OPTIONS, TO_BINARY_OPTIONS, TYPES_OPTIONS, VERDICT_OPTIONS,
+    WHO_OPTIONS,
 };
 use crate::row::{
     Argument, Arguments, Command, CommandName, CommandRow, DescriptorCommand, Flag, Flags,
@@ -35,6 +36,25 @@ sdstore verdict 'D:(D;;0x2;;;S-1-5-21-1-2-3-1001)(A;;0x1f01ff;;;S-1-5-21-1-2-3-1
         VERDICT_OPTIONS,
         "Prints whether a descriptor grants an access mask to a user, and why",
         "sdstore why 'D:(D;;0x2;;;BU)(A;;FR;;;BU)' S-1-5-21-1-2-3-1001 0x10003 BU",
+    ),
+    (
+        "types",
+        Command {
+            name: CommandName::Ask(TextCommand::Types),
+            flags: Flags::Nothing,
+            arguments: Arguments::Four(
+                Argument::Descriptor,
+                Argument::Tree,
+                Argument::User,
+                Argument::Mask,
+            ),
+            repeated: Some(Argument::Word),
+        },
+        TYPES_OPTIONS,
+        "Prints whether a descriptor grants an access mask to a user, for each node of a tree of object types",
+        "\
+sdstore --whole types 'O:BAG:SYD:(OA;;RP;bf967950-0de6-11d0-a285-00aa003049e2;;S-1-1-0)' \
+0:bf967aba-0de6-11d0-a285-00aa003049e2,1:bf967950-0de6-11d0-a285-00aa003049e2 S-1-5-21-1-2-3-1001 RP WD",
     ),
     (
         "who",

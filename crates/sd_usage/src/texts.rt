@@ -7,6 +7,10 @@ use std::alloc::{AllocError, Global};
 
 const USER: &str = "The user's SID: in full, as S-1-5-21-1-2-3-1001, or an alias, as SY";
 
+const TREE: &str = "\
+The nodes with commas between them, each LEVEL:GUID behind the one above it: the class has level 0, its
+property sets and properties 1 to 4";
+
 const MASK: &str = "\
 The access mask, written as the rights of an entry: names without a space, as FR or
 RCWD, or a number below 2^32, hexadecimal (0x1f01ff), octal (01777) or decimal (2032127)";
@@ -19,7 +23,7 @@ SID=off       a disabled group, which counts for nothing
 SID=restrict  a restricting SID, not a group: access is checked a second time, for these alone
 +security     SeSecurityPrivilege
 +take         SeTakeOwnershipPrivilege
-Under '--whole', of 'verdict' and 'why', also:
+Under '--whole', of 'verdict', 'why' and 'types', also:
 SID=device    a group of the device from which access is asked for
 level=LEVEL   the integrity level, by default medium: untrusted, low, medium, mediumplus, high, system
               or a number; a group S-1-16-N is one too, and of several the lowest counts
@@ -60,6 +64,7 @@ impl CommandTexts {
             Argument::Old => "The descriptor before the change, in SDDL",
             Argument::New => "The descriptor after the change, in SDDL",
             Argument::Bytes => "The bytes of the descriptor, in hexadecimal",
+            Argument::Tree => TREE,
             Argument::User => USER,
             Argument::Mask => MASK,
             Argument::Sid => "The SID: in full, as S-1-5-21-1-2-3-1001, or an alias, as SY",
