@@ -57,6 +57,10 @@ class Question(NamedTuple):
     principal_self: Optional[str] = None
     mapping: Tuple[int, ...] = FILES
 
+    def request(self) -> int:
+        """The mapped request without MAXIMUM_ALLOWED."""
+        return mapped(self.asked & ~MAXIMUM_ALLOWED, self.mapping)
+
     def options(self) -> List[str]:
         """The options before the command."""
         named = [] if self.mapping == FILES else ["--mapping", ",".join(map(hex, self.mapping))]
@@ -245,10 +249,26 @@ class Plain(NamedTuple):
         return self.everything | Plain(self.owner, [], self.token, 0).grants(RIGHTS)
 
 
-def answered(asked: int, request: int, granted: int, most: int) -> str:
+def granted(descriptor: model.Descriptor, question: Question,
+            specializing: MakeSpecializing = Specializing) -> Tuple[int, int]:
+    """What is granted of the mapped request, and what MAXIMUM_ALLOWED adds."""
+    client = client_of(question, resource_claims(descriptor))
+    entries = specializing(question, client.facts).entries(descriptor.dacl)
+    owner = descriptor.owner and evaluate.parts(descriptor.owner)
+    plain = Plain(owner, entries, client.facts.token, question.mapping[3])
+    left = ~taken(descriptor, client.level, question.mapping)
+    return plain.grants(question.request()) & left, plain.most() & left
+
+
+def answered(question: Question, of_request: int, most: int) -> str:
     """The verdict, of what is granted of the request, and of what MAXIMUM_ALLOWED adds."""
-    if request & ~granted:
-        return "denied " + hex(request & ~granted)
+    asked, request = question.asked, question.request()
+    if asked == 0:
+        return "empty"
+    if asked & RESERVED:
+        return "reserved " + hex(asked & RESERVED)
+    if request & ~of_request:
+        return "denied " + hex(request & ~of_request)
     if not asked & MAXIMUM_ALLOWED:
         return "granted " + hex(request) if request else "empty"
     return "granted " + hex(request | most) if request | most else "denied " + hex(MAXIMUM_ALLOWED)
@@ -257,23 +277,11 @@ def answered(asked: int, request: int, granted: int, most: int) -> str:
 def verdict(descriptor: model.Descriptor, question: Question, specializing: MakeSpecializing = Specializing) -> str:
     """The line that `sdstore --whole verdict` prints."""
     try:
-        client = client_of(question, resource_claims(descriptor))
-        entries = specializing(question, client.facts).entries(descriptor.dacl)
+        said = answered(question, *granted(descriptor, question, specializing))
     except NoWord:
         return "fault token"
     except EntryFault as fault:
         return str(fault)
-    asked, mapping = question.asked, question.mapping
-    if asked == 0:
-        return "empty"
-    if asked & RESERVED:
-        return "reserved " + hex(asked & RESERVED)
-    owner = descriptor.owner and evaluate.parts(descriptor.owner)
-    plain = Plain(owner, entries, client.facts.token, mapping[3])
-    left = ~taken(descriptor, client.level, mapping)
-    request = mapped(asked & ~MAXIMUM_ALLOWED, mapping)
-    most = plain.most() & left if asked & MAXIMUM_ALLOWED else 0
-    said = answered(asked, request, plain.grants(request) & left, most)
     return said + LEFT_OUT if said.startswith("granted") and has_limits(descriptor) else said
 
 
