@@ -68,11 +68,11 @@ pub nothing : {A : Type 0} (o : Option A) → false ≡ is_some o → o ≡ None
 nothing None e = refl
 nothing (Some x) e = cc
 
--- that of a key
+-- a key has its place
 pub key_found : (keys : List SidValue) (sid : SidValue) (n : ℕ) → position (sid_eq sid) keys ≡ Some n → (n < length keys) × (sid_at keys n ≡ sid)
 key_found keys sid n is = let at = position-Some (sid_eq sid) keys n nobody is in (at.0, sym (sid_eq-true sid (sid_at keys n) at.1))
 
--- that of a new key, behind the others
+-- a new key has the next one
 pub key_added : {S : Type 0} (old new : IndexMap SidValue (Vec ℕ) S) (sid : SidValue) (value : Vec ℕ) (n : ℕ) → get sid_eq old sid ≡ None → position (sid_eq sid) (keys old) ≡ None
     → new.entries ≡ insert_entry sid_eq old.entries sid value → n ≡ position_or_len (sid_eq sid) (keys old) → n < length new.entries
     → (n < length (keys new)) × (sid_at (keys new) n ≡ sid)

@@ -59,7 +59,8 @@ fn add_group(alloc: Global, index: &mut Index, member: Sid, group: Sid) -> Resul
 
 /// The group's number: where it has none it gets the next, and is in no group.
 fn number_of(alloc: Global, index: &mut Index, group: Sid) -> Result<usize, AllocError>
-    ensures group { IfOk result (λ number. (number < length (keys index.new)) × (sid_at (keys index.new) number ≡ group)) }
+    ensures group { IfOk result (λ number. (number < length (keys index.new))
+        × (sid_at (keys index.new) number ≡ group)) }
     ensures keys { OnOk result (Grows (keys index.old) (keys index.new)) }
     ensures groups { OnOk result ((m : SidValue) → numbers_at index.new m ≡ numbers_at index.old m) }
 {

@@ -1,4 +1,4 @@
--- Those of the SIDs so far.
+-- The SIDs so far, each once.
 use Rattle.std.proofs.Common.{[], ◌≡◌, take}
 use Rattle.std.specs.Prelude.{fold}
 use Rattle.sd_analysis.specs.Risks.{with_sid}
