@@ -1,4 +1,5 @@
-"""The lines that the program prints: the forms of forms.rt of sd_answer, sd_show, sd_script and sd_people, put together.
+"""The lines that the program prints: the forms of forms.rt of sd_answer, sd_show, sd_script, sd_people and sd_commands, put
+together.
 
 A form is words in which each `{name}` stands for a value, which a line's object has as the member of that name.
 LAYOUTS, WITH_PARTS and PLACES have which forms make a line, NUMBERS and ARRAYS of which type a value is: forms.rt says
@@ -12,7 +13,8 @@ from pathlib import Path
 from typing import Any, Iterator, NamedTuple
 
 CRATES = Path(__file__).resolve().parent.parent / "crates"
-SOURCES = [CRATES / crate / "src/forms.rt" for crate in ("sd_answer", "sd_show", "sd_script", "sd_people")]
+SOURCES = [CRATES / crate / "src/forms.rt"
+           for crate in ("sd_answer", "sd_show", "sd_script", "sd_people", "sd_commands")]
 
 FORM = re.compile(r"pub const ([A-Z_]+): (LineForm|BitsForm|&str) =\s*([^;]*);")
 USE = re.compile(r"use [\w:]+;|pub type BitsForm = [^;]*;")
@@ -21,7 +23,7 @@ NAME = re.compile(r"\{(\w+)\}")
 
 #: The values that are numbers, and those that are arrays of strings; all others are strings. A line has each string of an
 #: array after a space, and an object has no array that is empty.
-NUMBERS = ("at behind byte entry floor from_entry length number published readers repeats second_entry seen type"
+NUMBERS = ("at behind byte entry floor from_entry length level number published readers repeats second_entry seen type"
            " was_byte with_pending").split()
 ARRAYS = "control entries flags names policy unless way with".split()
 
@@ -30,6 +32,7 @@ ARRAYS = "control entries flags names policy unless way with".split()
 #: X_LIST, its SIDs. A form of a line that no layout has is a line by itself.
 LAYOUTS = """
 SEEN? GRANTED|DENIED|RESERVED|EMPTY
+GRANTED|DENIED|RESERVED|EMPTY AT_NODE
 SEEN? NO_NODE
 SEEN FOUND|GRANTED_BY|DENIED_ALL|SHOWN
 OPENED DIFFERS?

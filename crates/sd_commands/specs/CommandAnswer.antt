@@ -148,13 +148,16 @@ pub data Judged : Type 0 where
   Plain : DescriptorValue → Judged
   Whole : WholeDescriptor → Option NodesValue → Judged
 
+abbrev pub nodes_value : NodesAsked → NodesValue
+nodes_value asked = record { nodes = asked.nodes.items; tree = chains_in asked.tree }
+
 abbrev pub nodes_of : Option (Bor NodesAsked) → Option NodesValue
-nodes_of asked =
-    option_map (λ asked. record { nodes = asked.now.nodes.items; tree = chains_in asked.now.tree }) asked
+nodes_of asked = option_map (λ asked. nodes_value asked.now) asked
 
 abbrev pub judged_of : Subject → Judged
 judged_of (subjects.Plain d) = Plain (descriptor_of d.now)
-judged_of (subjects.Whole d nodes) = Whole d.now (nodes_of nodes)
+judged_of (subjects.Whole d) = Whole d.now None
+judged_of (subjects.Nodes d asked) = Whole d.now (Some (nodes_value asked.now))
 
 -- the verdict's line, or with it the reasons
 abbrev pub form_lines : Settings → Form → DescriptorValue → TokenValue → ℕ → List LineOf

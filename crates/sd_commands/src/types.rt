@@ -61,9 +61,10 @@ impl CommandContext<'_> {
         ensures { IfOk result (λ answer. AnswersTypesOn self.now.settings.now arguments.now descriptor.now
             (answer_of answer)) }
     {
-        match read_tree(self.alloc, argument(arguments, 0)) {
+        let tree = argument(&*arguments, 0);
+        match read_tree(self.alloc, tree) {
             Ok(asked) => {
-                let on = Subject::Whole(&*descriptor, Some(&asked));
+                let on = Subject::Nodes(&*descriptor, &asked);
                 self.verdict(Form::Short, on, items_from(arguments, 1))
             }
             Err(NodesError::Fault(fault)) => self.tree_fault(fault),
@@ -113,13 +114,14 @@ fn push_node_lines(
 ) -> Result<(), AllocError>
     ensures { OnOk result (lines.new.items ≡ lines.old.items ++ node_lines verdicts.now nodes.now) }
 {
-    match (verdicts, nodes) {
-        ([verdict, verdicts @ ..], [node, nodes @ ..]) => {
-            lines.push(node_line(alloc, *verdict, node)?)?;
-            push_node_lines(alloc, lines, verdicts, nodes)
-        }
-        _ => Ok(()),
-    }
+    let [verdict, verdicts @ ..] = verdicts else {
+        return Ok(());
+    };
+    let [node, nodes @ ..] = nodes else {
+        return Ok(());
+    };
+    lines.push(node_line(alloc, *verdict, node)?)?;
+    push_node_lines(alloc, lines, verdicts, nodes)
 }
 
 /// The line of a verdict on a node.

@@ -25,9 +25,10 @@ use std::alloc::AllocError;
 #[derive(Clone, Copy)]
 pub(crate) enum Subject<'a> {
     Plain(&'a Descriptor),
-    /// With its SACL and entries of every type; for each node of a tree of object types, or without one for those of
-    /// `--type`.
-    Whole(&'a WholeDescriptor, Option<&'a NodesAsked>),
+    /// With its SACL and entries of every type.
+    Whole(&'a WholeDescriptor),
+    /// The same, for each node of a tree of object types.
+    Nodes(&'a WholeDescriptor, &'a NodesAsked),
 }
 
 /// What an answer says of a verdict.
@@ -92,8 +93,11 @@ impl CommandContext<'_> {
         let words = words_for(self.alloc, self.settings.logon, words)?;
         match on {
             Subject::Plain(descriptor) => { self.for_token(form, descriptor, user, asked, &words) }
-            Subject::Whole(descriptor, nodes) => {
-                self.for_client(form, descriptor, nodes, user, asked, &words)
+            Subject::Whole(descriptor) => {
+                self.for_client(form, descriptor, None, user, asked, &words)
+            }
+            Subject::Nodes(descriptor, nodes) => {
+                self.for_client(form, descriptor, Some(nodes), user, asked, &words)
             }
         }
     }

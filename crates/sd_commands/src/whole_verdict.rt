@@ -60,7 +60,7 @@ impl CommandContext<'_> {
             (AnswersUser self.now.settings.now form arguments.now (Whole descriptor.now None)) (answer_of answer)) }
     {
         match missing_dacl(self.settings, &descriptor.dacl) {
-            None => self.verdict(form, Subject::Whole(descriptor, None), arguments),
+            None => self.verdict(form, Subject::Whole(descriptor), arguments),
             Some(missing) => self.fault("nodacl", "SDDL", missing),
         }
     }
@@ -111,10 +111,11 @@ impl CommandContext<'_> {
         let Some(NodesAsked { nodes, tree }) = nodes else {
             return self.verdict_for_client(form, descriptor, client, asked);
         };
+        let principal_self = self.settings.principal_self;
         let question = TreeQuestion {
             client,
             types: tree,
-            principal_self: self.settings.principal_self,
+            principal_self,
             mapping: &self.settings.mapping,
             asked,
         };
