@@ -1,5 +1,5 @@
--- TREE: the nodes of a tree of object types as an argument, `LEVEL:GUID` with commas between, as a list of them has them
--- ([MS-DTYP] 2.5.3.2, ObjectTypeList).
+-- TREE: the nodes of a tree of object types as an argument, `LEVEL:GUID` with commas between, as a list of them has
+-- them ([MS-DTYP] 2.5.3.2, ObjectTypeList).
 use Rattle.std.specs.Prelude.{◌≡◌, ℕ, ◌+◌, ◌-◌, ◌==◌, List, [], ◌∷◌, ◌++◌, length, Option, Some, None, Result, Ok, Err}
 use Rattle.std.specs.Prelude.{if◌then◌else◌, codes}
 use Rattle.std.specs.Char.{is_ascii_digit}

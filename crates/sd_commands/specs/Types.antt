@@ -1,6 +1,7 @@
 -- What is answered of each node of a tree of object types ([MS-DTYP] 2.5.3.2, ObjectTypeList): a verdict in a line for
 -- each, in the order of TREE; or why TREE is none.
-use Rattle.std.specs.Prelude.{ℕ, Bool, true, false, not, ◌||◌, if◌then◌else◌, List, [], ◌∷◌, ◌++◌, Result, Ok, Err, codes}
+use Rattle.std.specs.Prelude.{ℕ, Bool, true, false, not, ◌||◌, if◌then◌else◌, List, [], ◌∷◌, ◌++◌, Result, Ok, Err}
+use Rattle.std.specs.Prelude.{codes}
 use Rattle.std.specs.List.{list_all, list_any}
 use Rattle.sd_access.specs.Limits.{may_be_denied}
 use Rattle.sd_check.specs.declared.verdict.Verdict.{Verdict}

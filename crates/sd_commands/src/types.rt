@@ -5,7 +5,8 @@ ghost use Rattle.sd_commands.specs.Answer.{AnswersFit, answer_of};
 ghost use Rattle.sd_commands.specs.CommandAnswer.{AnswersTypes, AnswersTypesOn, argument};
 ghost use Rattle.sd_commands.specs.Nodes.{tree_in};
 ghost use Rattle.sd_commands.specs.Required.{missing_dacl};
-ghost use Rattle.sd_commands.specs.Types.{AnswersNodes, IsTreeFault, is_granted, node_line, node_lines, nodes_fault_line};
+ghost use Rattle.sd_commands.specs.Types.{AnswersNodes, IsTreeFault, is_granted, node_line, node_lines};
+ghost use Rattle.sd_commands.specs.Types.{nodes_fault_line};
 ghost use Rattle.sd_commands.specs.Types.{nodes_outcome, some_may_be_denied};
 ghost use Rattle.sd_types.specs.Verdicts.{tree_verdicts};
 

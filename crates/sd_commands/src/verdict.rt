@@ -27,7 +27,7 @@ pub(crate) enum Subject<'a> {
     Plain(&'a Descriptor),
     /// With its SACL and entries of every type.
     Whole(&'a WholeDescriptor),
-    /// The same, for each node of a tree of object types.
+    /// With all of these, for each node of a tree of object types.
     Nodes(&'a WholeDescriptor, &'a NodesAsked),
 }
 

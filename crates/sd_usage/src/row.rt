@@ -375,10 +375,12 @@ impl Arguments {
             Arguments::One(first)
             | Arguments::Two(first, _)
             | Arguments::Three(first, ..)
-            | Arguments::Four(first, ..) if place == 0 => Some(first),
+            | Arguments::Four(first, ..)
+                if place == 0 => Some(first),
             Arguments::Two(_, second)
             | Arguments::Three(_, second, _)
-            | Arguments::Four(_, second, ..) if place == 1 => Some(second),
+            | Arguments::Four(_, second, ..)
+                if place == 1 => Some(second),
             Arguments::Three(_, _, third) | Arguments::Four(_, _, third, _) if place == 2 => Some(
                 third,
             ),

@@ -8,7 +8,7 @@ use std::alloc::{AllocError, Global};
 const USER: &str = "The user's SID: in full, as S-1-5-21-1-2-3-1001, or an alias, as SY";
 
 const TREE: &str = "\
-The nodes with commas between them, each LEVEL:GUID behind the one above it: the class has level 0, its
+The nodes with commas between them, each LEVEL:GUID after the one above it: the class has level 0, its
 property sets and properties 1 to 4";
 
 const MASK: &str = "\
