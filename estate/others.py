@@ -35,7 +35,7 @@ def kept_of(whole: WholeDescriptor) -> Kept:
     except Refused as refused:
         if refused.status != "not plain":
             raise
-        plain, left_out = whole.with_entries(each for each in whole.dacl or () if not _is_other(each)).plain()
+        plain, left_out = whole.with_entries(each for each in whole.dacl if not _is_other(each)).plain()
         return Kept(str(plain), bool(left_out & 1), whole_text(whole), str(refused))
     return Kept(str(plain), bool(left_out & 1))
 
@@ -55,21 +55,26 @@ def whole_of(text: str) -> WholeDescriptor:
     return WholeDescriptor(bytes.fromhex(text[2:])) if text.startswith("0x") else WholeDescriptor.from_sddl(text)
 
 
+def listed(whole: WholeDescriptor) -> tuple[WholeEntry, ...]:
+    """The entries of the DACL. An absent or a null one has none, though it grants access to everyone."""
+    return whole.dacl if whole.dacl_kind == "list" else ()
+
+
 def others_of(text: str) -> list[WholeEntry]:
     """The entries of other types in the DACL of such a text: none if it is empty."""
-    return [each for each in whole_of(text).dacl or () if _is_other(each)] if text else []
+    return [each for each in listed(whole_of(text)) if _is_other(each)] if text else []
 
 
 def put_back(has: WholeDescriptor, before: str, after: str) -> WholeDescriptor:
     """The descriptor of the text after a change, with the entries of other types that a node has; but without those
     that it inherited if it no longer inherits. A ValueError says why it can't have them."""
-    new, old = WholeDescriptor(Descriptor.from_sddl(after)), list(has.dacl or ())
+    new, old = WholeDescriptor(Descriptor.from_sddl(after)), list(listed(has))
     if parts_of(before).inherits and not parts_of(after).inherits:
         old = [each for each in old if not (_is_other(each) and each.flags & INHERITED)]
     revision = has.dacl_revision
     if revision is None or not any(map(_is_other, old)):
         return new
-    if new.dacl is None:
+    if new.dacl_kind != "list":
         raise ValueError("a null DACL has no entries of other types")
     entries: list[WholeEntry] = []
     for flag in (0, INHERITED):

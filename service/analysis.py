@@ -117,7 +117,7 @@ def found(
     with view, token:
         _required(view, top, seen)
         yield Result("found", seen=seen)
-        for paths in deadline.parts(view.paths(), min(_AT_ONCE, _checks_at_once(words))):
+        for paths in deadline.parts(view, min(_AT_ONCE, _checks_at_once(words))):
             if top != "/":
                 paths = [path for path in paths if _is_within(top, path)]
             verdicts = view.check_all(paths, token, asked)
@@ -205,7 +205,7 @@ def reviewed(
         return _changes_of(was.compare(now, (), mapping))
 
     with old, new:
-        was, now = (list(deadline.paced(view.paths(), _AT_ONCE)) for view in (old, new))
+        was, now = (list(deadline.paced(view, _AT_ONCE)) for view in (old, new))
         stood, stands = frozenset(was), frozenset(now)
         if descriptor_in(new, top) is None and top not in stood:
             raise Fault(Result("nonode"))

@@ -59,7 +59,7 @@ def granted(
 
 
 def _lines(descriptor: Descriptor, asked: int, base: Sequence[Group], mapping: Mapping) -> list[str]:
-    return [str(each) for each in descriptor.who(asked, base, mapping)]
+    return [str(each) for each in descriptor.who(asked, base, mapping)] if asked else []
 
 
 def _main() -> None:

@@ -49,7 +49,7 @@ class Tree:
     @property
     def pending(self) -> int:
         """The number of pending edits."""
-        return len(self._store) - len(self.view)
+        return self._store.edits - self.view.edits
 
     def close(self) -> None:
         self.view.close()

@@ -1,6 +1,6 @@
 """Who may do what with a file, the parts of its descriptor, and what a refusal says."""
 
-from hudarin import DENY_ONLY, Descriptor, Refused, Sid, Store, mask
+from hudarin import DENY_ONLY, Closed, Descriptor, Entry, NoList, Refused, Sid, Store, Token, check_all, mask
 
 descriptor = Descriptor.from_sddl("o:bag:syd:(d;;fw;;;s-1-5-21-1-2-3-1001)(a;;fa;;;bu)")
 user = Sid.from_text("S-1-5-21-1-2-3-1001")
@@ -8,8 +8,15 @@ groups = [Sid.from_text("BU"), (Sid.from_text("BA"), DENY_ONLY)]
 
 print(len(bytes(descriptor)), "bytes:", descriptor)
 print("owner:", descriptor.owner, "group:", descriptor.group)
-for entry in descriptor.entries or ():
+for entry in descriptor.entries:
     print(entry.kind, hex(entry.mask), entry.sid)
+print("built:", Descriptor.of([Entry.deny("FW", user), Entry.allow("FA", groups[0])], owner=descriptor.owner))
+
+# A descriptor without a list grants access to everyone: it isn't one without entries.
+try:
+    print(Descriptor.from_sddl("D:NO_ACCESS_CONTROL").entries)
+except NoList as e:
+    print("no list:", e.kind)
 
 # A verdict is true if all that was asked for is granted.
 print("may read" if descriptor.check(user, groups, asked=0x1) else "may not read")
@@ -18,6 +25,14 @@ print("read:", descriptor.check(user, groups, asked=0x1))
 print("write:", descriptor.check(user, groups, asked=0x2))
 print("all that is granted:", descriptor.check(user, groups, asked=0x02000000))
 print("GR, without groups:", descriptor.check(user, asked=mask("GR")))
+
+# Of many descriptors at once, by a token, until that is closed.
+with Token(user, groups) as token:
+    print("may read:", *check_all([descriptor, Descriptor.from_sddl("D:")], token, 0x1))
+try:
+    descriptor.check_by(token, 0x1)
+except Closed as e:
+    print("closed:", e.argument)
 
 # Of all users, not of one; and what a change grants them, with a token that shows it.
 print("write:", *descriptor.who(0x2))
@@ -31,7 +46,8 @@ for finding in Descriptor.from_sddl("D:(A;;FR;;;BU)(A;;FR;;;BU)").lint():
 # What a publish would change, of the nodes of a tree.
 with Store(Descriptor.from_sddl("O:BAG:SYD:(A;OICI;FR;;;BU)")) as store:
     store.add_object("/report", Descriptor.from_sddl("O:BAG:SYD:"))
-    store.publish().close()
+    with store.publish() as view:
+        print(*view, "/report" in view)
     store.set_dacl("/", Descriptor.from_sddl("D:(A;OICI;FA;;;BU)"))
     print(*store.review(), sep="\n")
 

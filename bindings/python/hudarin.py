@@ -11,7 +11,8 @@ pickled by their bytes. A ``Token``, a ``Client``, ``Accounts``, a ``KeptDescrip
 memory of the library until they are closed, and can't be copied. Any number of threads may use this module.
 
 A value of the wrong type is a TypeError. A number out of range is a ValueError. What the library rejects is a
-``Refused``, which is a ValueError too. Out of memory is a MemoryError.
+``Refused``, which is a ValueError too; of these ``Closed`` says that an object is closed. Out of memory is a
+MemoryError.
 
 The shared library is the one that the environment variable HUDARIN_LIBRARY names. Without it: of a checkout the one
 that bindings/build made, of an installation the one of the same prefix, and else the one that the system's loader
@@ -25,6 +26,7 @@ import os
 import struct
 import threading
 import uuid
+from pathlib import PurePath
 from typing import Any, Callable, ContextManager, Dict, Iterable, Iterator, List, NamedTuple, NoReturn, Optional
 from typing import SupportsBytes, Tuple, Type, TypeVar, Union, cast
 
@@ -33,10 +35,12 @@ __version__ = "0.3.0"
 __all__ = [
     "ARGUMENTS",
     "Access",
+    "Accesses",
     "Accounts",
     "CAUSES",
     "Change",
     "Client",
+    "Closed",
     "Comparison",
     "DENY_ONLY",
     "DISABLED",
@@ -54,7 +58,9 @@ __all__ = [
     "KEYS",
     "KeptDescriptor",
     "Mask",
+    "NoList",
     "Node",
+    "NodePath",
     "OF_DACL",
     "OF_GROUP",
     "OF_OWNER",
@@ -76,8 +82,10 @@ __all__ = [
     "View",
     "WholeDescriptor",
     "WholeEntry",
+    "check_all",
     "mask",
     "mask_names",
+    "who_all",
 ]
 
 _SIZE = ctypes.c_size_t
@@ -160,6 +168,7 @@ DISABLED, ENABLED, DENY_ONLY = 0x0, 0x4, 0x10
 SECURITY, TAKE_OWNERSHIP = 0x1, 0x2
 #: The flags of an entry, by their names in SDDL.
 FLAGS = {"OI": 0x1, "CI": 0x2, "NP": 0x4, "IO": 0x8, "ID": 0x10, "SA": 0x40, "FA": 0x80}
+_ALL_FLAGS = sum(FLAGS.values())
 #: The generic mappings of files, registry keys, services and processes: the masks of GENERIC_READ, GENERIC_WRITE,
 #: GENERIC_EXECUTE and GENERIC_ALL.
 FILES = (0x120089, 0x120116, 0x1200A0, 0x1F01FF)
@@ -174,7 +183,11 @@ _MAXIMUM_ALLOWED = 0x02000000
 _MEMORY, _ROOM, _TEXT, _SID, _HANDLE, _NO_NODE, _DOMAIN, _NO_PART = 1, 2, 4, 6, 11, 16, 17, 18
 _WITH_FAULTS = (_TEXT, 5, 6, 13, 15, 19, 20, 21, 25, 26, 27)
 _CONTAINER = 1
-_LIST, _ALLOW, _PROTECTED = 3, 1, 0x1000
+_LIST = 3
+#: Bits of a descriptor's control word.
+_PRESENT, _PROTECTED = 0x0004, 0x1000
+#: The headers of a descriptor and of a list, and an entry up to its SID ([MS-DTYP] 2.4.4 to 2.4.6).
+_HEADER, _ACL, _ENTRY = struct.Struct("<HHIIII"), struct.Struct("<HHHH"), struct.Struct("<BBHI")
 _LISTS = {1: "DACL", 2: "SACL"}
 _OBJECT_TYPES = (0x05, 0x06, 0x07, 0x08, 0x0B, 0x0C, 0x0F)
 _BY_THE_LIST = 2
@@ -257,14 +270,6 @@ class _WholeEntry(ctypes.Structure):
 
 class _NodeAnswer(ctypes.Structure):
     _fields_ = [("written", _Written), ("kind", _U32)]
-
-
-class _Dacl(ctypes.Structure):
-    _fields_ = [("status", _U32), ("kind", _U32), ("control", _U32), ("entries", _U64)]
-
-
-class _EntryAnswer(ctypes.Structure):
-    _fields_ = [("written", _Written), ("kind", _U32), ("flags", _U32), ("mask", _U32)]
 
 
 class _Comparison(ctypes.Structure):
@@ -351,7 +356,6 @@ def _load() -> ctypes.CDLL:
         "whole_plain": (given + buffer, _Trimmed),
         "whole_with_parts": (given * 2 + [_U32] + buffer, _Written),
         "whole_with_entries": (given + [_U32] * 2 + given + buffer, _Written),
-        "whole_trustee": (given + [_U32] + buffer, _Written),
         "whole_list": (given + [_U32], _WholeList),
         "whole_entry": (given + [_U32, _U64] + buffer, _WholeEntry),
         "mask_from_text": (given, _Mask),
@@ -363,11 +367,6 @@ def _load() -> ctypes.CDLL:
         "keep_accounts": (given + [kept], _Written),
         "account_sids": ([kept] + given * 2 + buffer, _Written),
         "account_users": ([kept] + buffer, _Written),
-        "descriptor_owner": ([kept] + buffer, _Written),
-        "descriptor_group": ([kept] + buffer, _Written),
-        "descriptor_dacl": ([kept], _Dacl),
-        "descriptor_entry": ([kept, _U64] + buffer, _EntryAnswer),
-        "descriptor_subject": ([kept, _U64] + buffer, _Written),
         "check_kept": ([kept, kept] + request, _Verdict),
         "check_bytes": (given + [kept] + request, _Verdict),
         "check_whole": (given + [kept] + given * 2 + request, _Verdict),
@@ -415,6 +414,7 @@ def _short(name: str) -> Callable[..., Any]:
     return cast(Callable[..., Any], call)
 
 
+_check_bytes = _short("hudarin_check_bytes")
 _view_check = _short("hudarin_view_check")
 _lines_count = _short("hudarin_lines_count")
 _line_print = _short("hudarin_line_print")
@@ -465,6 +465,25 @@ class Refused(ValueError):
         return type(self), (self.status, self.fault, self.name, self.place, self.argument), self.__dict__
 
 
+class Closed(Refused):
+    """A ``Token``, a ``View`` or another object that holds memory of the library is closed: ``argument`` says which."""
+
+    def __str__(self) -> str:
+        return f"{self.argument}: it is closed"
+
+
+class NoList(ValueError):
+    """A DACL has no entries, as it is no list but absent or null: everyone is granted the standard rights and the
+    object's own. ``kind`` is "absent" or "null"."""
+
+    def __init__(self, kind: str) -> None:
+        self.kind = kind
+        super().__init__(kind)
+
+    def __str__(self) -> str:
+        return f"the DACL is {self.kind}, so everyone is granted access, and there are no entries"
+
+
 #: What the bytes of a SID or of a descriptor are taken from.
 Data = Union[bytes, bytearray, memoryview, SupportsBytes]
 #: A mask: a number, or a text as ``mask`` parses it.
@@ -479,7 +498,8 @@ def _refuse(answer: Any, kind: str = "sddl", argument: Optional[str] = None) -> 
     status = kind if answer.status == _TEXT else STATUSES[answer.status]
     names = FAULTS["sddl"] if answer.status == _TEXT else FAULTS.get(status, ())
     name = names[answer.fault - 1] if answer.fault else None
-    raise Refused(status, answer.fault, name, answer.place, ARGUMENTS.get(getattr(answer, "argument", 0), argument))
+    refusal = Closed if answer.status == _HANDLE else Refused
+    raise refusal(status, answer.fault, name, answer.place, ARGUMENTS.get(getattr(answer, "argument", 0), argument))
 
 
 def _checked(answer: Any, kind: str = "sddl", argument: Optional[str] = None) -> Any:
@@ -512,6 +532,14 @@ def _text(value: object) -> bytes:
     if not isinstance(value, str):
         raise TypeError(f"expected a str, not {value!r}")
     return value.encode("utf-8", "surrogatepass")
+
+
+#: The path of a node: "/" for the root, else each name after a "/".
+NodePath = Union[str, PurePath]
+
+
+def _path(path: object) -> bytes:
+    return _text(path.as_posix() if isinstance(path, PurePath) else path)
 
 
 def _data(value: object) -> bytes:
@@ -703,8 +731,10 @@ class _Bytes:
         return type(self), (self._bytes,)
 
 
+@functools.total_ordering
 class Sid(_Bytes):
-    """A security identifier: ``Sid(data)`` is the one at the front of the bytes. Bytes after it are ignored."""
+    """A security identifier: ``Sid(data)`` is the one at the front of the bytes. Bytes after it are ignored. SIDs are
+    ordered by their numbers: the authority, then the sub-authorities."""
 
     __slots__ = ()
 
@@ -727,14 +757,44 @@ class Sid(_Bytes):
         """The SID in full, though it may have an alias."""
         return _written(_library.hudarin_sid_bytes_to_full_text, self._bytes).decode()
 
+    def __format__(self, form: str) -> str:
+        return format(str(self), form)
+
     def __repr__(self) -> str:
         return f"Sid.from_text({str(self)!r})"
+
+    @property
+    def _numbers(self) -> Tuple[int, ...]:
+        """The authority, and the sub-authorities."""
+        return int.from_bytes(self._bytes[2:8], "big"), *struct.unpack(f"<{self._bytes[1]}I", self._bytes[8:])
+
+    @property
+    def rid(self) -> int:
+        """The last sub-authority, as that of an account in its domain."""
+        return self._numbers[-1]
+
+    @property
+    def domain(self) -> Optional["Sid"]:
+        """The SID of the domain that a user or a group is of: of "S-1-5-21-1-2-3-1001" "S-1-5-21-1-2-3". None of a SID
+        of another form."""
+        is_of_domain = self._bytes[1] == 5 and self._numbers[:2] == (5, 21)
+        return Sid._of(b"\x01\x04" + self._bytes[2:-4]) if is_of_domain else None
 
     def __eq__(self, other: object) -> bool:
         return isinstance(other, Sid) and self._bytes == other._bytes
 
+    def __lt__(self, other: "Sid") -> bool:
+        return self._numbers < other._numbers if isinstance(other, Sid) else NotImplemented
+
     __hash__ = _Bytes.__hash__
 
+
+def _sid_at(data: bytes, at: int) -> Sid:
+    """The SID at a place of bytes that the library has tested."""
+    return Sid._of(data[at : at + 8 + 4 * data[at + 1]])
+
+
+_OWNER_RIGHTS = Sid.from_text("S-1-3-4")
 
 #: A group that is enabled, or a group with its state.
 Group = Union[Sid, Tuple[Sid, int]]
@@ -782,7 +842,6 @@ class _Held:
     _turn: ContextManager[Any]
 
     def __new__(cls: Type[_H], *_arguments: object, **_named: object) -> _H:
-        # A second call of __init__ finds the memory here, and the library refuses to keep more.
         held = object.__new__(cls)
         held._kept, held._turn = _Kept(), threading.RLock()
         return held
@@ -791,6 +850,13 @@ class _Held:
         """Frees the memory. A second call does nothing."""
         with self._turn:
             _library.hudarin_release(self._kept)
+
+    def _keep(self, call: Callable[..., Any], *given: Any) -> None:
+        """Keeps what the call makes of what it is given."""
+        with self._turn:
+            if self._kept.is_there:
+                raise RuntimeError(f"{self._argument}: it is made already")
+            _checked(call(*given, self._kept), argument=self._argument)
 
     def _share(self: _H) -> _H:
         """Another object that holds the same."""
@@ -825,9 +891,7 @@ class Token(_Held):
     def __init__(
         self, user: Sid, groups: Iterable[Group] = (), privileges: int = 0, restricting: Iterable[Sid] = ()
     ) -> None:
-        given = _token(user, groups, privileges, restricting)
-        with self._turn:
-            _checked(_library.hudarin_keep_token(*given, self._kept), argument=self._argument)
+        self._keep(_library.hudarin_keep_token, *_token(user, groups, privileges, restricting))
 
     def share(self) -> "Token":
         """Another token of the same user, groups and privileges, which is closed by itself."""
@@ -860,9 +924,7 @@ class Client(_Held):
     def __init__(self, user: Sid, words: Iterable[str] = (), domain: Optional[Sid] = None) -> None:
         sid = b"" if domain is None else bytes(_of_type(domain, Sid, "domain"))
         who, given = bytes(_of_type(user, Sid, "user")), _words(words)
-        with self._turn:
-            call = _library.hudarin_keep_client
-            _checked(call(sid, len(sid), who, len(who), given, len(given), self._kept))
+        self._keep(_library.hudarin_keep_client, sid, len(sid), who, len(who), given, len(given))
 
     def share(self) -> "Client":
         """Another client of the same user and words, which is closed by itself."""
@@ -873,9 +935,9 @@ def _joined(data: bytes) -> Iterator[Sid]:
     """The SIDs whose bytes are concatenated."""
     at = 0
     while at < len(data):
-        end = at + 8 + 4 * data[at + 1]
-        yield Sid._of(data[at:end])
-        at = end
+        sid = _sid_at(data, at)
+        yield sid
+        at += len(sid._bytes)
 
 
 def _of_accounts(answer: Any) -> str:
@@ -896,8 +958,7 @@ class Accounts(_Held):
 
     def __init__(self, text: str) -> None:
         given = _text(text)
-        with self._turn:
-            _checked(_library.hudarin_keep_accounts(given, len(given), self._kept), argument=self._argument)
+        self._keep(_library.hudarin_keep_accounts, given, len(given))
 
     def sids(self, user: str, domain: Optional[Sid] = None) -> Tuple[Sid, ...]:
         """The SIDs in the token of a user that logged on, each once: first the user's own, then Everyone, Authenticated
@@ -934,7 +995,7 @@ class Accounts(_Held):
 
 
 class Entry(NamedTuple):
-    """An entry of a descriptor's list."""
+    """An entry of a descriptor's list; ``Entry.allow`` and ``Entry.deny`` make one. It prints as its text."""
 
     #: "allow" or "deny".
     kind: str
@@ -942,18 +1003,59 @@ class Entry(NamedTuple):
     flags: int
     mask: int
     sid: Sid
-    #: The entry in SDDL, as "(A;OICI;FR;;;BU)".
-    text: str
-    #: The SID by which the entry applies to a token: its own, but of OWNER RIGHTS (S-1-3-4) the owner, or None.
-    subject: Optional[Sid]
+
+    @classmethod
+    def allow(cls, mask: Mask, sid: Sid, flags: Union[int, str] = 0) -> "Entry":
+        """An entry that allows the mask to the SID. Flags are numbers of ``FLAGS``, joined by |, or names: "OICI"."""
+        return cls("allow", _flags(flags), _mask(mask, "mask"), _of_type(sid, Sid, "sid"))
+
+    @classmethod
+    def deny(cls, mask: Mask, sid: Sid, flags: Union[int, str] = 0) -> "Entry":
+        """An entry that denies the mask to the SID."""
+        return cls.allow(mask, sid, flags)._replace(kind="deny")
+
+    @property
+    def text(self) -> str:
+        """The entry in SDDL, as "(A;OICI;FR;;;BU)"."""
+        return _written(_library.hudarin_bytes_to_sddl, _self_relative([bytes(self)])).decode()[2:]
+
+    def __bytes__(self) -> bytes:
+        """The entry as it is in a list."""
+        if self.kind not in ("allow", "deny"):
+            raise ValueError(f"kind: {self.kind!r} is neither 'allow' nor 'deny'")
+        flags, sid = _flags(self.flags), bytes(_of_type(self.sid, Sid, "sid"))
+        return _ENTRY.pack(self.kind == "deny", flags, 8 + len(sid), _number(self.mask, "mask")) + sid
 
     def __str__(self) -> str:
         return self.text
 
 
+def _flags(flags: object) -> int:
+    """The flags of an entry, by their numbers or their names."""
+    if isinstance(flags, str):
+        names = [flags[at : at + 2].upper() for at in range(0, len(flags), 2)]
+        unknown = [name for name in names if name not in FLAGS]
+        number = sum(FLAGS[name] for name in set(names) - set(unknown))
+    else:
+        number = _number(flags, "flags")
+        unknown = [hex(number)] if number & ~_ALL_FLAGS else []
+    if unknown:
+        raise ValueError(f"flags: {unknown[0]} is none of an entry")
+    return number
+
+
+def _self_relative(entries: Iterable[bytes], owner: bytes = b"", group: bytes = b"", control: int = 0) -> bytes:
+    """The bytes of a descriptor with these parts, a list of these entries and these bits of its control word."""
+    given = [*entries]
+    body, ends = b"".join(given), (20, 20 + len(owner), 20 + len(owner) + len(group))
+    offsets = ends[0] if owner else 0, ends[1] if group else 0, 0, ends[2]
+    head = _HEADER.pack(1, 0x8000 | _PRESENT | control, *offsets)
+    return head + owner + group + _ACL.pack(2, _number(8 + len(body), "a list's bytes", 16), len(given), 0) + body
+
+
 class Access(NamedTuple):
-    """Rights, and a way to be granted them: by ``sid``, in a token that has none of ``unless``. It prints as a line of
-    ``sdstore who``."""
+    """Rights, and a way to be granted them: by ``sid``, in a token that has none of ``unless``. It is false if nobody
+    is granted them, and prints as a line of ``sdstore who``."""
 
     mask: int
     #: "sid", "owner", "everyone" or "nobody".
@@ -963,10 +1065,25 @@ class Access(NamedTuple):
     #: None of these is in the token, enabled or for denies alone.
     unless: Tuple[Sid, ...]
 
+    def __bool__(self) -> bool:
+        return self.holder != "nobody"
+
     def __str__(self) -> str:
         holder = self.sid.full + (" as the owner" if self.holder == "owner" else "") if self.sid else self.holder
         unless = " unless " + " ".join(sid.full for sid in self.unless) if self.unless else ""
         return f"{self.mask:#x} to {holder}{unless}"
+
+
+class Accesses(Tuple[Access, ...]):
+    """Who is granted which rights. It is false if nobody is granted any, and prints as ``sdstore who`` does."""
+
+    __slots__ = ()
+
+    def __bool__(self) -> bool:
+        return any(self)
+
+    def __str__(self) -> str:
+        return "\n".join(map(str, self))
 
 
 class Change(NamedTuple):
@@ -1146,7 +1263,37 @@ def _finding(lines: _Lines, index: int) -> Finding:
     return Finding(kind, entry, ace, other, lines.printed(index))
 
 
-class Descriptor(_Bytes):
+class _SelfRelative(_Bytes):
+    """A descriptor in self-relative form. Its parts are read from the bytes, which the library has tested: a call for
+    each takes several times as long."""
+
+    __slots__ = ()
+
+    @property
+    def owner(self) -> Optional[Sid]:
+        """The owner, or None."""
+        at = _HEADER.unpack_from(self._bytes)[2]
+        return _sid_at(self._bytes, at) if at else None
+
+    @property
+    def group(self) -> Optional[Sid]:
+        """The group, or None."""
+        at = _HEADER.unpack_from(self._bytes)[3]
+        return _sid_at(self._bytes, at) if at else None
+
+    @property
+    def dacl_kind(self) -> str:
+        """"list", or where there is no list "absent" or "null": these grant the standard rights and the object's own to
+        everyone. An empty list grants nothing by itself."""
+        _, control, _, _, _, at = _HEADER.unpack_from(self._bytes)
+        return ("list" if at else "null") if control & _PRESENT else "absent"
+
+    def _require_list(self) -> None:
+        if self.dacl_kind != "list":
+            raise NoList(self.dacl_kind)
+
+
+class Descriptor(_SelfRelative):
     """A security descriptor: ``Descriptor(data)`` is the one at the front of the bytes, which are in self-relative
     form. It keeps them up to the end of its last part. A SACL, and entries of other types than allow and deny, are
     ``Refused``: a ``WholeDescriptor`` has them, and ``plain`` leaves its SACL out."""
@@ -1175,39 +1322,53 @@ class Descriptor(_Bytes):
 
     __hash__ = _Bytes.__hash__
 
-    @property
-    def owner(self) -> Optional[Sid]:
-        """The owner, or None."""
-        with KeptDescriptor(self) as kept:
-            return kept._sid(_library.hudarin_descriptor_owner)
-
-    @property
-    def group(self) -> Optional[Sid]:
-        """The group, or None."""
-        with KeptDescriptor(self) as kept:
-            return kept._sid(_library.hudarin_descriptor_group)
+    @classmethod
+    def of(
+        cls,
+        entries: Iterable[Entry],
+        owner: Optional[Sid] = None,
+        group: Optional[Sid] = None,
+        is_protected: bool = False,
+    ) -> "Descriptor":
+        """The descriptor with a list of these entries in their order, of none an empty list, which grants nothing by
+        itself. A list of more than 65,535 bytes is a ValueError."""
+        given = [bytes(_of_type(entry, Entry, "entries")) for entry in entries]
+        first = b"" if owner is None else bytes(_of_type(owner, Sid, "owner"))
+        second = b"" if group is None else bytes(_of_type(group, Sid, "group"))
+        shield = _PROTECTED if _of_type(is_protected, bool, "is_protected") else 0
+        return cls(_self_relative(given, first, second, shield))
 
     @property
     def is_protected(self) -> bool:
         """Whether it inherits no entries."""
-        with KeptDescriptor(self) as kept:
-            return bool(kept._dacl().control & _PROTECTED)
+        bits = _PRESENT | _PROTECTED
+        return bool(_HEADER.unpack_from(self._bytes)[1] & bits == bits)
 
     @property
-    def entries(self) -> Optional[Tuple[Entry, ...]]:
-        """The entries of the DACL in their order. None if there is no list, but an absent or a null DACL, which grants
-        the standard rights and the object's own to everyone. An empty list has no entries, and grants nothing by
-        itself."""
-        with KeptDescriptor(self) as kept:
-            if kept._dacl().kind != _LIST:
-                return None
-            return tuple(kept._entry_at(index, text) for index, text in enumerate(_entry_texts(str(self))))
+    def entries(self) -> Tuple[Entry, ...]:
+        """The entries of the DACL in their order. An absent or a null DACL, which grants access to everyone, raises
+        ``NoList``: ``dacl_kind`` says so before."""
+        self._require_list()
+        data, found = self._bytes, []
+        at = _HEADER.unpack_from(data)[5]
+        count, at = _ACL.unpack_from(data, at)[2], at + _ACL.size
+        for _ in range(count):
+            kind, flags, size, mask = _ENTRY.unpack_from(data, at)
+            found.append(Entry("deny" if kind else "allow", flags & _ALL_FLAGS, mask, _sid_at(data, at + _ENTRY.size)))
+            at += size
+        return tuple(found)
+
+    def subject(self, entry: Entry) -> Optional[Sid]:
+        """The SID by which an entry of it applies to a token: the entry's own, but of OWNER RIGHTS (S-1-3-4) the owner,
+        or None."""
+        return self.owner if _of_type(entry, Entry, "entry").sid == _OWNER_RIGHTS else entry.sid
 
     def check(
         self,
         user: Sid,
         groups: Iterable[Group] = (),
-        asked: Mask = 0,
+        *,
+        asked: Mask,
         privileges: int = 0,
         mapping: Iterable[Mask] = FILES,
         restricting: Iterable[Sid] = (),
@@ -1220,8 +1381,8 @@ class Descriptor(_Bytes):
         request = _mapping(mapping), _mask(asked, "asked")
         return _verdict(_library.hudarin_check(self._bytes, len(self._bytes), *token, *request))
 
-    def check_by(self, token: Token, asked: Mask = 0, mapping: Iterable[Mask] = FILES) -> Verdict:
-        """The same for a ``Token``. A closed one is ``Refused``."""
+    def check_by(self, token: Token, asked: Mask, mapping: Iterable[Mask] = FILES) -> Verdict:
+        """The same for a ``Token``."""
         _of_type(token, Token, "token")
         request = _mapping(mapping), _mask(asked, "asked")
         with token._turn:
@@ -1232,7 +1393,8 @@ class Descriptor(_Bytes):
         self,
         user: Sid,
         groups: Iterable[Group] = (),
-        asked: Mask = 0,
+        *,
+        asked: Mask,
         privileges: int = 0,
         mapping: Iterable[Mask] = FILES,
         restricting: Iterable[Sid] = (),
@@ -1243,14 +1405,16 @@ class Descriptor(_Bytes):
 
     def who(
         self, asked: Mask = _MAXIMUM_ALLOWED, base: Iterable[Group] = (), mapping: Iterable[Mask] = FILES
-    ) -> Tuple[Access, ...]:
-        """Who is granted which rights of ``asked``, or of all, among all tokens that have the groups of the ``base``. A
-        token that nothing restricts, and without privileges, is granted a right if and only if one of the accesses with
-        that right holds for it."""
+    ) -> Accesses:
+        """Who is granted which rights of ``asked``, or of all, among all tokens that have the groups of the ``base``:
+        false if nobody is granted any. A token that nothing restricts, and without privileges, is granted a right if
+        and only if one of the accesses with that right holds for it. To ask for no right is a ValueError."""
         given, request = _groups(base), (_mapping(mapping), _mask(asked, "asked"))
+        if request[1] == 0:
+            raise ValueError("asked: no right is asked for")
         with KeptDescriptor(self) as kept, _Lines() as lines:
             _checked(_library.hudarin_who(kept._kept, *given, *request, lines._kept))
-            return tuple(_access(lines, index) for index in range(len(lines)))
+            return Accesses(_access(lines, index) for index in range(len(lines)))
 
     def lint(self, base: Iterable[Group] = (), mapping: Iterable[Mask] = FILES) -> Tuple[Finding, ...]:
         """What is doubtful in the descriptor, where all tokens have the groups of the ``base``, in the order of
@@ -1279,9 +1443,37 @@ class Descriptor(_Bytes):
         return Comparison(own[0], own[1], tuple(each for each in changes if each.of), inheritance)
 
 
+def check_all(
+    descriptors: Iterable[Descriptor], token: Token, asked: Mask, mapping: Iterable[Mask] = FILES
+) -> List[Verdict]:
+    """The verdict of ``check_by`` of each, faster than one by one, and of equal ones once."""
+    _of_type(token, Token, "token")
+    request = _mapping(mapping), _mask(asked, "asked")
+    given = [bytes(_of_type(one, Descriptor, "descriptors")) for one in descriptors]
+    with token._turn:
+        kept = token._kept
+        answers = {data: _check_bytes(data, len(data), kept, *request) for data in set(given)}
+    verdicts = {data: _verdict(answer) for data, answer in answers.items()}
+    return [verdicts[data] for data in given]
+
+
+def who_all(
+    descriptors: Iterable[Descriptor],
+    asked: Mask = _MAXIMUM_ALLOWED,
+    base: Iterable[Group] = (),
+    mapping: Iterable[Mask] = FILES,
+) -> List[Accesses]:
+    """The accesses of ``who`` of each, of equal ones once."""
+    groups, masks = tuple(base), tuple(mapping)
+    given = [_of_type(one, Descriptor, "descriptors") for one in descriptors]
+    found = {one: one.who(asked, groups, masks) for one in set(given)}
+    return [found[one] for one in given]
+
+
 def _unnamed(*descriptors: Descriptor) -> Sid:
     """A SID that none of the descriptors names."""
-    named = {sid for one in descriptors for sid in (one.owner, *(entry.sid for entry in one.entries or ()))}
+    lists = [one.entries if one.dacl_kind == "list" else () for one in descriptors]
+    named = {one.owner for one in descriptors} | {entry.sid for entries in lists for entry in entries}
     numbered = (Sid.from_text(f"S-1-0-{number}") for number in itertools.count())
     return next(sid for sid in numbered if sid not in named)
 
@@ -1305,11 +1497,8 @@ class WholeEntry(NamedTuple):
     @property
     def text(self) -> Optional[str]:
         """The entry in SDDL, or None if it has no text."""
-        entry = bytes(self)
-        # A header and a DACL that has just this entry.
-        alone = struct.pack("<BBHIIIIBBHHH", 1, 0, 0x8004, 0, 0, 0, 20, 4, 0, 8 + len(entry), 1, 0) + entry
         try:
-            return str(WholeDescriptor(alone))[2:]
+            return str(WholeDescriptor(_self_relative([bytes(self)])))[2:]
         except Refused:
             return None
 
@@ -1352,7 +1541,7 @@ def _object_type(kind: object) -> uuid.UUID:
     return made
 
 
-class WholeDescriptor(_Bytes):
+class WholeDescriptor(_SelfRelative):
     """A security descriptor with all that Windows writes: a SACL, entries of every type in both lists, every control
     bit. ``WholeDescriptor(data)`` is the one at the front of the bytes, which are in self-relative form; its own bytes
     are the one written form."""
@@ -1400,24 +1589,16 @@ class WholeDescriptor(_Bytes):
     __hash__ = _Bytes.__hash__
 
     @property
-    def owner(self) -> Optional[Sid]:
-        """The owner, or None."""
-        return self._trustee(OF_OWNER)
-
-    @property
-    def group(self) -> Optional[Sid]:
-        """The group, or None."""
-        return self._trustee(OF_GROUP)
-
-    @property
-    def dacl(self) -> Optional[Tuple[WholeEntry, ...]]:
-        """The entries of the DACL in their order. None if there is no list, but an absent or a null DACL."""
+    def dacl(self) -> Tuple[WholeEntry, ...]:
+        """The entries of the DACL in their order. An absent or a null DACL, which grants access to everyone, raises
+        ``NoList``: ``dacl_kind`` says so before."""
+        self._require_list()
         return self._entries(1)
 
     @property
     def sacl(self) -> Optional[Tuple[WholeEntry, ...]]:
         """The entries of the SACL in their order. None if there is no list, but an absent or a null SACL."""
-        return self._entries(2)
+        return self._entries(2) if self._list(2).kind == _LIST else None
 
     @property
     def dacl_revision(self) -> Optional[int]:
@@ -1432,7 +1613,7 @@ class WholeDescriptor(_Bytes):
     def check(
         self,
         client: Client,
-        asked: Mask = 0,
+        asked: Mask,
         types: Iterable[ObjectType] = (),
         principal_self: Optional[Sid] = None,
         mapping: Iterable[Mask] = FILES,
@@ -1441,7 +1622,7 @@ class WholeDescriptor(_Bytes):
         integrity label. The question is about the object ``types``, at most five from the class on, or else about the
         whole object. ``principal_self`` takes the place of PRINCIPAL SELF (S-1-5-10) in entries. A descriptor
         that can't be decided is ``Refused`` as "undecided": with the index of an entry of the DACL, or as "MayBeDenied"
-        where an entry of the SACL may deny what the DACL grants. A closed client is ``Refused`` too."""
+        where an entry of the SACL may deny what the DACL grants."""
         _of_type(client, Client, "client")
         given, who, chain = self._bytes, b"", _types(types)
         if principal_self is not None:
@@ -1479,21 +1660,11 @@ class WholeDescriptor(_Bytes):
         made = _filled(lambda *buffer: call(one, len(one), place, number, two, len(two), *buffer))[0]
         return WholeDescriptor._of(made)
 
-    def _trustee(self, part: int) -> Optional[Sid]:
-        buffer = _Buffer()
-        answer = _library.hudarin_whole_trustee(self._bytes, len(self._bytes), part, buffer, len(buffer))
-        if answer.status == _NO_PART:
-            return None
-        return Sid._of(buffer.raw[: _checked(answer).length])
-
     def _list(self, number: int) -> Any:
         return _checked(_library.hudarin_whole_list(self._bytes, len(self._bytes), number))
 
-    def _entries(self, number: int) -> Optional[Tuple[WholeEntry, ...]]:
-        answer = self._list(number)
-        if answer.kind != _LIST:
-            return None
-        return tuple(self._entry_at(number, index) for index in range(answer.entries))
+    def _entries(self, number: int) -> Tuple[WholeEntry, ...]:
+        return tuple(self._entry_at(number, index) for index in range(self._list(number).entries))
 
     def _entry_at(self, number: int, index: int) -> WholeEntry:
         given, call = self._bytes, _library.hudarin_whole_entry
@@ -1510,11 +1681,6 @@ class WholeDescriptor(_Bytes):
         )
 
 
-def _entry_texts(text: str) -> Tuple[str, ...]:
-    """The entries of a canonical text, which ends with them: each begins with a bracket, and has no other such one."""
-    return tuple("(" + entry for entry in text.split("(")[1:])
-
-
 class KeptDescriptor(_Held):
     """A ``Descriptor``, prepared for many checks: ``with KeptDescriptor(descriptor) as kept: ..``, or until ``close``.
     Threads take turns at it, or use a ``share`` each."""
@@ -1528,9 +1694,8 @@ class KeptDescriptor(_Held):
 
     def __init__(self, descriptor: Descriptor) -> None:
         given = bytes(_of_type(descriptor, Descriptor, "descriptor"))
-        with self._turn:
-            _checked(_library.hudarin_keep_bytes(given, len(given), self._kept), argument=self._argument)
-            self._descriptor = descriptor
+        self._keep(_library.hudarin_keep_bytes, given, len(given))
+        self._descriptor = descriptor
 
     @property
     def descriptor(self) -> Descriptor:
@@ -1543,49 +1708,27 @@ class KeptDescriptor(_Held):
         other._descriptor = self._descriptor
         return other
 
-    def check(self, token: Token, asked: Mask = 0, mapping: Iterable[Mask] = FILES) -> Verdict:
-        """Whether the descriptor grants ``asked``, as ``Descriptor.check`` says. If it or the token is closed:
-        ``Refused``."""
+    def check(self, token: Token, asked: Mask, mapping: Iterable[Mask] = FILES) -> Verdict:
+        """Whether the descriptor grants ``asked``, as ``Descriptor.check`` says."""
         return _verdict(self._asked(_library.hudarin_check_kept, token, asked, mapping))
 
-    def explain(self, token: Token, asked: Mask = 0, mapping: Iterable[Mask] = FILES) -> Explanation:
+    def explain(self, token: Token, asked: Mask, mapping: Iterable[Mask] = FILES) -> Explanation:
         """The same verdict, and why."""
-        texts = _entry_texts(str(self._descriptor))
+        descriptor = self._descriptor
+        entries = functools.lru_cache(None)(lambda: descriptor.entries)
 
         def found(finding: Any) -> str:
             number = _entry(finding)
             if number is None:
                 return "by no entry"
-            subject = self._sid(_library.hudarin_descriptor_subject, number - 1)
-            return f"by entry {number} {texts[number - 1]} as {subject.full if subject else ''}"
+            entry = entries()[number - 1]
+            subject = descriptor.subject(entry)
+            return f"by entry {number} {entry} as {subject.full if subject else ''}"
 
         with self._turn:
             explained = self._asked(_library.hudarin_explain, token, asked, mapping)
             verdict = _verdict(explained.answer)
             return Explanation(verdict, tuple(_part(part, found) for part in explained.parts if part.mask != 0))
-
-    def _sid(self, call: Callable[..., Any], *index: int) -> Optional[Sid]:
-        """The SID that the call writes, or None if the descriptor has no such part."""
-        try:
-            return Sid._of(self._part_of(call, *index)[0])
-        except Refused as refused:
-            if refused.status == STATUSES[_NO_PART]:
-                return None
-            raise
-
-    def _entry_at(self, index: int, text: str) -> Entry:
-        sid, entry = self._part_of(_library.hudarin_descriptor_entry, index)
-        kind = "allow" if entry.kind == _ALLOW else "deny"
-        subject = self._sid(_library.hudarin_descriptor_subject, index)
-        return Entry(kind, entry.flags, entry.mask, Sid._of(sid), text, subject)
-
-    def _part_of(self, call: Callable[..., Any], *index: int) -> Tuple[bytes, Any]:
-        with self._turn:
-            return _filled(lambda *buffer: call(self._kept, *index, *buffer), argument=lambda _: self._argument)
-
-    def _dacl(self) -> Any:
-        with self._turn:
-            return _checked(_library.hudarin_descriptor_dacl(self._kept), argument=self._argument)
 
     def _asked(self, call: Callable[..., Any], token: Token, asked: Mask, mapping: Iterable[Mask]) -> Any:
         _of_type(token, Token, "token")
@@ -1617,49 +1760,50 @@ class Node(NamedTuple):
 
 class View(_Held):
     """The tree of a ``Store`` at a publish. It never changes: ``with store.publish() as view: ..``, or until ``close``.
-    Threads take turns at it, or use a ``share`` each."""
+    It iterates the path of each node, the root's first, and each after its parent's; ``len`` is their number. Threads
+    take turns at it, or use a ``share`` each."""
 
     __slots__ = ()
 
     _argument = "view"
     _uncopied = "share makes another"
 
-    def check(self, path: str, token: Token, asked: Mask = 0) -> Verdict:
+    def check(self, path: NodePath, token: Token, asked: Mask) -> Verdict:
         """Whether the node of the path grants ``asked``, with the mapping of the store. Without such a node:
         ``Refused``."""
-        given = _text(path)
+        given = _path(path)
         _of_type(token, Token, "token")
         bits = _mask(asked, "asked")
         with self._turn, token._turn:
             checked = _view_check(self._kept, given, len(given), token._kept, bits)
         return _verdict(checked)
 
-    def check_all(self, paths: Iterable[str], token: Token, asked: Mask = 0) -> List[Optional[Verdict]]:
+    def check_all(self, paths: Iterable[NodePath], token: Token, asked: Mask) -> List[Optional[Verdict]]:
         """The same for the node of each path, faster than one by one. None where there is no such node."""
         _of_type(token, Token, "token")
-        if isinstance(paths, str):
+        if isinstance(paths, (str, PurePath)):
             raise TypeError(f"paths: expected paths, not {paths!r}")
-        given, bits = [_text(path) for path in paths], _mask(asked, "asked")
+        given, bits = [_path(path) for path in paths], _mask(asked, "asked")
         with self._turn, token._turn:
             view, kept = self._kept, token._kept
             answers = [_view_check(view, path, len(path), kept, bits) for path in given]
         return [None if answer.status == _NO_NODE else _verdict(answer) for answer in answers]
 
-    def descriptor(self, path: str) -> Descriptor:
+    def descriptor(self, path: NodePath) -> Descriptor:
         """The descriptor of the node of the path, with the entries that it inherits."""
         return Descriptor._of(self._of_path(_library.hudarin_view_descriptor, path)[0])
 
-    def own(self, path: str) -> Node:
+    def own(self, path: NodePath) -> Node:
         """The node of the path. An addition with its own descriptor and what it keeps makes the same node."""
         return self._node(path, self._place_of(path))
 
-    def stored(self, path: str) -> Optional[Stored]:
+    def stored(self, path: NodePath) -> Optional[Stored]:
         """What the node of the path keeps that was inherited elsewhere, or None."""
         return self.own(path).stored
 
-    def _node(self, path: str, place: int) -> Node:
+    def _node(self, path: NodePath, place: int) -> Node:
         form, answer = self._of_path(_library.hudarin_view_own, path)
-        return Node(path, answer.kind == _CONTAINER, Descriptor._of(form), self._stored_at(place))
+        return Node(_path(path).decode(), answer.kind == _CONTAINER, Descriptor._of(form), self._stored_at(place))
 
     def _stored_at(self, place: int) -> Optional[Stored]:
         try:
@@ -1677,70 +1821,85 @@ class View(_Held):
             )[0]
         return Descriptor._of(form)
 
-    def _place_of(self, path: str) -> int:
+    def _place_of(self, path: NodePath) -> int:
         """The place of the node of the path in the order of the paths: of names, each by its bytes. Of no node a place
         at which there is none or another one."""
-        names = _text(path).split(b"/")
+        names = _path(path).split(b"/")
+        return self._count(lambda found: found.split(b"/") < names)
+
+    def _count(self, is_counted: Callable[[bytes], bool]) -> int:
+        """The number of paths that are counted, which are the first ones."""
+
+        def is_at(place: int) -> bool:
+            path = self._path_at(place)
+            return path is not None and is_counted(path)
+
         low, high = 0, 1
-        while self._is_before(high, names):
+        while is_at(high):
             low, high = high, 2 * high
         while low < high:
             middle = (low + high) // 2
-            if self._is_before(middle, names):
+            if is_at(middle):
                 low = middle + 1
             else:
                 high = middle
         return low
 
-    def _is_before(self, place: int, names: List[bytes]) -> bool:
-        """Whether there is a node at the place, before these names."""
-        try:
-            return self._path_at(place).split(b"/") < names
-        except Refused as refused:
-            if refused.status == STATUSES[_NO_NODE]:
-                return False
-            raise
-
-    def _of_path(self, call: Callable[..., Any], path: str) -> Tuple[bytes, Any]:
-        given = _text(path)
+    def _of_path(self, call: Callable[..., Any], path: NodePath) -> Tuple[bytes, Any]:
+        given = _path(path)
         with self._turn:
             return _filled(
                 lambda *buffer: call(self._kept, given, len(given), *buffer),
                 argument=lambda written: self._argument if written.status == _HANDLE else "path",
             )
 
-    def paths(self) -> Iterator[str]:
-        """The path of each node, in their order: the root's first, and each after its parent's."""
+    def __iter__(self) -> Iterator[str]:
         for place in itertools.count():
-            try:
-                path = self._path_at(place)
-            except Refused as refused:
-                if refused.status == STATUSES[_NO_NODE]:
-                    return
-                raise
+            path = self._path_at(place)
+            if path is None:
+                return
             yield path.decode()
+
+    def __contains__(self, path: object) -> bool:
+        """Whether there is a node of the path. What is no path is ``Refused``."""
+        given = _path(path)
+        with self._turn:
+            answer = _library.hudarin_view_own(self._kept, given, len(given), None, 0).written
+        if answer.status in (_ROOM, _NO_NODE):
+            return bool(answer.status == _ROOM)
+        _refuse(answer, argument=self._argument if answer.status == _HANDLE else "path")
+
+    def __len__(self) -> int:
+        return self._count(lambda _: True)
+
+    def __bool__(self) -> bool:
+        return True
 
     def nodes(self) -> Iterator[Node]:
         """Each node, in the order of the paths."""
-        return map(self._node, self.paths(), itertools.count())
+        return map(self._node, self, itertools.count())
 
-    def _path_at(self, place: int) -> bytes:
-        with self._turn:
-            return _filled(
-                lambda *buffer: _library.hudarin_view_node(self._kept, place, *buffer),
-                argument=lambda _: self._argument,
-            )[0]
+    def _path_at(self, place: int) -> Optional[bytes]:
+        """The path at a place in their order, or None after the last one."""
+        try:
+            with self._turn:
+                return _filled(
+                    lambda *buffer: _library.hudarin_view_node(self._kept, place, *buffer),
+                    argument=lambda _: self._argument,
+                )[0]
+        except Refused as refused:
+            if refused.status == STATUSES[_NO_NODE]:
+                return None
+            raise
 
     def share(self) -> "View":
         """Another view of the same tree, which is closed by itself."""
         return self._share()
 
-    def __len__(self) -> int:
+    @property
+    def edits(self) -> int:
         """The number of edits of its tree."""
         return _journal_length(self)
-
-    def __bool__(self) -> bool:
-        return True
 
 
 def _journal_length(held: _Held) -> int:
@@ -1753,14 +1912,14 @@ class _Edits:
 
     __slots__ = ()
 
-    def _edit(self, edit: int, path: str, value: bytes = b"") -> None:
+    def _edit(self, edit: int, path: NodePath, value: bytes = b"") -> None:
         raise NotImplementedError
 
-    def _add_stored(self, kind: int, path: str, *forms: bytes) -> None:
+    def _add_stored(self, kind: int, path: NodePath, *forms: bytes) -> None:
         raise NotImplementedError
 
     def _add(
-        self, edit: int, path: str, descriptor: Descriptor, kept: Optional[Descriptor], offer: Optional[Descriptor]
+        self, edit: int, path: NodePath, descriptor: Descriptor, kept: Optional[Descriptor], offer: Optional[Descriptor]
     ) -> None:
         own = bytes(_of_type(descriptor, Descriptor, "descriptor"))
         if kept is None and offer is None:
@@ -1771,7 +1930,7 @@ class _Edits:
 
     def add_container(
         self,
-        path: str,
+        path: NodePath,
         descriptor: Descriptor,
         *,
         kept: Optional[Descriptor] = None,
@@ -1784,7 +1943,7 @@ class _Edits:
 
     def add_object(
         self,
-        path: str,
+        path: NodePath,
         descriptor: Descriptor,
         *,
         kept: Optional[Descriptor] = None,
@@ -1793,29 +1952,29 @@ class _Edits:
         """Adds an object, as ``add_container`` adds a container."""
         self._add(_ADD_OBJECT, path, descriptor, kept, offer)
 
-    def set_owner(self, path: str, owner: Sid) -> None:
+    def set_owner(self, path: NodePath, owner: Sid) -> None:
         """Sets the node's owner."""
         self._edit(_SET_OWNER, path, bytes(_of_type(owner, Sid, "owner")))
 
-    def set_group(self, path: str, group: Sid) -> None:
+    def set_group(self, path: NodePath, group: Sid) -> None:
         """Sets the node's group."""
         self._edit(_SET_GROUP, path, bytes(_of_type(group, Sid, "group")))
 
-    def set_dacl(self, path: str, descriptor: Descriptor) -> None:
+    def set_dacl(self, path: NodePath, descriptor: Descriptor) -> None:
         """Sets the node's own DACL to the descriptor's. The descriptor must have neither owner nor group."""
         self._edit(_SET_DACL, path, bytes(_of_type(descriptor, Descriptor, "descriptor")))
 
-    def remove(self, path: str) -> None:
+    def remove(self, path: NodePath) -> None:
         """Removes a node without children."""
         self._edit(_REMOVE, path)
 
-    def protect_keeping(self, path: str) -> None:
+    def protect_keeping(self, path: NodePath) -> None:
         """Protects the node from inheritance. The entries that it inherited become its own."""
         self._edit(_PROTECT_KEEPING, path)
 
-    def move(self, source: str, target: str) -> None:
+    def move(self, source: NodePath, target: NodePath) -> None:
         """Moves the node and all below it to the target, a path without a node."""
-        self._edit(_MOVE, source, _text(target))
+        self._edit(_MOVE, source, _path(target))
 
 
 class Reviewed(NamedTuple):
@@ -1865,18 +2024,16 @@ class Store(_Held, _Edits):
         many nodes, the root counted, from 1 to 16777216, and so many edits, up to 4294967296."""
         given = bytes(_of_type(root, Descriptor, "root"))
         request = _mapping(mapping), _number(nodes, "nodes", 64), _number(edits, "edits", 64)
-        with self._turn:
-            opened = _library.hudarin_store_open_within(given, len(given), *request, self._kept)
-            _checked(opened, argument=self._argument)
+        self._keep(_library.hudarin_store_open_within, given, len(given), *request)
 
-    def _edit(self, edit: int, path: str, value: bytes = b"") -> None:
+    def _edit(self, edit: int, path: NodePath, value: bytes = b"") -> None:
         self._call(_library.hudarin_store_edit, edit, path, value)
 
-    def _add_stored(self, kind: int, path: str, *forms: bytes) -> None:
+    def _add_stored(self, kind: int, path: NodePath, *forms: bytes) -> None:
         self._call(_library.hudarin_store_add_stored, kind, path, *forms)
 
-    def _call(self, call: Callable[..., Any], edit: int, path: str, *values: bytes) -> None:
-        given = [part for value in (_text(path), *values) for part in (value, len(value))]
+    def _call(self, call: Callable[..., Any], edit: int, path: NodePath, *values: bytes) -> None:
+        given = [part for value in (_path(path), *values) for part in (value, len(value))]
         with self._turn:
             _checked(call(self._kept, edit, *given))
 
@@ -1904,7 +2061,7 @@ class Store(_Held, _Edits):
         """What the next ``publish`` changes, for all tokens, beside the last one, the last ``revert`` or the root
         alone: each node of the tree that is new, moved or changed, in the order of the paths, and then each that is
         gone. The next one after an edit is a RuntimeError."""
-        length = len(self)
+        edits = self.edits
         with _Lines() as lines:
             for place in itertools.count():
                 try:
@@ -1913,7 +2070,7 @@ class Store(_Held, _Edits):
                     if refused.status == STATUSES[_NO_NODE]:
                         return
                     raise
-                if len(self) != length:
+                if self.edits != edits:
                     raise RuntimeError("the store was edited during its review")
                 reviewed = _reviewed(written, answer, lines)
                 lines.close()
@@ -1927,12 +2084,10 @@ class Store(_Held, _Edits):
                 argument=lambda _: self._argument,
             )
 
-    def __len__(self) -> int:
+    @property
+    def edits(self) -> int:
         """The number of edits of its tree, pending ones too."""
         return _journal_length(self)
-
-    def __bool__(self) -> bool:
-        return True
 
 
 class Judge(_Edits):
@@ -1944,8 +2099,8 @@ class Judge(_Edits):
     def __init__(self, store: Store) -> None:
         self._store = _of_type(store, Store, "store")
 
-    def _edit(self, edit: int, path: str, value: bytes = b"") -> None:
+    def _edit(self, edit: int, path: NodePath, value: bytes = b"") -> None:
         self._store._call(_library.hudarin_store_judge, edit, path, value)
 
-    def _add_stored(self, kind: int, path: str, *forms: bytes) -> None:
+    def _add_stored(self, kind: int, path: NodePath, *forms: bytes) -> None:
         self._store._call(_library.hudarin_store_judge_stored, kind, path, *forms)

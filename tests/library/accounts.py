@@ -114,7 +114,7 @@ with Accounts(EXAMPLE) as accounts:
     gives("threads at accounts", [], lambda: wrong)
     other = accounts.share()
     handle = ("handle", 0, None, 0, "accounts")
-    gives("accounts, again", handle, lambda: refusal(lambda: accounts.__init__("")))
+    raises("accounts, again", RuntimeError, lambda: accounts.__init__(""))
     for wrong_type in (b"alice", 5, None, user_sid):
         raises(f"the user {wrong_type!r}", TypeError, lambda: accounts.sids(wrong_type))
     raises("a domain that is no Sid", TypeError, lambda: accounts.sids("alice", "S-1-5-21-1-2-3"))

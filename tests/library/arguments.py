@@ -13,6 +13,7 @@ from hudarin import (  # noqa: E402
     FILES,
     KEYS,
     TAKE_OWNERSHIP,
+    Closed,
     Descriptor,
     KeptDescriptor,
     Refused,
@@ -135,7 +136,9 @@ PARTS = [(True, 0x1, 1, None), (False, 0x2, None, None)]
 gives("entries count from 1", PARTS, lambda: [x[:4] for x in OPEN.explain(USER, asked=0x3).parts])
 RESTRICTED = HELD.explain(USER, [EVERYONE], asked=0x1, restricting=[USER])
 gives("two passes", [(False, 0x1, 1, None)], lambda: [x[:4] for x in RESTRICTED.parts])
-gives("an empty request", (("empty", 0), ()), lambda: OPEN.explain(USER))
+gives("an empty request", (("empty", 0), ()), lambda: OPEN.explain(USER, asked=0))
+raises("nothing asked", TypeError, lambda: OPEN.check(USER))
+raises("nothing asked, explained", TypeError, lambda: OPEN.explain(USER, [EVERYONE]))
 
 # A check by a token has the verdict of one by its parts, until the token is closed.
 with Token(USER, [EVERYONE]) as token:
@@ -145,7 +148,7 @@ with Token(USER, [EVERYONE]) as token:
     for number, wanted in NUMBERS:
         raises(f"by a token {number!r}", wanted, lambda: HELD.check_by(token, number))
     raises("a mapping beyond a list's rights", Refused, lambda: HELD.check_by(token, 1, (0, 0, 0, 0x200000)))
-raises("a token that was closed", Refused, lambda: HELD.check_by(token, 0x1))
+raises("a token that was closed", Closed, lambda: HELD.check_by(token, 0x1))
 gives("a token that is closed twice", None, token.close)
 raises("no token", TypeError, lambda: HELD.check_by(USER, 0x1))
 raises("a token without a state", Refused, lambda: Token(USER, [(EVERYONE, 0x14)]))
@@ -162,7 +165,7 @@ granted 0x89 by entry 2 (A;;FR;;;BU) as S-1-5-32-545
 denied 0x120116 by entry 1 (D;;FW;;;BU) as S-1-5-32-545
 denied 0x10000 by no entry
 granted 0x80000 by SeTakeOwnershipPrivilege"""
-CLOSED = ("descriptor handle at 0", None)
+CLOSED = ("descriptor: it is closed", None)
 with Token(USER, [Sid.from_text("BU")], TAKE_OWNERSHIP) as token:
     with KeptDescriptor(WORKED) as kept, kept.share() as other:
         gives("by a kept descriptor", "denied 0x130116", lambda: str(kept.check(token, 0x1B019F)))
@@ -181,14 +184,14 @@ with Token(USER, [Sid.from_text("BU")], TAKE_OWNERSHIP) as token:
         kept.close()
         gives("a descriptor that was closed", CLOSED, lambda: refusal(lambda: kept.check(token, 0x1)))
         gives("why, by one that was closed", CLOSED, lambda: refusal(lambda: kept.explain(token, 0x1)))
-        raises("a share of a descriptor that was closed", Refused, kept.share)
+        raises("a share of a descriptor that was closed", Closed, kept.share)
         gives("a share, after the first", "denied 0x130116", lambda: str(other.check(token, 0x1B019F)))
         gives("a descriptor that is closed twice", None, kept.close)
     shared = token.share()
-raises("a share of a token that was closed", Refused, token.share)
+raises("a share of a token that was closed", Closed, token.share)
 with KeptDescriptor(WORKED) as kept, shared:
     gives("a share of a token", "denied 0x130116", lambda: str(kept.check(shared, 0x1B019F)))
-    gives("a token that was closed", ("token handle at 0", None), lambda: refusal(lambda: kept.check(token, 0x1)))
+    gives("a token that was closed", ("token: it is closed", None), lambda: refusal(lambda: kept.check(token, 0x1)))
 with KeptDescriptor(NULL) as kept, Token(USER) as token:
     gives("keys are mapped as keys, kept", "granted 0x20019", lambda: str(kept.check(token, 0x80000000, KEYS)))
 for one in (bytes(WORKED), str(WORKED), None, 5, USER):
@@ -235,7 +238,7 @@ with Store(ROOT) as store, Token(USER) as token:
     with store.publish() as empty:
         store.add_container("/a", NODE)
         store.add_object("/a/o", NODE)
-        gives("nothing is pending in a view", (0, 2), lambda: (len(empty), len(store)))
+        gives("nothing is pending in a view", (0, 2), lambda: (empty.edits, store.edits))
         gives("no node yet", ("no node", None, "path"), lambda: refusal(lambda: empty.check("/a/o", token, 0x1)))
         first = store.publish()
     gives("a view that was closed", ("handle", None, "view"), lambda: refusal(lambda: empty.check("/", token, 0x1)))
@@ -247,7 +250,7 @@ with Store(ROOT) as store, Token(USER) as token:
     store.protect_keeping("/a/o")
     store.move("/a", "/b")
     with store.publish() as second, first, first.share() as third:
-        gives("the lengths", (2, 7, 7, 2), lambda: (len(first), len(second), len(store), len(third)))
+        gives("the edits", (2, 7, 7, 2), lambda: (first.edits, second.edits, store.edits, third.edits))
         gives("the first, as it was", "granted 0x1", lambda: str(first.check("/a/o", token, 0x1)))
         gives("a share of it", "granted 0x1", lambda: str(third.check("/a/o", token, 0x1)))
         gives("the second", "denied 0x1", lambda: str(second.check("/b/o", token, 0x1)))
@@ -264,19 +267,19 @@ with Store(ROOT) as store, Token(USER) as token:
             ],
             lambda: [(node.path, node.is_container, str(node.own)) for node in second.nodes()],
         )
-        gives("their paths", ["/", "/b", "/b/o"], lambda: list(second.paths()))
+        gives("their paths", ["/", "/b", "/b/o"], lambda: list(second))
         gives("one of them", second.own("/b/o"), lambda: list(second.nodes())[2])
         gives("no such node", ("no node", None, "path"), lambda: refusal(lambda: second.own("/a")))
         store.remove("/b/o")
         raises("a revert to no view", TypeError, lambda: store.revert(token))
-        gives("a store that goes back", (None, 7), lambda: (store.revert(second), len(store)))
+        gives("a store that goes back", (None, 7), lambda: (store.revert(second), store.edits))
     gives("a revert to a view that was closed", ("handle", None, "view"), lambda: refusal(lambda: store.revert(second)))
     gives("nodes of a view that was closed", ("handle", None, "view"), lambda: refusal(lambda: list(second.nodes())))
     raises("a revert to a token", TypeError, lambda: store.revert(token))
     raises("a token that is a view", TypeError, lambda: first.check("/", second, 0x1))
     raises("a token that is a store", TypeError, lambda: HELD.check_by(store, 0x1))
     store.remove("/b/o")
-    gives("an edit that would be made", (None, 8), lambda: (store.judge.add_object("/q", NODE), len(store)))
+    gives("an edit that would be made", (None, 8), lambda: (store.judge.add_object("/q", NODE), store.edits))
     no_parent = ("refused", "NoParent", None)
     gives("an edit that wouldn't", no_parent, lambda: refusal(lambda: store.judge.add_object("/x/y", NODE)))
     raises("an owner that is no Sid, judged", TypeError, lambda: store.judge.set_owner("/b", "BA"))
@@ -287,7 +290,7 @@ with Store(ROOT) as store, Token(USER) as token:
     raises("an owner that is no Sid", TypeError, lambda: store.set_owner("/b", "BA"))
     raises("a node that is no Descriptor", TypeError, lambda: store.add_object("/q", b""))
     raises("a path that is no text", TypeError, lambda: store.remove(b"/b"))
-    gives("nothing has changed", 8, lambda: len(store))
+    gives("nothing has changed", 8, lambda: store.edits)
 gives("a store that was closed", ("handle", None, "store"), lambda: refusal(lambda: store.remove("/b")))
 gives("a root without an owner", ("parts", None, "value"), lambda: refusal(lambda: Store(HELD)))
 
@@ -305,7 +308,7 @@ for nodes, edits, name, argument in [
     limits = ("limits", name, argument)
     gives(f"{nodes} nodes, {edits} edits", limits, lambda: refusal(lambda: Store(ROOT, nodes=nodes, edits=edits)))
 with Store(ROOT, nodes=1 << 24, edits=1 << 32) as store:
-    gives("the largest limits", 0, lambda: len(store))
+    gives("the largest limits", 0, lambda: store.edits)
 with Store(ROOT, nodes=2, edits=3) as store:
     store.add_object("/a", NODE)
     gives("a third node", ("refused", "NodesFull", None), lambda: refusal(lambda: store.add_object("/b", NODE)))

@@ -14,7 +14,7 @@ import struct
 import sys
 import uuid
 from pathlib import Path
-from typing import Any, Callable, List, Optional, Tuple
+from typing import Any, Callable, List, Optional, Tuple, Union
 
 TOP = Path(__file__).resolve().parents[2]
 sys.path[:0] = [str(TOP / "tests"), str(TOP / "bindings/python")]
@@ -31,11 +31,13 @@ from hudarin import (  # noqa: E402
     Accounts,
     Change,
     Client,
+    Closed,
     Comparison,
     Descriptor,
     Explanation,
     Finding,
     KeptDescriptor,
+    NoList,
     Part,
     Refused,
     Reviewed,
@@ -55,6 +57,8 @@ from tally import close, gives, holds, raises  # noqa: E402
 USER = Sid.from_text("S-1-5-21-1-2-3-1001")
 USERS = Sid.from_text("BU")
 READERS = Descriptor.from_sddl("O:BAG:SYD:(A;;FR;;;BU)")
+OPEN = ("O:BA", "D:NO_ACCESS_CONTROL")
+READERS_WITHOUT = Descriptor.from_sddl("D:(A;;FR;;;BU)")
 ROOT = Descriptor.from_sddl("O:SYG:SYD:(A;OICI;FR;;;BU)")
 CLASSES = ("bf967a86-0de6-11d0-a285-00aa003049e2", "bf967aba-0de6-11d0-a285-00aa003049e2")
 ENTRIES = ["(A;;FA;;;WD)", f"(OA;CI;0x10;{CLASSES[0]};{CLASSES[1]};AU)", "(XA;;FX;;;BU;(a))", "(AU;SA;FA;;;WD)"]
@@ -72,18 +76,27 @@ def refused(call: Callable[[], Any]) -> Optional[Tuple[Any, ...]]:
     return None
 
 
+def closed(call: Callable[[], Any]) -> Optional[Tuple[Any, ...]]:
+    """What the refusal of something closed says, if it names that."""
+    try:
+        call()
+    except Closed as e:
+        return refused(call) if str(e) == f"{e.argument}: it is closed" else None
+    return None
+
+
 def truth() -> None:
     """A result is true if access is granted, and false otherwise."""
     for asked, verdict in ((0x1, "granted 0x1"), (0x2, "denied 0x2"), (0x00200000, "reserved 0x200000"), (0, "empty")):
-        answer = READERS.check(USER, [USERS], asked)
+        answer = READERS.check(USER, [USERS], asked=asked)
         granted = verdict.startswith("granted")
         gives(f"{asked:#x}", (verdict, granted, granted), lambda: (str(answer), answer.is_granted, bool(answer)))
-        why = READERS.explain(USER, [USERS], asked)
+        why = READERS.explain(USER, [USERS], asked=asked)
         gives(f"why {asked:#x}", (answer, granted, granted), lambda: (why.verdict, why.is_granted, bool(why)))
         with Token(USER, [USERS]) as token, KeptDescriptor(READERS) as kept:
             gives(f"{asked:#x}, by a token", granted, lambda: bool(READERS.check_by(token, asked)))
             gives(f"{asked:#x}, by a kept descriptor", granted, lambda: bool(kept.check(token, asked)))
-    parts = READERS.explain(USER, [USERS], 0x3).parts
+    parts = READERS.explain(USER, [USERS], asked=0x3).parts
     gives("parts", [(True, True), (False, False)], lambda: [(part.is_granted, bool(part)) for part in parts])
     # They are compared and taken apart as before.
     gives("a verdict as a tuple", True, lambda: Verdict("denied", 0x2) == ("denied", 0x2))
@@ -96,8 +109,8 @@ VALUES = {
     "a Sid": USER,
     "a Descriptor": READERS,
     "a Verdict": Verdict("denied", 0x2),
-    "an Explanation": READERS.explain(USER, [USERS], 0x3),
-    "an Entry": (READERS.entries or ())[0],
+    "an Explanation": READERS.explain(USER, [USERS], asked=0x3),
+    "an Entry": READERS.entries[0],
     "a Finding": Descriptor.from_sddl("O:BA").lint()[0],
 }
 
@@ -132,7 +145,7 @@ def refusals() -> None:
     calls: List[Tuple[str, Callable[[], Any]]] = [
         ("a text", lambda: Descriptor.from_sddl("O:DA")),
         ("bytes", lambda: Descriptor(b"")),
-        ("a state", lambda: READERS.check(USER, [USERS, (USERS, 0x14)], 0x1)),
+        ("a state", lambda: READERS.check(USER, [USERS, (USERS, 0x14)], asked=0x1)),
     ]
     for name, call in calls:
         try:
@@ -155,24 +168,23 @@ def pool() -> None:
         gives("a pool", [str(READERS)], lambda: workers.map(rejected, [str(READERS)]))
         fault = ("sddl", 6, "DomainAlias", 2, None)
         gives("a pool's refusal", fault, lambda: refused(lambda: workers.map(rejected, ["O:DA"])))
-        asked = (USER, [USERS], 0x2)
-        gives("a pool's verdict", Verdict("denied", 0x2), lambda: workers.apply(READERS.check, asked))
+        check = functools.partial(READERS.check, asked=0x2)
+        gives("a pool's verdict", Verdict("denied", 0x2), lambda: workers.apply(check, (USER, [USERS])))
 
 
 def again() -> None:
-    """A second __init__ neither changes a value nor leaks memory."""
+    """A second __init__ neither changes a value nor leaks memory: what holds some refuses it."""
     with Token(USER, [USERS]) as token, KeptDescriptor(READERS) as kept, Store(ROOT) as store:
-        handle = ("handle", 0, None, 0)
-        inits: List[Tuple[Any, Any, str]] = [(token, USER, "token"), (kept, ROOT, "descriptor"), (store, ROOT, "store")]
-        for held, given, name in inits:
-            gives(f"a {name}, again", handle + (name,), lambda: refused(lambda: held.__init__(given)))
+        inits: List[Tuple[Any, Any]] = [(token, USER), (Client(USER), USER), (Accounts(""), ""), (kept, ROOT), (store, ROOT)]
+        for held, given in inits:
+            raises(f"a {type(held).__name__}, again", RuntimeError, lambda: held.__init__(given))
         gives("a kept one, after that", (READERS, "granted 0x1"), lambda: (kept.descriptor, str(kept.check(token, 1))))
     value: Any
     for value in (Sid(bytes(USER)), Descriptor(bytes(READERS))):
         same = bytes(value)
         value.__init__(bytes(ROOT))
         gives(f"{value!r}, again", same, lambda: bytes(value))
-    gives("a view of nothing", ("handle", 0, None, 0, "view"), lambda: refused(lambda: View().own("/")))
+    gives("a view of nothing", ("handle", 0, None, 0, "view"), lambda: closed(lambda: View().own("/")))
 
 
 def parts() -> None:
@@ -180,35 +192,41 @@ def parts() -> None:
     text = "O:S-1-5-21-1-2-3-1001G:BUD:PARAI(D;OICINPIOIDSAFA;0x30000;;;WD)(A;;FA;;;S-1-0x000100000000-7)(A;;0x0;;;BG)"
     one = Descriptor.from_sddl(text)
     gives("owner and group", (USER, USERS), lambda: (one.owner, one.group))
-    entries = one.entries or ()
+    entries = one.entries
     gives(
         "entries",
         [("deny", 0xDF, 0x30000, "WD"), ("allow", 0, 0x1F01FF, "S-1-0x000100000000-7"), ("allow", 0, 0, "BG")],
         lambda: [(each.kind, each.flags, each.mask, str(each.sid)) for each in entries],
     )
     gives("their texts", text[text.index("(") :], lambda: "".join(str(each) for each in entries))
-    rights = Descriptor.from_sddl("O:BGD:(A;;FR;;;OW)(A;;FR;;;BU)").entries or ()
-    gives("their subjects", ["BG", "BU"], lambda: [str(each.subject) for each in rights])
-    gives("without an owner", None, lambda: (Descriptor.from_sddl("D:(A;;FR;;;OW)").entries or ())[0].subject)
+    rights = Descriptor.from_sddl("O:BGD:(A;;FR;;;OW)(A;;FR;;;BU)")
+    gives("their subjects", ["BG", "BU"], lambda: [str(rights.subject(each)) for each in rights.entries])
+    gives("without an owner", None, lambda: READERS_WITHOUT.subject(rights.entries[0]))
+    raises("the subject of a text", TypeError, lambda: rights.subject("(A;;FR;;;OW)"))  # type: ignore[arg-type]
     shields = [("", False), ("D:AI", False), ("D:P", True), ("D:PNO_ACCESS_CONTROL", True)]
     gives("protection", shields, lambda: [(sddl, Descriptor.from_sddl(sddl).is_protected) for sddl, _ in shields])
     gives("SIDs in full", ["S-1-5-32-545", "S-1-5-21-1-2-3-1001"], lambda: [USERS.full, USER.full])
     gives("their flags", 0xDF, lambda: sum(FLAGS.values()))
     for letters, flag in FLAGS.items():
-        gives(letters, flag, lambda: (Descriptor.from_sddl(f"D:(A;{letters};FR;;;WD)").entries or ())[0].flags)
+        gives(letters, flag, lambda: Descriptor.from_sddl(f"D:(A;{letters};FR;;;WD)").entries[0].flags)
     shapes: List[Tuple[str, Tuple[Any, Any, Any]]] = [
-        ("", (None, None, None)),
-        ("O:BG", (Sid.from_text("BG"), None, None)),
-        ("G:BG", (None, Sid.from_text("BG"), None)),
-        ("O:BGG:BG", (Sid.from_text("BG"), Sid.from_text("BG"), None)),
-        ("D:", (None, None, ())),
-        ("D:P", (None, None, ())),
-        ("D:NO_ACCESS_CONTROL", (None, None, None)),
-        ("D:PAINO_ACCESS_CONTROL", (None, None, None)),
+        ("", (None, None, "absent")),
+        ("O:BG", (Sid.from_text("BG"), None, "absent")),
+        ("G:BG", (None, Sid.from_text("BG"), "absent")),
+        ("O:BGG:BG", (Sid.from_text("BG"), Sid.from_text("BG"), "absent")),
+        ("D:", (None, None, "list")),
+        ("D:P", (None, None, "list")),
+        ("D:NO_ACCESS_CONTROL", (None, None, "null")),
+        ("D:PAINO_ACCESS_CONTROL", (None, None, "null")),
     ]
     for text, wanted in shapes:
-        one = Descriptor.from_sddl(text)
-        gives(f"the parts of {text!r}", wanted, lambda: (one.owner, one.group, one.entries))
+        forms: List[Union[Descriptor, WholeDescriptor]] = [Descriptor.from_sddl(text), WholeDescriptor.from_sddl(text)]
+        for form in forms:
+            gives(f"the parts of {text!r}", wanted, lambda: (form.owner, form.group, form.dacl_kind))
+            if wanted[2] == "list":
+                gives(f"the entries of {text!r}", (), lambda: listed_in(form))
+            else:
+                gives(f"no entries of {text!r}", wanted[2], lambda: no_list(lambda: listed_in(form)))
     # The list in front of the group, which is the owner's bytes too: [MS-DTYP] 2.4.6 leaves the order open.
     written = bytes(Descriptor.from_sddl("O:BAD:(A;;FA;;;WD)"))
     acl, sid = written[36:], written[20:36]
@@ -216,21 +234,35 @@ def parts() -> None:
     turned = written[:4] + offsets + acl + sid
     gives("parts that share bytes", ("BA", "BA", ["(A;;FA;;;WD)"]), lambda: _of(Descriptor(turned)))
     many = Descriptor.from_sddl("D:" + 3276 * "(A;;FA;;;WD)")
-    gives("the longest list", 3276, lambda: len(many.entries or ()))
+    gives("the longest list", 3276, lambda: len(many.entries))
+
+
+def listed_in(form: Union[Descriptor, WholeDescriptor]) -> Tuple[Any, ...]:
+    return form.entries if isinstance(form, Descriptor) else form.dacl
+
+
+def no_list(call: Callable[[], Any]) -> Optional[str]:
+    """Which list there is instead of entries, as it is after a pickle too."""
+    try:
+        call()
+    except NoList as e:
+        same = pickle.loads(pickle.dumps(e))
+        return e.kind if (same.kind, str(same)) == (e.kind, str(e)) and e.kind in str(e) else None
+    return None
 
 
 def _of(one: Descriptor) -> Tuple[str, str, List[str]]:
-    return str(one.owner), str(one.group), [str(each) for each in one.entries or ()]
+    return str(one.owner), str(one.group), [str(each) for each in one.entries]
 
 
 def names() -> None:
     """A mask is a number or names of rights, wherever one is asked for."""
     with Token(USER, [USERS]) as token, KeptDescriptor(READERS) as kept, Store(ROOT) as store, store.publish() as view:
         asks: List[Tuple[str, Callable[[Any], Any]]] = [
-            ("check", lambda asked: READERS.check(USER, [USERS], asked)),
+            ("check", lambda asked: READERS.check(USER, [USERS], asked=asked)),
             ("check_by", lambda asked: READERS.check_by(token, asked)),
             ("kept", lambda asked: kept.check(token, asked)),
-            ("explain", lambda asked: READERS.explain(USER, [USERS], asked).verdict),
+            ("explain", lambda asked: READERS.explain(USER, [USERS], asked=asked).verdict),
             ("kept.explain", lambda asked: kept.explain(token, asked).verdict),
             ("view", lambda asked: view.check("/", token, asked)),
             ("view, all", lambda asked: view.check_all(["/"], token, asked)[0]),
@@ -243,11 +275,13 @@ def names() -> None:
             gives(f"{name} by no text", ("utf8", 0, None, 1, None), lambda: refused(lambda: ask("F\ud800")))
     full = Descriptor.from_sddl("D:(A;;GR;;;BU)")
     of_files, of_keys = ("FR", "FW", "FX", "FA"), ("KR", 0, "", "KA")
-    gives("a mapping by names", "granted 0x120089", lambda: str(full.check(USER, [USERS], "GR", mapping=of_files)))
-    gives("a mapping by both", "granted 0x20019", lambda: str(full.check(USER, [USERS], "GR", mapping=of_keys)))
+    by_names = full.check(USER, [USERS], asked="GR", mapping=of_files)
+    gives("a mapping by names", "granted 0x120089", lambda: str(by_names))
+    by_both = full.check(USER, [USERS], asked="GR", mapping=of_keys)
+    gives("a mapping by both", "granted 0x20019", lambda: str(by_both))
     texts: List[Any] = ["1234", bytes(4)]
     for wrong in texts:
-        raises(f"the mapping {wrong!r}", TypeError, lambda: full.check(USER, [USERS], "GR", mapping=wrong))
+        raises(f"the mapping {wrong!r}", TypeError, lambda: full.check(USER, [USERS], asked="GR", mapping=wrong))
 
 
 def one_exception() -> None:
@@ -280,6 +314,7 @@ def one_exception() -> None:
             ("check", lambda path: view.check(path, token, "FR")),
             ("own", lambda path: view.own(path)),
             ("descriptor", lambda path: view.descriptor(path)),
+            ("stored", lambda path: view.stored(path)),
         ]
         for name, find in finds:
             gives(f"{name}, no node", ("no node", 0, None, 0, "path"), lambda: refused(lambda: find("/x")))
@@ -287,32 +322,32 @@ def one_exception() -> None:
             gives(f"{name}, no text", ("utf8", 0, None, 1, "path"), lambda: refused(lambda: find("/\udcff")))
             raises(f"{name}, bytes", TypeError, lambda: find(b"/"))
             view.close()
-            gives(f"{name}, closed", ("handle", 0, None, 0, "view"), lambda: refused(lambda: find("/")))
+            gives(f"{name}, closed", ("handle", 0, None, 0, "view"), lambda: closed(lambda: find("/")))
             view = store.publish()
-        closed = ("handle", 0, None, 0)
+        handle = ("handle", 0, None, 0)
         both = [view.check("/", token, "FR"), None]
         gives("check_all", both, lambda: view.check_all(iter(["/", "/x"]), token, "FR"))
         gives("check_all of none", [], lambda: view.check_all([], token, "FR"))
-        gives("check_all, no path", ("path", 1, "Syntax", 0, "path"), lambda: refused(lambda: view.check_all(["x"], token)))
+        gives("check_all, no path", ("path", 1, "Syntax", 0, "path"), lambda: refused(lambda: view.check_all(["x"], token, "FR")))
         raises("check_all of one text", TypeError, lambda: view.check_all("/", token, "FR"))
         view.close()
-        gives("check_all of a closed view", closed + ("view",), lambda: refused(lambda: view.check_all(["/"], token)))
-        gives("revert to a closed view", closed + ("view",), lambda: refused(lambda: store.revert(view)))
-        gives("nodes of a closed view", closed + ("view",), lambda: refused(lambda: list(view.nodes())))
-        gives("the length of a closed view", closed + ("view",), lambda: refused(lambda: len(view)))
-        gives("a share of a closed view", closed + ("view",), lambda: refused(view.share))
+        gives("checks of a closed view", handle + ("view",), lambda: closed(lambda: view.check_all(["/"], token, "FR")))
+        gives("revert to a closed view", handle + ("view",), lambda: closed(lambda: store.revert(view)))
+        gives("nodes of a closed view", handle + ("view",), lambda: closed(lambda: list(view.nodes())))
+        gives("the edits of a closed view", handle + ("view",), lambda: closed(lambda: view.edits))
+        gives("a share of a closed view", handle + ("view",), lambda: closed(view.share))
         other = store.publish()
         store.close()
         asks: List[Tuple[str, Callable[[], Any]]] = [
             ("publish", store.publish),
             ("revert", lambda: store.revert(other)),
-            ("length", lambda: len(store)),
+            ("edits", lambda: store.edits),
             ("edit", lambda: store.remove("/x")),
             ("judge", lambda: store.judge.remove("/x")),
             ("review", lambda: list(store.review())),
         ]
         for name, ask in asks:
-            gives(f"{name} of a closed store", closed + ("store",), lambda: refused(ask))
+            gives(f"{name} of a closed store", handle + ("store",), lambda: closed(ask))
     raises("a judge of no store", TypeError, lambda: hudarin.Judge(READERS))  # type: ignore[arg-type]
 
 
@@ -335,7 +370,7 @@ def whole() -> None:
     gives("of another type", False, lambda: WholeDescriptor(READERS) == READERS)
     gives("as it is shown", WHOLE, lambda: eval(repr(WHOLE), {"WholeDescriptor": WholeDescriptor}))
     gives("owner and group", ("BA", "SY"), lambda: (str(WHOLE.owner), str(WHOLE.group)))
-    gives("no owner, no group, no list", 4 * [None], lambda: [NONE.owner, NONE.group, NONE.dacl, NONE.sacl])
+    gives("no owner, no group, no SACL", 3 * [None], lambda: [NONE.owner, NONE.group, NONE.sacl])
     gives("a null SACL", None, lambda: WholeDescriptor.from_sddl("S:NO_ACCESS_CONTROL").sacl)
     wholes_entries()
     wholes_lists()
@@ -344,7 +379,7 @@ def whole() -> None:
 
 def wholes_entries() -> None:
     """The entries of whole descriptors."""
-    given = [*(WHOLE.dacl or ()), *(WHOLE.sacl or ())]
+    given = [*WHOLE.dacl, *(WHOLE.sacl or ())]
     gives("their texts", ENTRIES, lambda: [entry.text for entry in given])
     gives("their types", [0x00, 0x05, 0x09, 0x02], lambda: [entry.type for entry in given])
     gives("their SIDs", ["WD", "AU", "BU", "WD"], lambda: [str(entry.sid) for entry in given])
@@ -356,7 +391,7 @@ def wholes_entries() -> None:
     gives("the list's bytes", True, lambda: b"".join(bytes(entry) for entry in given[:3]) in bytes(WHOLE))
     opaque = bytearray(bytes(WholeDescriptor.from_sddl("D:(A;;FA;;;WD)")))
     opaque[28] = 4
-    entry = (WholeDescriptor(opaque).dacl or ())[0]
+    entry = WholeDescriptor(opaque).dacl[0]
     gives("no layout", (4, 0, None, 16, None), lambda: (entry.type, entry.mask, entry.sid, len(entry.data), entry.text))
     gives("its bytes", bytes(opaque[28:]), lambda: bytes(entry))
 
@@ -469,7 +504,15 @@ def analysis() -> None:
     gives("unless", (Access(0x1, "sid", USERS, (guests,)),), lambda: denying.who(0x1))
     gives("nobody", (Access(0x1, "nobody", None, ()),), lambda: denying.who(0x1, [(guests, hudarin.DENY_ONLY)]))
     gives("everyone", (Access(0x1, "everyone", None, ()),), lambda: READERS.who(0x1, [everyone, USERS]))
-    gives("no right", (), lambda: READERS.who(0))
+    none = denying.who(0x1, [(guests, hudarin.DENY_ONLY)])
+    gives("nobody is false", (False, "0x1 to nobody", [False]), lambda: (bool(none), str(none), list(map(bool, none))))
+    some = denying.who(0x3, [(guests, hudarin.DENY_ONLY)])
+    gives("some are true", [True] * 3, lambda: [bool(each.who(0x1)) for each in (READERS, denying, READERS_WITHOUT)])
+    gives("everybody is true", [True] * 2, lambda: [bool(Descriptor.from_sddl(each).who(0x1)) for each in OPEN])
+    gives("nobody, of two rights", (False, 0x3), lambda: (bool(some), sum(each.mask for each in some)))
+    gives("of several rights as a text", "\n".join(map(str, READERS.who())), lambda: str(READERS.who()))
+    gives("they are copied", [none, False], lambda: [copy.copy(none), bool(pickle.loads(pickle.dumps(none)))])
+    raises("no right", ValueError, lambda: READERS.who(0))
     gives("all rights", 0x1FFFFF, lambda: functools.reduce(operator.or_, (access.mask for access in READERS.who())))
     keys = (Access(0x20019, "sid", USERS, ()), Access(0x20000, "owner", admins, ()))
     gives("by a mapping", keys, lambda: _users("GR").who("KR", mapping=hudarin.KEYS))
@@ -559,7 +602,7 @@ def kept() -> None:
     shown = "O:BAG:SYD:AI(A;;FA;;;BA)"
     with Store(folder) as store, Store(folder) as again:
         store.judge.add_object("/f", own, kept=inherited, offer=offer)
-        gives("a judged one isn't made", 0, lambda: len(store))
+        gives("a judged one isn't made", 0, lambda: store.edits)
         store.add_object("/f", own, kept=inherited, offer=offer)
         store.add_container("/d", own)
         for number in range(40):
@@ -571,7 +614,7 @@ def kept() -> None:
             gives("what it keeps", Stored(inherited, offer), lambda: view.stored("/f"))
             gives("the last container", Stored(offer, inherited), lambda: view.own("/e").stored)
             gives("nothing", [None] * 3, lambda: [view.stored(path) for path in ("/", "/d", "/d/39")])
-            gives("each by its path", list(view.nodes()), lambda: [view.own(path) for path in view.paths()])
+            gives("each by its path", list(view.nodes()), lambda: [view.own(path) for path in view])
             gives("no such node", ("no node", 0, None, 0, "path"), lambda: refused(lambda: view.stored("/d/40")))
             for node in list(view.nodes())[1:]:
                 lists = {} if node.stored is None else node.stored._asdict()
@@ -596,7 +639,7 @@ def kept() -> None:
 
 
 def _shown(one: View, other: View) -> Tuple[List[str], Callable[[], List[str]]]:
-    return [str(one.descriptor(path)) for path in one.paths()], lambda: [str(other.descriptor(path)) for path in other.paths()]
+    return [str(one.descriptor(path)) for path in one], lambda: [str(other.descriptor(path)) for path in other]
 
 
 def _users(rights: str) -> Descriptor:
@@ -608,7 +651,9 @@ def _user(change: Change) -> Tuple[bool, str]:
 
 
 def main() -> int:
-    for test in (truth, copies, refusals, pool, again, parts, names, one_exception, whole, analysis, findings, reviews, kept):
+    for test in (truth, copies, refusals, pool, again, parts, names, one_exception):
+        test()
+    for test in (whole, analysis, findings, reviews, kept):
         test()
     gives("all names of the module", [], lambda: [name for name in hudarin.__all__ if not hasattr(hudarin, name)])
     gives("the mapping of files", FILES, lambda: (mask("FR"), mask("FW"), mask("FX"), mask("FA")))

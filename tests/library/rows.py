@@ -48,6 +48,9 @@ class Question(NamedTuple):
     restricting: list
     privileges: int
 
+    def request(self):
+        return {"asked": self.asked, "privileges": self.privileges, "restricting": self.restricting}
+
 
 def token_words(words):
     """The groups, the restricting SIDs and the privileges that the words name, or the line that refuses one."""
@@ -80,7 +83,7 @@ def verdict(*words):
     asked, refused = question(*words)
     if refused:
         return refused
-    answer = asked.descriptor.check(asked.user, asked.groups, asked.asked, asked.privileges, restricting=asked.restricting)
+    answer = asked.descriptor.check(asked.user, asked.groups, **asked.request())
     with hudarin.Token(asked.user, asked.groups, asked.privileges, asked.restricting) as token:
         over = asked.descriptor.check_by(token, asked.asked)
         with hudarin.KeptDescriptor(asked.descriptor) as kept:
@@ -92,7 +95,7 @@ def why(*words):
     asked, refused = question(*words)
     if refused:
         return refused
-    told = asked.descriptor.explain(asked.user, asked.groups, asked.asked, asked.privileges, restricting=asked.restricting)
+    told = asked.descriptor.explain(asked.user, asked.groups, **asked.request())
     with hudarin.Token(asked.user, asked.groups, asked.privileges, asked.restricting) as token:
         with hudarin.KeptDescriptor(asked.descriptor) as kept:
             by = kept.explain(token, asked.asked)
@@ -111,7 +114,7 @@ def who(sddl, asked, *words):
     descriptor, refused = fault(lambda: hudarin.Descriptor.from_sddl(sddl), "sddl")
     mask, refused = (None, refused) if refused else fault(lambda: hudarin.mask(asked), "mask")
     base, refused = (None, refused) if refused else base_words(words)
-    return refused or "\n".join(map(str, descriptor.who(mask, base)))
+    return refused or (str(descriptor.who(mask, base)) if mask else "fault mask")
 
 
 def lint(sddl, *words):

@@ -103,14 +103,14 @@ def questions() -> None:
         raises("one type", TypeError, lambda: OF_PROPERTY.check(client, 0x10, PROPERTY))
         raises("a type's bytes", TypeError, lambda: OPEN.check(client, 0x1, [bytes(16)]))  # type: ignore[list-item]
         raises("a token", TypeError, lambda: OPEN.check(token, 0x1))  # type: ignore[arg-type]
-        raises("a SID's text", TypeError, lambda: OPEN.check(client, principal_self="BU"))  # type: ignore[arg-type]
+        raises("a SID's text", TypeError, lambda: OPEN.check(client, 0x1, principal_self="BU"))  # type: ignore[arg-type]
         for entry in ("(SP;;;;;S-1-17-1)", "(TL;;0x2;;;S-1-19-512-4096)", "(FL;;0x2;;;WD;(a))"):
             limited = WholeDescriptor.from_sddl(f"D:(A;;FR;;;BU)S:{entry}")
             unsure = ("undecided", 7, "MayBeDenied", 0, "descriptor")
             gives(f"a grant by {entry}", unsure, lambda: refused(lambda: limited.check(client, "FR")))
             gives(f"a denial by {entry}", "denied 0x2", lambda: str(limited.check(client, 0x2)))
         wide = ("mapping", 0, None, 0, "mapping")
-        gives("a mapping", wide, lambda: refused(lambda: OPEN.check(client, mapping=(0, 0, 0, 1 << 21))))
+        gives("a mapping", wide, lambda: refused(lambda: OPEN.check(client, 0x1, mapping=(0, 0, 0, 1 << 21))))
 
 
 if __name__ == "__main__":
