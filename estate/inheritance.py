@@ -81,7 +81,7 @@ class Inheritance:
         common = 0
         while common < min(len(chain), len(self._chain)) and chain[common] == self._chain[common]:
             common += 1
-        if self._store is None or common == 0 or len(self._store) > _EDITS:
+        if self._store is None or common == 0 or self._store.edits > _EDITS:
             store = self._open(chain[0])
             common = 1
         else:

@@ -233,7 +233,7 @@ class Script:
         """Raises a ValueError if the script isn't complete."""
         if self._store is None or self._before is None:
             raise ValueError("it ends before 'publish': it isn't complete")
-        if len(self._store) != len(self.after):
+        if self._store.edits != self.after.edits:
             raise ValueError("changes after the last 'publish' aren't published")
         if any(node.whole for node in self.nodes.values()):
             for change in self.changes():

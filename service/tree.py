@@ -26,7 +26,7 @@ class Tree:
         self._store = Store(root, MAPPINGS[mapping])
         #: The published tree, and the number of published edits.
         self.view = self._store.publish()
-        self.length = len(self.view)
+        self.length = self.view.edits
 
     def make(self, edit: Edit) -> Result | None:
         """Makes the edit, or says why it is refused."""
@@ -35,7 +35,7 @@ class Tree:
     def publish(self) -> View:
         """Publishes all pending edits, and returns the view that was published until now, which the caller closes."""
         old, self.view = self.view, self._store.publish()
-        self.length += len(self.view) - len(old)
+        self.length += self.view.edits - old.edits
         return old
 
     def pending_view(self) -> View:

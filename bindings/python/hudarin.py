@@ -1760,8 +1760,8 @@ class Node(NamedTuple):
 
 class View(_Held):
     """The tree of a ``Store`` at a publish. It never changes: ``with store.publish() as view: ..``, or until ``close``.
-    It iterates the path of each node, the root's first, and each after its parent's; ``len`` is their number. Threads
-    take turns at it, or use a ``share`` each."""
+    It iterates the path of each node, the root's first, and each after its parent's. Threads take turns at it, or use a
+    ``share`` each."""
 
     __slots__ = ()
 
@@ -1825,25 +1825,21 @@ class View(_Held):
         """The place of the node of the path in the order of the paths: of names, each by its bytes. Of no node a place
         at which there is none or another one."""
         names = _path(path).split(b"/")
-        return self._count(lambda found: found.split(b"/") < names)
-
-    def _count(self, is_counted: Callable[[bytes], bool]) -> int:
-        """The number of paths that are counted, which are the first ones."""
-
-        def is_at(place: int) -> bool:
-            path = self._path_at(place)
-            return path is not None and is_counted(path)
-
         low, high = 0, 1
-        while is_at(high):
+        while self._is_before(high, names):
             low, high = high, 2 * high
         while low < high:
             middle = (low + high) // 2
-            if is_at(middle):
+            if self._is_before(middle, names):
                 low = middle + 1
             else:
                 high = middle
         return low
+
+    def _is_before(self, place: int, names: List[bytes]) -> bool:
+        """Whether there is a node at the place, before these names."""
+        path = self._path_at(place)
+        return path is not None and path.split(b"/") < names
 
     def _of_path(self, call: Callable[..., Any], path: NodePath) -> Tuple[bytes, Any]:
         given = _path(path)
@@ -1868,12 +1864,6 @@ class View(_Held):
         if answer.status in (_ROOM, _NO_NODE):
             return bool(answer.status == _ROOM)
         _refuse(answer, argument=self._argument if answer.status == _HANDLE else "path")
-
-    def __len__(self) -> int:
-        return self._count(lambda _: True)
-
-    def __bool__(self) -> bool:
-        return True
 
     def nodes(self) -> Iterator[Node]:
         """Each node, in the order of the paths."""

@@ -97,7 +97,7 @@ with Token(user, [user], restricting=[user]) as token, KeptDescriptor(descriptor
         every: List[Verdict] = check_all([descriptor], token, asked="FR")
         had: Optional[Stored] = view.stored("/a")
         store.add_object("/f", descriptor, kept=descriptor, offer=descriptor)
-        count: int = len(view) + view.edits + store.edits
+        count: int = view.edits + store.edits
         store.judge.move("/a", PurePosixPath("/b"))
         reviewed: Iterator[Reviewed] = store.review()
         moved: Tuple[Optional[str], ...] = tuple(node.before for node in reviewed)
@@ -128,7 +128,7 @@ Descriptor.of(None)  # type: ignore
 Descriptor.of(["(A;;FR;;;BU)"])  # type: ignore
 Entry.allow("FR", "BU")  # type: ignore
 user < "SY"  # type: ignore
-len(store)  # type: ignore
+len(store), len(view)  # type: ignore
 view.check(b"/a", token, 0x1)  # type: ignore
 descriptor.who(1.0)  # type: ignore
 descriptor.lint(1.0)  # type: ignore

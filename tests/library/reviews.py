@@ -68,7 +68,7 @@ def reply_of(store, line):
         return "\n".join(map(str, store.review()))
     if line == "publish":
         with store.publish() as view:
-            return f"published {len(view)}"
+            return f"published {view.edits}"
     if line == "list":
         with store.publish() as view:
             return "\n".join(f"{KINDS[node.is_container]} {node.path} {view.descriptor(node.path)}" for node in view.nodes())

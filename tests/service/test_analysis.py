@@ -128,7 +128,7 @@ class Analysis(rig.Case):
             view = store.publish()
         with view, token:
             for top, count in (("/", 175), ("/a", 58), ("/a/n1", 1), ("/a/n0", 0)):
-                wanted = [spelled(path) for path in view.paths()
+                wanted = [spelled(path) for path in view
                           if (path == top or path.startswith(top.rstrip("/") + "/")) and view.check(path, token, "FR")]
                 said = [each.line() for each in found(view.share(), 7, top, token.share(), 1, 0x120089,
                                                       Deadline(rig.PATIENCE, print))]
