@@ -146,7 +146,8 @@ class Drawn:
 
 def beside() -> None:
     """The parts are those that the library reads from the same bytes."""
-    seed, count = [*map(int, sys.argv[1:3]), 1, 3000][:2] if len(sys.argv) < 3 else map(int, sys.argv[1:3])
+    given = list(map(int, sys.argv[1:]))
+    seed, count = given + [1, 3000][len(given) :]
     drawn, read, kinds = Drawn(seed), 0, set()
     for number in range(count):
         form = drawn.descriptor()
