@@ -581,7 +581,7 @@ _Buffer = ctypes.c_char * 256
 
 
 def _filled(
-    call: Callable[[Any, int], Any], kind: str = "sddl", argument: Optional[Callable[[Any], str]] = None
+    call: Callable[[Any, int], Any], kind: str = "sddl", argument: Optional[Callable[[Any], Optional[str]]] = None
 ) -> Tuple[bytes, Any]:
     """What the call writes into a buffer, and its answer. A buffer that is too small is replaced by one of the length
     that the answer says."""
@@ -858,12 +858,14 @@ class _Held:
                 raise RuntimeError(f"{self._argument}: it is made already")
             _checked(call(*given, self._kept), argument=self._argument)
 
-    def _share(self: _H) -> _H:
-        """Another object that holds the same."""
-        other = type(self).__new__(type(self))
+    def _written(self, call: Callable[..., Any], *given: Any, argument: Optional[str] = None) -> Tuple[bytes, Any]:
+        """What the call writes about what is kept, and its answer. Other faults than these are of the argument."""
+        named = {_HANDLE: self._argument, _SID: "domain", _DOMAIN: "domain"}
         with self._turn:
-            _checked(_library.hudarin_share(self._kept, other._kept), argument=self._argument)
-        return other
+            return _filled(
+                lambda *buffer: call(self._kept, *given, *buffer),
+                argument=lambda written: named.get(written.status, argument),
+            )
 
     def __enter__(self: _H) -> _H:
         return self
@@ -879,23 +881,33 @@ class _Held:
         raise TypeError(f"a {type(self).__name__} can't be copied or pickled: {self._uncopied}")
 
 
-class Token(_Held):
+class _Shared(_Held):
+    """Memory of the library that several objects may hold."""
+
+    __slots__ = ()
+
+    _uncopied = "share makes another"
+
+    def share(self: _H) -> _H:
+        """Another object that holds the same, and is closed by itself."""
+        other = type(self).__new__(type(self))
+        with self._turn:
+            _checked(_library.hudarin_share(self._kept, other._kept), argument=self._argument)
+        return other
+
+
+class Token(_Shared):
     """A user, groups and privileges, prepared for many checks: ``with Token(user, groups) as token: ..``, or until
     ``close``. Its arguments are those of ``Descriptor.check``. Threads take turns at it, or use a ``share`` each."""
 
     __slots__ = ()
 
     _argument = "token"
-    _uncopied = "share makes another"
 
     def __init__(
         self, user: Sid, groups: Iterable[Group] = (), privileges: int = 0, restricting: Iterable[Sid] = ()
     ) -> None:
         self._keep(_library.hudarin_keep_token, *_token(user, groups, privileges, restricting))
-
-    def share(self) -> "Token":
-        """Another token of the same user, groups and privileges, which is closed by itself."""
-        return self._share()
 
 
 def _words(words: Iterable[str]) -> bytes:
@@ -909,7 +921,7 @@ def _words(words: Iterable[str]) -> bytes:
     return b"".join(word + b"\0" for word in given)
 
 
-class Client(_Held):
+class Client(_Shared):
     """Who asks about a ``WholeDescriptor``, prepared for many checks: a user, and words as those of ``sdstore --whole
     verdict``. Each is a group, "S-1-5-32-545", "BU=deny" or "BU=off"; "BU=restrict"; "+security" or "+take"; a group of
     the device, "BU=device"; an integrity level, "level=low"; or a claim, '@User.Project="VP"'. No group is added, and of
@@ -919,16 +931,11 @@ class Client(_Held):
     __slots__ = ()
 
     _argument = "client"
-    _uncopied = "share makes another"
 
     def __init__(self, user: Sid, words: Iterable[str] = (), domain: Optional[Sid] = None) -> None:
         sid = b"" if domain is None else bytes(_of_type(domain, Sid, "domain"))
         who, given = bytes(_of_type(user, Sid, "user")), _words(words)
         self._keep(_library.hudarin_keep_client, sid, len(sid), who, len(who), given, len(given))
-
-    def share(self) -> "Client":
-        """Another client of the same user and words, which is closed by itself."""
-        return self._share()
 
 
 def _joined(data: bytes) -> Iterator[Sid]:
@@ -940,12 +947,7 @@ def _joined(data: bytes) -> Iterator[Sid]:
         at += len(sid._bytes)
 
 
-def _of_accounts(answer: Any) -> str:
-    """The argument of a call over accounts that the answer rejects."""
-    return {_SID: "domain", _DOMAIN: "domain", _HANDLE: "accounts"}.get(answer.status, "user")
-
-
-class Accounts(_Held):
+class Accounts(_Shared):
     """Who has which name, and who is in which group: the accounts of a file's text, which ``sdstore --accounts`` takes
     too, and those that Windows has everywhere. It is used in a ``with``, or until ``close``. A line that is no row, or
     that says that rows are missing, is ``Refused`` as "row", with its number, from 1, as the ``place``. Threads take
@@ -954,7 +956,6 @@ class Accounts(_Held):
     __slots__ = ()
 
     _argument = "accounts"
-    _uncopied = "share makes another"
 
     def __init__(self, text: str) -> None:
         given = _text(text)
@@ -966,12 +967,8 @@ class Accounts(_Held):
         or a SID's text; with a ``domain`` the aliases of that domain's accounts, as "LA", are SIDs of it. Who may not
         log on is ``Refused`` as "account": "Unknown", "Ambiguous", "NoUser" or "Disabled"."""
         given, sid = _text(user), b"" if domain is None else bytes(_of_type(domain, Sid, "domain"))
-        call = _library.hudarin_account_sids
-        with self._turn:
-            joined = _filled(
-                lambda *buffer: call(self._kept, sid, len(sid), given, len(given), *buffer), argument=_of_accounts
-            )
-        return tuple(_joined(joined[0]))
+        words = sid, len(sid), given, len(given)
+        return tuple(_joined(self._written(_library.hudarin_account_sids, *words, argument="user")[0]))
 
     def token(
         self, user: str, domain: Optional[Sid] = None, privileges: int = 0, restricting: Iterable[Sid] = ()
@@ -983,15 +980,9 @@ class Accounts(_Held):
     def users(self) -> Tuple[Tuple[Sid, str], ...]:
         """The users that may log on, in the file's order and after them those that Windows has everywhere, each with a
         name."""
-        with self._turn:
-            call = _library.hudarin_account_users
-            text = _filled(lambda *buffer: call(self._kept, *buffer), argument=_of_accounts)[0].decode()
+        text = self._written(_library.hudarin_account_users)[0].decode()
         lines = (line.partition(" ") for line in text.split("\n")[:-1])
         return tuple((Sid.from_text(sid), name) for sid, _, name in lines)
-
-    def share(self) -> "Accounts":
-        """Another object that holds the same accounts, which is closed by itself."""
-        return self._share()
 
 
 class Entry(NamedTuple):
@@ -1681,14 +1672,13 @@ class WholeDescriptor(_SelfRelative):
         )
 
 
-class KeptDescriptor(_Held):
+class KeptDescriptor(_Shared):
     """A ``Descriptor``, prepared for many checks: ``with KeptDescriptor(descriptor) as kept: ..``, or until ``close``.
     Threads take turns at it, or use a ``share`` each."""
 
     __slots__ = ("_descriptor",)
 
     _argument = "descriptor"
-    _uncopied = "share makes another"
 
     _descriptor: Descriptor
 
@@ -1704,7 +1694,7 @@ class KeptDescriptor(_Held):
 
     def share(self) -> "KeptDescriptor":
         """Another one of the same descriptor, which is closed by itself."""
-        other = self._share()
+        other = super().share()
         other._descriptor = self._descriptor
         return other
 
@@ -1758,7 +1748,7 @@ class Node(NamedTuple):
     stored: Optional[Stored] = None
 
 
-class View(_Held):
+class View(_Shared):
     """The tree of a ``Store`` at a publish. It never changes: ``with store.publish() as view: ..``, or until ``close``.
     It iterates the path of each node, the root's first, and each after its parent's. Threads take turns at it, or use a
     ``share`` each."""
@@ -1766,7 +1756,6 @@ class View(_Held):
     __slots__ = ()
 
     _argument = "view"
-    _uncopied = "share makes another"
 
     def check(self, path: NodePath, token: Token, asked: Mask) -> Verdict:
         """Whether the node of the path grants ``asked``, with the mapping of the store. Without such a node:
@@ -1814,12 +1803,7 @@ class View(_Held):
             raise
 
     def _list_at(self, place: int, part: int) -> Descriptor:
-        with self._turn:
-            form = _filled(
-                lambda *buffer: _library.hudarin_view_stored(self._kept, place, part, *buffer),
-                argument=lambda _: self._argument,
-            )[0]
-        return Descriptor._of(form)
+        return Descriptor._of(self._written(_library.hudarin_view_stored, place, part)[0])
 
     def _place_of(self, path: NodePath) -> int:
         """The place of the node of the path in the order of the paths: of names, each by its bytes. Of no node a place
@@ -1841,13 +1825,9 @@ class View(_Held):
         path = self._path_at(place)
         return path is not None and path.split(b"/") < names
 
-    def _of_path(self, call: Callable[..., Any], path: NodePath) -> Tuple[bytes, Any]:
+    def _of_path(self, call: Callable[..., Any], path: object) -> Tuple[bytes, Any]:
         given = _path(path)
-        with self._turn:
-            return _filled(
-                lambda *buffer: call(self._kept, given, len(given), *buffer),
-                argument=lambda written: self._argument if written.status == _HANDLE else "path",
-            )
+        return self._written(call, given, len(given), argument="path")
 
     def __iter__(self) -> Iterator[str]:
         for place in itertools.count():
@@ -1858,12 +1838,13 @@ class View(_Held):
 
     def __contains__(self, path: object) -> bool:
         """Whether there is a node of the path. What is no path is ``Refused``."""
-        given = _path(path)
-        with self._turn:
-            answer = _library.hudarin_view_own(self._kept, given, len(given), None, 0).written
-        if answer.status in (_ROOM, _NO_NODE):
-            return bool(answer.status == _ROOM)
-        _refuse(answer, argument=self._argument if answer.status == _HANDLE else "path")
+        try:
+            self._of_path(_library.hudarin_view_own, path)
+        except Refused as refused:
+            if refused.status == STATUSES[_NO_NODE]:
+                return False
+            raise
+        return True
 
     def nodes(self) -> Iterator[Node]:
         """Each node, in the order of the paths."""
@@ -1872,19 +1853,11 @@ class View(_Held):
     def _path_at(self, place: int) -> Optional[bytes]:
         """The path at a place in their order, or None after the last one."""
         try:
-            with self._turn:
-                return _filled(
-                    lambda *buffer: _library.hudarin_view_node(self._kept, place, *buffer),
-                    argument=lambda _: self._argument,
-                )[0]
+            return self._written(_library.hudarin_view_node, place)[0]
         except Refused as refused:
             if refused.status == STATUSES[_NO_NODE]:
                 return None
             raise
-
-    def share(self) -> "View":
-        """Another view of the same tree, which is closed by itself."""
-        return self._share()
 
     @property
     def edits(self) -> int:
@@ -2068,11 +2041,7 @@ class Store(_Held, _Edits):
                     yield reviewed
 
     def _review_at(self, place: int, lines: _Lines) -> Tuple[bytes, Any]:
-        with self._turn:
-            return _filled(
-                lambda *buffer: _library.hudarin_store_review(self._kept, place, *buffer, lines._kept),
-                argument=lambda _: self._argument,
-            )
+        return self._written(lambda *given: _library.hudarin_store_review(*given, lines._kept), place)
 
     @property
     def edits(self) -> int:
