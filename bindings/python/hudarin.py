@@ -924,8 +924,8 @@ def _words(words: Iterable[str]) -> bytes:
 class Client(_Shared):
     """Who asks about a ``WholeDescriptor``, prepared for many checks: a user, and words as those of ``sdstore --whole
     verdict``. Each is a group, "S-1-5-32-545", "BU=deny" or "BU=off"; "BU=restrict"; "+security" or "+take"; a group of
-    the device, "BU=device"; an integrity level, "level=low"; or a claim, '@User.Project="VP"'. No group is added, and of
-    two claims with one name the first counts. With a ``domain`` the aliases of a domain's accounts and groups, as "DA",
+    the device, "BU=device"; an integrity level, "level=low"; or a claim, '@User.Project="VP"'. No group is added, and
+    of two claims with one name the first counts. With a ``domain`` the aliases of a domain's accounts and groups, as "DA",
     are SIDs of that domain. Threads take turns at it, or use a ``share`` each."""
 
     __slots__ = ()
@@ -1066,7 +1066,8 @@ class Access(NamedTuple):
 
 
 class Accesses(Tuple[Access, ...]):
-    """Who is granted which rights. It is false if nobody is granted any, and prints as ``sdstore who`` does."""
+    """Who is granted which rights without a privilege. It is false if nobody is granted any, and prints as ``sdstore
+    who`` does."""
 
     __slots__ = ()
 
@@ -1398,8 +1399,9 @@ class Descriptor(_SelfRelative):
         self, asked: Mask = _MAXIMUM_ALLOWED, base: Iterable[Group] = (), mapping: Iterable[Mask] = FILES
     ) -> Accesses:
         """Who is granted which rights of ``asked``, or of all, among all tokens that have the groups of the ``base``:
-        false if nobody is granted any. A token that nothing restricts, and without privileges, is granted a right if
-        and only if one of the accesses with that right holds for it. To ask for no right is a ValueError."""
+        false if nobody is granted any without a privilege. A token that nothing restricts, and without privileges, is
+        granted a right if and only if one of the accesses with that right holds for it. To ask for no right is a
+        ValueError."""
         given, request = _groups(base), (_mapping(mapping), _mask(asked, "asked"))
         if request[1] == 0:
             raise ValueError("asked: no right is asked for")
