@@ -209,7 +209,11 @@ def parts() -> None:
     gives("their flags", 0xDF, lambda: sum(FLAGS.values()))
     for letters, flag in FLAGS.items():
         gives(letters, flag, lambda: Descriptor.from_sddl(f"D:(A;{letters};FR;;;WD)").entries[0].flags)
-    shapes: List[Tuple[str, Tuple[Any, Any, Any]]] = [
+
+
+def shapes() -> None:
+    """What a descriptor has no part of; an absent and a null DACL are no lists without entries."""
+    given: List[Tuple[str, Tuple[Any, Any, Any]]] = [
         ("", (None, None, "absent")),
         ("O:BG", (Sid.from_text("BG"), None, "absent")),
         ("G:BG", (None, Sid.from_text("BG"), "absent")),
@@ -219,7 +223,7 @@ def parts() -> None:
         ("D:NO_ACCESS_CONTROL", (None, None, "null")),
         ("D:PAINO_ACCESS_CONTROL", (None, None, "null")),
     ]
-    for text, wanted in shapes:
+    for text, wanted in given:
         forms: List[Union[Descriptor, WholeDescriptor]] = [Descriptor.from_sddl(text), WholeDescriptor.from_sddl(text)]
         for form in forms:
             gives(f"the parts of {text!r}", wanted, lambda: (form.owner, form.group, form.dacl_kind))
@@ -651,7 +655,7 @@ def _user(change: Change) -> Tuple[bool, str]:
 
 
 def main() -> int:
-    for test in (truth, copies, refusals, pool, again, parts, names, one_exception):
+    for test in (truth, copies, refusals, pool, again, parts, shapes, names, one_exception):
         test()
     for test in (whole, analysis, findings, reviews, kept):
         test()
