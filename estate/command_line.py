@@ -80,7 +80,9 @@ def _parser() -> argparse.ArgumentParser:
     report.add_argument("file", metavar="FILE", help="the HTML file to write")
     report.add_argument("--title", metavar="TEXT", help="SCRIPT unless given")
     _add_people(report)
-    report.add_argument("--matrix", metavar="CSV", help="write a line for each user and node where its rights change")
+    report.add_argument(
+        "--matrix", metavar="FILE", help="write a line for each user and node where its rights change: CSV, or .xlsx"
+    )
     _add_accounts(command("accounts", commands.accounts, "write which groups users are in, for sdstore --accounts"))
     return parser
 

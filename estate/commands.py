@@ -29,6 +29,7 @@ from script import Script, read_script
 from table import Table, plural, say
 from texts import Assumed, TextFile
 from volumes import Volume
+from workbook import is_workbook, require_workbooks
 from atomic_file import atomic_file
 from writing import Move, apply, backward, check_target, forward
 
@@ -204,7 +205,7 @@ def review(arguments: argparse.Namespace, table: Table) -> int:
 
 
 def report(arguments: argparse.Namespace, table: Table) -> int:
-    """The nodes of a script as a page, and what users of a file of accounts are granted as CSV."""
+    """The nodes of a script as a page, and what users of a file of accounts are granted as CSV or a workbook."""
     _check_files(arguments)
     accounts_too = [] if arguments.accounts is None else [arguments.accounts]
     names, title = read_names(arguments.names + accounts_too), arguments.title or arguments.script
@@ -230,7 +231,9 @@ def _check_files(arguments: argparse.Namespace) -> None:
     read = {os.path.realpath(each) for each in (arguments.script, arguments.accounts, *arguments.names)}
     written = [os.path.realpath(each) for each in (arguments.file, arguments.matrix) if each is not None]
     if len(read.union(written)) < len(read) + len(written):
-        raise Invalid("FILE and --matrix CSV are two files, and none that is read: name others")
+        raise Invalid("FILE and that of --matrix are two files, and none that is read: name others")
+    if arguments.matrix is not None and is_workbook(arguments.matrix):
+        require_workbooks()
 
 
 def accounts(arguments: argparse.Namespace, table: Table) -> int:

@@ -1,8 +1,8 @@
-"""Where the rights of users differ from those in the folder above, node by node: as a table of the report's page, and
-as CSV. What is alike is worked out once: users, and nodes."""
+"""Where the rights of users differ from those in the folder above, node by node: as a table of the report's page,
+as CSV and as a workbook. What is alike is worked out once: users, and nodes."""
 
 from collections.abc import Iterable, Iterator
-from itertools import groupby, takewhile
+from itertools import chain, groupby, takewhile
 from typing import Any, NamedTuple
 
 from atomic_file import atomic_file
@@ -14,11 +14,12 @@ from rights import in_few_words
 from script import Script
 from sheet import path_cell, write_rows
 from table import safe
+from workbook import Workbook, is_workbook
 
 _HEADER = ("path", "user", "SID", "rights", "mask")
 #: When the lists of a page have so many numbers, no other one is added.
 _MOST_RUNS = 1 << 22
-_NO_ROOM = "from here on the page has no room for nodes where rights of users differ: --matrix CSV writes all"
+_NO_ROOM = "from here on the page has no room for nodes where rights of users differ: --matrix FILE writes all"
 
 
 class Row(NamedTuple):
@@ -44,16 +45,20 @@ class Matrix:
             if rights != above:
                 self.rows.append(Row(path, rights, above))
 
-    # As CSV
+    # As CSV or a workbook
 
     def write(self, name: str, gaps: list[Gap]) -> int:
         """Writes a line for each user and node where its rights differ from those in the folder above, and one for each
         node that is left out. Returns how many rows of nodes there are."""
+        left_out = ((_cell_of(gap.path), "", "", f"left out: {gap.text}", "") for gap in gaps)
+        rows = chain(chain.from_iterable(map(self._lines, self.rows)), left_out)
         with atomic_file(name) as file:
-            write_rows(file, [_HEADER])
-            for row in self.rows:
-                write_rows(file, self._lines(row))
-            write_rows(file, ((_cell_of(gap.path), "", "", f"left out: {gap.text}", "") for gap in gaps))
+            if is_workbook(name):
+                book = Workbook(_HEADER)
+                book.write(rows)
+                book.save(file)
+            else:
+                write_rows(file, chain([_HEADER], rows))
         return len(self.rows)
 
     def _lines(self, row: Row) -> Iterator[tuple[str, ...]]:

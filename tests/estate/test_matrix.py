@@ -5,13 +5,17 @@ import contextlib
 import csv
 import io
 import json
+import os
 import random
+import sys
 import unittest
+import zipfile
 from collections.abc import Iterator
 from unittest import mock
+from xml.etree import ElementTree
 
 import chromium
-from rig import Case, needs_program
+from rig import Case, needs_program, python_with
 from by_hand import ACCOUNTS, ALICE, DAVE, DOMAIN, NAMES, STAFF, TREE, token_of
 from command_line import main
 from matrix import Matrix
@@ -20,6 +24,7 @@ from people import People
 from rights import in_few_words
 from script import read_script
 from second import Entry, Node, Tree, sid_text, verdict
+from table import safe
 
 #: Everybody at the root, and at the other nodes those whose rights are others than in the folder.
 ROOT = {
@@ -34,6 +39,7 @@ CHANGES = {
     "/a%20b/c": {"alice": (ALL_BUT_DATA, 0x120088), "dave": (OF_OWNER, 0x60000)},
     "/d": {"alice": ("full control", 0x1F01FF), "bob": ("none", 0), "system": (OF_OWNER, 0x60000)},
 }
+SPREADSHEET = "{http://schemas.openxmlformats.org/spreadsheetml/2006/main}"
 HEADER = ["path", "user", "SID", "rights", "mask"]
 #: Names that a file of accounts may have, and how a cell has them.
 ODD = {
@@ -118,6 +124,49 @@ class Sheet(Case):
         people = [row.split("\t") for row in told if row.startswith("person\t")]
         self.assertEqual([cells[4] for cells in people[: len(ODD)]], list(users.values()))
         self.assertEqual({len(cells) for cells in people}, {6})
+
+
+@needs_program
+class InAWorkbook(Case):
+    """The same rows as of CSV, read from the workbook as Office Open XML has them."""
+
+    def cells(self, accounts: str) -> list[list[tuple[str, str]]]:
+        """Of each row of the first sheet the types and the texts."""
+        self.write("script", TREE)
+        self.write("accounts", accounts)
+        found = python_with("openpyxl")
+        if found is None:
+            self.skipTest("no Python here has openpyxl")
+        self.python = found
+        self.runs(0, "report", "script", "page.html", "--accounts", "accounts", "--matrix", "sheet.xlsx")
+        with zipfile.ZipFile(self.room / "sheet.xlsx") as parts:
+            sheet = ElementTree.fromstring(parts.read("xl/worksheets/sheet1.xml"))
+        rows = sheet.iter(f"{SPREADSHEET}row")
+        return [[(cell.get("t", ""), "".join(cell.itertext())) for cell in row] for row in rows]
+
+    def test_by_hand(self) -> None:
+        rows = self.cells(ACCOUNTS)
+        self.assertEqual({kind for row in rows for kind, _ in row}, {"inlineStr"})
+        wanted = [HEADER, *(row for path in CHANGES for row in wanted_at(path))]
+        self.assertEqual([[text for _, text in row] for row in rows], wanted)
+
+    def test_no_cell_is_a_formula(self) -> None:
+        users = {name: f"{DOMAIN}-{2000 + at}" for at, name in enumerate(ODD)}
+        rows = self.cells("".join(f"user {sid} {name}\n" for name, sid in users.items()))
+        self.assertEqual({kind for row in rows for kind, _ in row}, {"inlineStr"})
+        shown = [safe(name) for name in users]
+        self.assertEqual([row[1][1] for row in rows[1 : 1 + len(users)]], shown)
+
+    def test_without_the_package(self) -> None:
+        self.write("script", TREE)
+        self.write("accounts", ACCOUNTS)
+        words = ["report", "script", "page.html", "--accounts", "accounts", "--matrix", "sheet.XLSX"]
+        with mock.patch.dict(sys.modules, openpyxl=None), contextlib.chdir(self.room):
+            told = io.StringIO()
+            with contextlib.redirect_stderr(told):
+                status = main(words)
+        self.assertEqual((status, sorted(os.listdir(self.room))), (2, ["accounts", "script"]))
+        self.assertIn("install python3-openpyxl", told.getvalue())
 
 
 class AtRandom(Case):
@@ -206,7 +255,7 @@ class Room(Case):
         out = io.StringIO()
         with mock.patch("matrix._MOST_RUNS", 1), contextlib.redirect_stdout(out):
             status = main(["report", *words[:2], "--accounts", words[2], "--matrix", words[3]])
-        why = "from here on the page has no room for nodes where rights of users differ: --matrix CSV writes all"
+        why = "from here on the page has no room for nodes where rights of users differ: --matrix FILE writes all"
         self.assertEqual((status, out.getvalue()), (4, f"cut\t/a%20b/c\t{why}\t2\n"))
         page = (self.room / "page").read_text()
         data = json.loads(page.partition('<script id="data" type="application/json">')[2].partition("</script>")[0])

@@ -130,7 +130,7 @@ class Asked(Case):
             ((*who, "--accounts", "bytes"), "bytes: line 2: it isn't UTF-8"),
             ((*who, "--accounts", "tree"), "tree: line 1: it begins with none of user, group, member"),
             (("report", "tree", "page", "--matrix", "csv"), "--matrix: it is about the users of --accounts FILE"),
-            (("report", "tree", "page", *accounts, "--matrix", "page"), "FILE and --matrix CSV are two files"),
+            (("report", "tree", "page", *accounts, "--matrix", "page"), "FILE and that of --matrix are two files"),
             (("report", "tree", "page", *accounts, "--matrix", "accounts"), "none that is read"),
             (("report", "tree", "accounts", *accounts), "none that is read"),
         ):
