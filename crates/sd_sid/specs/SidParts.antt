@@ -36,7 +36,8 @@ hash_input s = fed.u64 s.authority ++ fed.slice fed.u32 s.subs
 
 -- SIDs whose fields are equal are equal, and so are hashed alike
 pub alike : (a b : SidValue)
-    → IsTrue (a.authority == b.authority && (bytes_eq (fields_of a).subs (fields_of b).subs && length a.subs == length b.subs))
+    → IsTrue (a.authority == b.authority
+    && (bytes_eq (fields_of a).subs (fields_of b).subs && length a.subs == length b.subs))
     → hash_input a ≡ hash_input b
 alike a b h =
     let authority = and_parts _ _ h in
