@@ -16,7 +16,7 @@ from errors import Failed, Invalid
 from forms import whole_in
 from paths import Path, parsed, spelled
 from script import Script
-from table import Table
+from table import Table, plural
 from volumes import Volume, text_of
 
 #: Where the program is: of a checkout what ./sdstore builds, of an installation the one beside this.
@@ -46,7 +46,10 @@ def program() -> str:
 def _ran(words: list[str], lines: Iterable[str] = ()) -> str:
     """What the program prints for its arguments and the lines of its input."""
     text = "".join(f"{line}\n" for line in lines)
-    asked = subprocess.run([program(), *words], input=text, capture_output=True, encoding="utf-8")
+    try:
+        asked = subprocess.run([program(), *words], input=text, capture_output=True, encoding="utf-8")
+    except OSError as error:
+        raise Failed(f"{program()}: {error.strerror}") from error
     if asked.returncode == 2:
         raise Invalid(asked.stderr.strip())
     if asked.returncode not in (0, 1):
@@ -59,8 +62,11 @@ def _each(words: list[str], texts: Iterable[str], options: list[str], end: str =
     after each answer. No text is an option of the program: each is a line of its input."""
     distinct = list(dict.fromkeys(texts))
     ends = f"\n{end}\n"
-    answers = _ran([*options, "each", *words], distinct).removesuffix(ends).split(ends) if distinct else []
-    return dict(zip(distinct, (answer.split("\n") for answer in answers), strict=True))
+    said = _ran([*options, "each", *words], distinct) if distinct else ""
+    answers = said.removesuffix(ends).split(ends) if said else []
+    if len(answers) != len(distinct):
+        raise Failed(f"{program()}: {plural(len(answers), 'answer')} to {len(distinct)}: it is no sdstore of this version")
+    return dict(zip(distinct, (answer.split("\n") for answer in answers)))
 
 
 def _each_object(

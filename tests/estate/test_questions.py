@@ -2,6 +2,8 @@
 away. The expected answers were worked out by hand, by docs/CHECK.md."""
 
 import json
+import os
+from unittest import mock
 
 from rig import Case, needs_program
 
@@ -24,6 +26,13 @@ class Questions(Case):
         super().setUp()
         self.write("before", SCRIPT)
         self.write("changed", SCRIPT + CHANGE)
+
+    def test_a_program_that_answers_nothing(self) -> None:
+        """It is an error, and no list without findings."""
+        none = "0 answers to 4: it is no sdstore of this version"
+        for program, says in (("/bin/true", none), ("/bin/false", none), ("/none", "No such file or directory")):
+            with self.subTest(program), mock.patch.dict(os.environ, SDSTORE=program):
+                self.assertEqual(self.runs(3, "lint", "before", says=f"{program}: {says}"), [])
 
     def test_who(self) -> None:
         """Of the tree after the changes; SIDs have names where they are given."""
