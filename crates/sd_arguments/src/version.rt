@@ -5,7 +5,7 @@ ghost use Rattle.sd_arguments.specs.Version.{version_line};
 use std::alloc::{AllocError, Global};
 
 /// The version of the program.
-pub(crate) const VERSION: &str = "0.2.0";
+pub(crate) const VERSION: &str = "0.3.0";
 
 /// A line of the program's name and version. The only error is out of memory.
 pub fn version_text(alloc: Global) -> Result<String, AllocError>
