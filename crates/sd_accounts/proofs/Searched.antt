@@ -14,7 +14,7 @@ use Rattle.sd_accounts.specs.Walk.{Extends, IsStart}
 use Rattle.sd_accounts.specs.Wanted.{AreOpen, AreUnwanted, Has, HasNone, HasWanted, IsOneWanted, LeadNowhere, Opens}
 use Rattle.sd_accounts.proofs.Direct.{direct_in, in_direct, nothing_in, only_one}
 use Rattle.sd_accounts.proofs.Sids.{sid_eq, sid_eq-itself, sid_eq-true}
-use Rattle.sd_accounts.proofs.Walked.{more_from, more_to, of_take}
+use Rattle.sd_accounts.proofs.Walked.{more_from, more_to, of_take, was_or_passes}
 
 pub itself : (sid : SidValue) → Contains (sid ∷ []) sid
 itself sid = Contains-push [] sid
@@ -36,7 +36,7 @@ in_found sid (one ∷ sids) at = by (sid_eq sid one) refl (Contains-append_cases
 
 -- SIDs that were added
 pub added_sound : (sids old new : List SidValue) (i : ℕ) → Extends (Contains (take i sids)) old new → (sid : SidValue) → Contains new sid → Contains old sid ⊎ Contains sids sid
-added_sound sids old new i added sid at = elim (added.sound sid at) [ inl was ↦ inl was | inr is ↦ inr (of_take sids i sid is) ]
+added_sound sids old new i added sid at = elim (was_or_passes added sid at) [ inl was ↦ inl was | inr is ↦ inr (of_take sids i sid is) ]
 
 pub all_added : (sids old new : List SidValue) (i : ℕ) → length sids ≤ i → Extends (Contains (take i sids)) old new → (sid : SidValue) → Contains sids sid → Contains new sid
 all_added sids old new i over added sid at = added.all sid (subst (λ l. Contains l sid) (sym (take_all i sids over)) at)

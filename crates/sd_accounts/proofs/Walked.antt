@@ -1,9 +1,8 @@
 -- The walk over the groups: each SID that is found is visited once, and its groups are added.
-use Rattle.std.proofs.Common.{◌≡◌, ◌++◌, ◌∙◌, ◌+◌, ◌-◌, ◌<◌, ◌≤◌, ◌⊎◌, ℕ, inl, inr, List, [], ◌∷◌, Bool, true, false, length, nat_eq, drop, take, get_or, refl, ap, sym, subst, arith}
+use Rattle.std.proofs.Common.{◌≡◌, ◌++◌, ◌∙◌, ◌+◌, ◌-◌, ◌<◌, ◌≤◌, ◌⊎◌, ℕ, inl, inr, List, [], ◌∷◌, Bool, true, false, Option, length, nat_eq, drop, take, replicate, get_or, refl, ap, sym, subst, arith}
 use Rattle.std.proofs.lemmas.Bool.{cases_lt, cases_order, eq-eqb, true≢false}
-use Rattle.std.proofs.Math.Seq.{take-append-add}
-use Rattle.std.proofs.lemmas.List.{append-nil, append_assoc, get_or-map, length-append, length-map, map-append, get_or_append_left, take-append-drop, take-append-le, take_all, take_more}
-use Rattle.std.proofs.lemmas.List.Elements.{Contains-append_left, Contains-append_right, Contains-get_or, Contains-push, Contains-push_cases, filter_map-append}
+use Rattle.std.proofs.lemmas.List.{append-nil, append_assoc, get_or-append_right, get_or-map, get_or-replicate, get_or_append_left, length-append, length-map, length-replicate, map-append, take-append-drop, take_all, take_more}
+use Rattle.std.proofs.lemmas.List.Elements.{Contains-append_cases, Contains-append_left, Contains-append_right, Contains-get_or, Contains-push, Contains-push_cases, filter_map-append}
 use Rattle.std.proofs.lemmas.Option.{get_or_from_slice_get, slice_get-get_or, slice_get_cases, slice_get_read, slice_get_within}
 use Rattle.std.proofs.lemmas.Map.Keys.{IsDistinct-from_apart, apart_from_distinct}
 use Rattle.std.proofs.lemmas.Map.Views.{Contains-from_any}
@@ -16,8 +15,8 @@ use Rattle.sd_sid.specs.Sid.{SidValue, same_sid}
 use Rattle.sd_accounts.specs.Groups.{AreGroupsOf, Belongs, IsIn, directly, further}
 use Rattle.sd_accounts.specs.Index.{AreApart, AreWithin, direct_groups, nobody, sid_at, sids_at}
 use Rattle.sd_accounts.specs.Row.{AccountRow}
-use Rattle.sd_accounts.specs.Walk.{Adds, AreReached, Extends, HasStarts, IsReached, IsStart, IsWalked}
-use Rattle.sd_accounts.proofs.Direct.{direct_in, in_direct, nothing_in}
+use Rattle.sd_accounts.specs.Walk.{Adds, AreFoundFrom, Extends, HasStarts, IsFoundFrom, IsStart, IsWalked}
+use Rattle.sd_accounts.proofs.Direct.{direct_in, in_direct, nothing_in, only_one}
 use Rattle.sd_accounts.proofs.Indexed.{from_map, in_map}
 use Rattle.sd_sid.proofs.Compared.{same_sid-itself, same_sid-true}
 
@@ -26,17 +25,21 @@ use Rattle.sd_sid.proofs.Compared.{same_sid-itself, same_sid-true}
 pub still_in : {A : Type 0} {P : A → Type 0} {old new : List A} → Extends P old new → (sid : A) → Contains old sid → Contains new sid
 still_in {old = old} more sid at = subst (λ l. Contains l sid) (sym more.front) (Contains-append_left old more.further sid at)
 
+-- what is there now was there, or passes
+pub was_or_passes : {A : Type 0} {P : A → Type 0} {old new : List A} → Extends P old new → (sid : A) → Contains new sid → Contains old sid ⊎ P sid
+was_or_passes {old = old} more sid at = elim (Contains-append_cases old more.further sid (subst (λ l. Contains l sid) more.front at)) [
+  | inl was ↦ inl was
+  | inr after ↦ inr (more.sound sid after)
+]
+
 pub unchanged : {A : Type 0} (P : A → Type 0) (old : List A) → ((sid : A) → P sid → ⊥) → Extends P old old
-unchanged P old none = record { further = []; front = sym (append-nil old); sound = λ sid at. inl at; all = λ sid p. absurd (none sid p) }
+unchanged P old none = record { further = []; front = sym (append-nil old); sound = λ sid at. absurd (nothing_in sid at); all = λ sid p. absurd (none sid p) }
 
 pub joined : {A : Type 0} {P Q : A → Type 0} {one two three : List A} → Extends P one two → Extends Q two three → Extends (λ sid. P sid ⊎ Q sid) one three
 joined {A} {P} {Q} {one} {two} {three} first second = record {
   further = first.further ++ second.further;
   front = second.front ∙ ap (λ l. l ++ second.further) first.front ∙ append_assoc one first.further second.further;
-  sound = λ sid at. elim (second.sound sid at) [
-    | inl before ↦ elim (first.sound sid before) [ inl old ↦ inl old | inr p ↦ inr (inl p) ]
-    | inr q ↦ inr (inr q)
-  ];
+  sound = λ sid at. elim (Contains-append_cases first.further second.further sid at) [ inl p ↦ inl (first.sound sid p) | inr q ↦ inr (second.sound sid q) ];
   all = λ sid either. elim either [ inl p ↦ still_in second sid (first.all sid p) | inr q ↦ second.all sid q ];
 }
 
@@ -44,7 +47,7 @@ pub alike : {A : Type 0} {P Q : A → Type 0} {old new : List A} → ((sid : A) 
 alike to from more = record {
   further = more.further;
   front = more.front;
-  sound = λ sid at. elim (more.sound sid at) [ inl before ↦ inl before | inr p ↦ inr (to sid p) ];
+  sound = λ sid at. to sid (more.sound sid at);
   all = λ sid q. more.all sid (from sid q);
 }
 
@@ -58,14 +61,14 @@ module _ {A : Type 0} (eq : A → A → Bool) (eq-true : (a b : A) → eq a b �
           let same : new ≡ old = is ∙ ap (λ t. if t then old else old ++ one ∷ []) e in record {
             further = [];
             front = same ∙ sym (append-nil old);
-            sound = λ other at. inl (subst (λ l. Contains l other) same at);
+            sound = λ other at. absurd (nothing_in other at);
             all = λ other is_one. subst (λ l. Contains l other) (sym same) (subst (Contains old) is_one (Contains-from_any eq-true one old e));
           }
       by false e =
           let more : new ≡ old ++ one ∷ [] = is ∙ ap (λ t. if t then old else old ++ one ∷ []) e in record {
             further = one ∷ [];
             front = more;
-            sound = λ other at. Contains-push_cases old one other (subst (λ l. Contains l other) more at);
+            sound = λ other at. only_one one other at;
             all = λ other is_one. subst (λ l. Contains l other) (sym more) (subst (Contains (old ++ one ∷ [])) is_one (Contains-push old one));
           }
 
@@ -107,88 +110,92 @@ start_more rows starts old mid new i one low is before added =
 pub of_take : {A : Type 0} (xs : List A) (n : ℕ) (x : A) → Contains (take n xs) x → Contains xs x
 of_take xs n x at = subst (λ l. Contains l x) (take-append-drop n xs) (Contains-append_left (take n xs) (drop n xs) x at)
 
-in_take : {A : Type 0} (xs ys : List A) (n : ℕ) (x : A) → length xs ≤ n → Contains xs x → Contains (take n (xs ++ ys)) x
-in_take xs ys n x over at =
-    let whole : length xs + (n - length xs) ≡ n = omega arith in
-    let front = subst (λ l. Contains l x) (sym (take-append-add xs ys (n - length xs))) (Contains-append_left xs (take (n - length xs) ys) x at) in
-    subst (λ k. Contains (take k (xs ++ ys)) x) whole front
-
 -- ---- the walk
 
 module _ (rows : List AccountRow) (starts : List SidValue) where
-  starts_reached : (keys : List SidValue) → HasStarts rows starts keys → AreReached rows starts keys
-  starts_reached keys has k d low = elim (has.sound (get_or keys k d) (Contains-get_or keys k d low)) [ inl none ↦ absurd (nothing_in _ none) | inr start ↦ inl start ]
-
-  -- the SIDs that a visited one adds are reached by it
-  more_reached : (keys new : List SidValue) (member : SidValue) → Contains keys member → Adds rows member keys new → AreReached rows starts keys → AreReached rows starts new
-  more_reached keys new member here added reached k d low = elim (cases_lt k (length keys)) [ inl before ↦ old before | inr past ↦ newer past ]
+  -- what the starts give is found from one of them
+  starts_reached : (found : List SidValue) (before : List (Option ℕ)) → HasStarts rows starts found → before ≡ replicate (length found) None → AreFoundFrom rows starts found before
+  starts_reached found before has none = record {
+    alike = ap length none ∙ length-replicate (length found) None;
+    each = λ k low. subst (IsFoundFrom rows starts found k) (sym (ap (λ l. get_or l k None) none ∙ get_or-replicate (length found) k None None low))
+        (λ d. started (get_or found k d) (Contains-get_or found k d low));
+  }
     where
-      old : k < length keys → IsReached rows starts (take k new) (get_or new k d)
-      old before =
-          subst (λ l. IsReached rows starts (take k l) (get_or l k d)) (sym added.front)
-          (subst (λ l. IsReached rows starts l (get_or (keys ++ added.further) k d)) (sym (take-append-le k keys added.further (omega arith)))
-          (subst (IsReached rows starts (take k keys)) (sym (get_or_append_left keys added.further d k before)) (reached k d before)))
+      started : (sid : SidValue) → Contains found sid → IsStart rows starts sid
+      started sid at = elim (was_or_passes has sid at) [ inl nothing ↦ absurd (nothing_in sid nothing) | inr start ↦ start ]
 
-      in_front : (sid : SidValue) → length keys ≤ k → Contains keys sid → Contains (take k new) sid
-      in_front sid past at = subst (λ l. Contains (take k l) sid) (sym added.front) (in_take keys added.further k sid past at)
-
-      again : (sid : SidValue) → length keys ≤ k → Contains keys sid → IsReached rows starts (take k new) sid
-      again sid past at = elim (subst (IsReached rows starts (take at.0 keys)) at.2 (reached at.0 sid at.1)) [
-        | inl start ↦ inl start
-        | inr found ↦ inr (found.0, in_front found.0 past (of_take keys at.0 found.0 found.1), found.2)
-      ]
-
-      newer : length keys ≤ k → IsReached rows starts (take k new) (get_or new k d)
-      newer past = elim (added.sound (get_or new k d) (Contains-get_or new k d low)) [
-        | inl at ↦ again (get_or new k d) past at
-        | inr in' ↦ inr (member, in_front member past here, in')
-      ]
-
-  pub walk_begins : (keys : List SidValue) → HasStarts rows starts keys → IsWalked rows starts keys 0
-  walk_begins keys has = record {
+  pub walk_begins : (found : List SidValue) (before : List (Option ℕ)) → HasStarts rows starts found → before ≡ replicate (length found) None → IsWalked rows starts found before 0
+  walk_begins found before has none = record {
     within = omega arith;
-    sound = λ sid at. elim (has.sound sid at) [ inl none ↦ absurd (nothing_in sid none) | inr (start, there, in') ↦ directly start sid there in' ];
-    reached = starts_reached keys has;
+    sound = λ sid at. elim (was_or_passes has sid at) [ inl nothing ↦ absurd (nothing_in sid nothing) | inr (start, there, in') ↦ directly start sid there in' ];
+    reached = starts_reached found before has none;
     begun = has.all;
     closed = λ k d low group in'. absurd (omega arith);
   }
 
-  pub walk_goes_on : (keys new : List SidValue) (place : ℕ) (member : SidValue) → place < length keys → member ≡ get_or keys place member
-      → IsWalked rows starts keys place → Adds rows member keys new → IsWalked rows starts new (place + 1)
-  walk_goes_on keys new place member low is walked added = record {
-    within = omega (arith, ap length added.front, length-append keys added.further);
-    sound = λ sid at. elim (added.sound sid at) [
-      | inl before ↦ walked.sound sid before
-      | inr in' ↦ further member sid (walked.sound member (place, low, sym is)) in'
-    ];
-    reached = more_reached keys new member (place, low, sym is) added walked.reached;
-    begun = λ sid start. still_in added sid (walked.begun sid start);
-    closed = closed;
-  }
-    where
-      same : (k : ℕ) (d : SidValue) → k < length keys → get_or new k d ≡ get_or keys k d
-      same k d here = ap (λ l. get_or l k d) added.front ∙ get_or_append_left keys added.further d k here
+  -- a visited SID's groups are found from it
+  module _ (old new : List SidValue) (before : List (Option ℕ)) (place : ℕ) (member : SidValue) (low : place < length old) (is : member ≡ get_or old place member)
+      (added : Adds rows member old new) where
+    same : (k : ℕ) (d : SidValue) → k < length old → get_or new k d ≡ get_or old k d
+    same k d here = ap (λ l. get_or l k d) added.front ∙ get_or_append_left old added.further d k here
 
-      at_place : (d : SidValue) → get_or keys place d ≡ member
-      at_place d = get_or_from_slice_get keys place member d (slice_get_read keys (length keys) place member refl low is)
+    at_place : (d : SidValue) → get_or old place d ≡ member
+    at_place d = get_or_from_slice_get old place member d (slice_get_read old (length old) place member refl low is)
 
-      closed : (k : ℕ) (d : SidValue) → k < place + 1 → (group : SidValue) → IsIn rows (get_or new k d) group → Contains new group
-      closed k d here group in' = elim (cases_lt k place) [
-        | inl before ↦ still_in added group (walked.closed k d before group (subst (λ s. IsIn rows s group) (same k d (omega arith)) in'))
+    still_from : (k : ℕ) (from : Option ℕ) → k < length old → IsFoundFrom rows starts old k from → IsFoundFrom rows starts new k from
+    still_from k None here start = λ d. subst (IsStart rows starts) (sym (same k d here)) (start d)
+    still_from k (Some p) here (less, in') = (less, λ d e. subst (λ m. IsIn rows m (get_or new k e)) (sym (same p d (omega (arith, less, here)))) (subst (IsIn rows (get_or old p d)) (sym (same k e here)) (in' d e)))
+
+    newer_from : (k : ℕ) → length old ≤ k → k < length new → IsFoundFrom rows starts new k (Some place)
+    newer_from k past here = (omega (arith, low, past), λ d e. subst (λ m. IsIn rows m (get_or new k e)) (sym (same place d low ∙ at_place d)) (added.sound (get_or new k e) (among e)))
+      where
+        among : (e : SidValue) → Contains added.further (get_or new k e)
+        among e = subst (Contains added.further) (sym (ap (λ l. get_or l k e) added.front ∙ get_or-append_right old added.further (length old) k e refl past))
+            (Contains-get_or added.further (k - length old) e (omega (arith, past, here, ap length added.front, length-append old added.further)))
+
+    more_reached : (more : List (Option ℕ)) → more ≡ before ++ replicate (length new - length before) (Some place) → AreFoundFrom rows starts old before → AreFoundFrom rows starts new more
+    more_reached more are reached = record {
+      alike = ap length are ∙ length-append before (replicate (length new - length before) (Some place)) ∙ ap (λ n. length before + n) (length-replicate (length new - length before) (Some place)) ∙ omega (arith, reached.alike, longer);
+      each = λ k here. elim (cases_lt k (length old)) [
+        | inl first ↦
+            subst (IsFoundFrom rows starts new k) (sym (ap (λ l. get_or l k None) are ∙ get_or_append_left before _ None k (omega (arith, reached.alike, first)))) (still_from k (get_or before k None) first (reached.each k first))
+        | inr past ↦
+            subst (IsFoundFrom rows starts new k)
+            (sym (ap (λ l. get_or l k None) are ∙ get_or-append_right before _ (length before) k None refl (omega (arith, reached.alike, past))
+            ∙ get_or-replicate (length new - length before) (k - length before) (Some place) None (omega (arith, reached.alike, past, here))))
+            (newer_from k past here)
+      ];
+    }
+      where
+        longer : length old ≤ length new
+        longer = omega (arith, ap length added.front, length-append old added.further)
+
+    pub walk_goes_on : (more : List (Option ℕ)) → more ≡ before ++ replicate (length new - length before) (Some place) → IsWalked rows starts old before place → IsWalked rows starts new more (place + 1)
+    walk_goes_on more are walked = record {
+      within = omega (arith, ap length added.front, length-append old added.further);
+      sound = λ sid at. elim (was_or_passes added sid at) [
+        | inl was ↦ walked.sound sid was
+        | inr in' ↦ further member sid (walked.sound member (place, low, sym is)) in'
+      ];
+      reached = more_reached more are walked.reached;
+      begun = λ sid start. still_in added sid (walked.begun sid start);
+      closed = λ k d here group in'. elim (cases_lt k place) [
+        | inl earlier ↦ still_in added group (walked.closed k d earlier group (subst (λ s. IsIn rows s group) (same k d (omega (arith, earlier, low))) in'))
         | inr now ↦
-            let at : k ≡ place = omega arith in
-            added.all group (subst (λ s. IsIn rows s group) (same k d (omega arith) ∙ ap (λ n. get_or keys n d) at ∙ at_place d) in')
-      ]
+            let at : k ≡ place = omega (arith, now, here) in
+            added.all group (subst (λ s. IsIn rows s group) (ap (λ n. get_or new n d) at ∙ same place d low ∙ at_place d) in')
+      ];
+    }
 
-  pub complete : (keys : List SidValue) → IsWalked rows starts keys (length keys) → (sid : SidValue) → Belongs rows starts sid → Contains keys sid
-  complete keys walked _ (directly start group at in') = walked.begun group (start, at, in')
-  complete keys walked _ (further between group belongs in') =
-      let at = complete keys walked between belongs in
+  pub complete : (keys : List SidValue) (before : List (Option ℕ)) → IsWalked rows starts keys before (length keys) → (sid : SidValue) → Belongs rows starts sid → Contains keys sid
+  complete keys before walked _ (directly start group at in') = walked.begun group (start, at, in')
+  complete keys before walked _ (further between group belongs in') =
+      let at = complete keys before walked between belongs in
       walked.closed at.0 between at.1 group (subst (λ s. IsIn rows s group) (sym at.2) in')
 
-  pub walk_ends : (keys : List SidValue) (place : ℕ) → length keys ≤ place → IsWalked rows starts keys place → IsDistinct same_sid keys → AreGroupsOf rows starts keys
-  walk_ends keys place over walked once = record {
-    each = λ sid. (walked.sound sid, complete keys (let at : place ≡ length keys = omega (arith, walked.within) in subst (IsWalked rows starts keys) at walked) sid);
+  pub walk_ends : (keys : List SidValue) (before : List (Option ℕ)) (place : ℕ) → length keys ≤ place → IsWalked rows starts keys before place → IsDistinct same_sid keys → AreGroupsOf rows starts keys
+  walk_ends keys before place over walked once = record {
+    each = λ sid. (walked.sound sid, complete keys before (let at : place ≡ length keys = omega (arith, walked.within) in subst (IsWalked rows starts keys before) at walked) sid);
     once = once;
   }
 
@@ -207,20 +214,24 @@ pub adds_groups : (rows : List AccountRow) (keys : List SidValue) (member : SidV
 adds_groups rows keys member numbers old new are added = record {
   further = sids_at keys added.further;
   front = ap (sids_at keys) added.front ∙ map-append (sid_at keys) old added.further;
-  sound = λ sid at. by sid (from_map (sid_at keys) new sid at);
+  sound = λ sid at.
+      let n = from_map (sid_at keys) added.further sid at in
+      direct_in rows member sid (subst (λ l. Contains l sid) are (subst (Contains (sids_at keys numbers)) n.2 (in_map (sid_at keys) numbers n.0 (added.sound n.0 n.1))));
   all = λ sid in'.
       let n = from_map (sid_at keys) numbers sid (subst (λ l. Contains l sid) (sym are) (in_direct rows member sid in')) in
       subst (Contains (sids_at keys new)) n.2 (in_map (sid_at keys) new n.0 (added.all n.0 n.1));
 }
-  where
-    by : (sid : SidValue) → ((n : ℕ) × Contains new n × (sid_at keys n ≡ sid)) → Contains (sids_at keys old) sid ⊎ IsIn rows member sid
-    by sid (n, at, is) = elim (added.sound n at) [
-      | inl before ↦ inl (subst (Contains (sids_at keys old)) is (in_map (sid_at keys) old n before))
-      | inr here ↦ inr (direct_in rows member sid (subst (λ l. Contains l sid) are (subst (Contains (sids_at keys numbers)) is (in_map (sid_at keys) numbers n here))))
-    ]
 
 pub still_within : (keys : List SidValue) (numbers old new : List ℕ) → AreWithin keys old → AreWithin keys numbers → Extends (Contains numbers) old new → AreWithin keys new
-still_within keys numbers old new before more added n at = elim (added.sound n at) [ inl was ↦ before n was | inr is ↦ more n is ]
+still_within keys numbers old new before more added n at = elim (was_or_passes added n at) [ inl was ↦ before n was | inr is ↦ more n is ]
+
+-- what a list of this length has once it is resized to a greater one
+pub grown : {A : Type 0} (old new : List A) (l n : ℕ) (value : A) → l ≡ length old → length old ≤ n → new ≡ take n old ++ replicate (n - l) value → new ≡ old ++ replicate (n - length old) value
+grown old new l n value of over is = is ∙ ap (λ k. take n old ++ replicate (n - k) value) of ∙ ap (λ front. front ++ replicate (n - length old) value) (take_all n old over)
+
+pub grown_from_nothing : {A : Type 0} (old new : List A) (l n m : ℕ) (value : A) → l ≡ length old → old ≡ [] → n ≡ m → new ≡ take n old ++ replicate (n - l) value → new ≡ replicate m value
+grown_from_nothing old new l n m value of none same is =
+    grown old new l n value of (omega (arith, ap length none)) is ∙ ap (λ front. front ++ replicate (n - length old) value) none ∙ ap (λ k. replicate k value) (omega (arith, ap length none, same))
 
 -- what is at a place of those found
 pub found_at : (keys : List ℕ) (i : ℕ) (one : ℕ) → slice_get keys i ≡ Some one → (i < length keys) × (one ≡ get_or keys i one)

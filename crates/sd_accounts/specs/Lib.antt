@@ -13,3 +13,4 @@ pub mod Laws
 pub mod Users
 pub mod Wanted
 pub mod Search
+pub mod Membership

@@ -6,10 +6,11 @@ ghost use Rattle.indexmap.specs.IndexMap.{keys};
 ghost use Rattle.sd_accounts.specs.Accounts.{rows_of};
 ghost use Rattle.sd_accounts.specs.Groups.{AreGroupsOf};
 ghost use Rattle.sd_accounts.specs.Index.{AreWithin, sids_at};
-ghost use Rattle.sd_accounts.specs.Walk.{AreReached, Extends, HasStarts};
+ghost use Rattle.sd_accounts.specs.Walk.{Extends, HasStarts};
 
 use crate::accounts::Accounts;
 use crate::index::{Index, groups_in, numbered};
+use crate::membership::Membership;
 use indexmap::IndexSet;
 use sd_sid::Sid;
 use std::alloc::{AllocError, Global};
@@ -20,20 +21,22 @@ impl Accounts {
     pub fn groups_of(&self, alloc: Global, starts: &[Sid]) -> Result<Vec<Sid>, AllocError>
         ensures { IfOk result (λ groups. AreGroupsOf (rows_of self.now) starts.now groups.items) }
     {
-        self.groups_in_order(alloc, starts)
+        let Membership { groups, .. } = self.membership(alloc, starts)?;
+        Ok(groups)
     }
 
-    /// The groups of `groups_of` in the order in which the walk finds them: one of the SIDs, or a group before it, is
-    /// directly in each. The only error is out of memory.
-    pub(crate) fn groups_in_order(
-        &self,
+    /// The groups of `groups_of`, with the ways to them. The only error is out of memory.
+    pub fn membership<'a>(
+        &'a self,
         alloc: Global,
-        starts: &[Sid],
-    ) -> Result<Vec<Sid>, AllocError>
-        ensures groups { IfOk result (λ groups. AreGroupsOf (rows_of self.now) starts.now groups.items) }
-        ensures order { IfOk result (λ groups. AreReached (rows_of self.now) starts.now groups.items) }
+        starts: &'a [Sid],
+    ) -> Result<Membership<'a>, AllocError>
+        ensures rows { IfOk result (λ member. member.rows ≡ rows_of self.now) }
+        ensures starts { IfOk result (λ member. member.starts ≡ starts.now) }
     {
         let mut found = self.direct_groups(alloc, starts)?;
+        let mut before = Vec::new(alloc);
+        before.resize(found.len(), None)?;
         // (each group that is found is visited once, in order; the last one ends the walk)
         for place in 0..usize::MAX {
             let Some(number) = found.get_index(place).copied() else {
@@ -41,9 +44,16 @@ impl Accounts {
             };
             if let Some((_, groups)) = numbered(&self.index, number) {
                 add_all(&mut found, groups)?;
+                before.resize(found.len(), Some(place))?;
             }
         }
-        sids_of(alloc, &self.index, &found)
+        let groups = sids_of(alloc, &self.index, &found)?;
+        Ok(Membership {
+            accounts: self,
+            starts,
+            groups,
+            before,
+        })
     }
 
     /// The groups in which one of these SIDs directly is, by their numbers.

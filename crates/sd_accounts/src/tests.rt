@@ -140,7 +140,8 @@ fn a_way_to_a_group_is_a_shortest_one(rt: HostRuntime) -> Result<(), Fail> {
         ("RE", "RE", "RE"),
     ] {
         let starts = sids(&rt, rt.alloc(), starts)?;
-        let found = accounts.way_to(rt.alloc(), &starts, &sid(&rt, group))?;
+        let member = accounts.membership(rt.alloc(), &starts)?;
+        let found = member.way_to(rt.alloc(), &sid(&rt, group))?;
         let found = found.expect(&rt, "a way");
         assert_eq!(rt; found, sids(&rt, rt.alloc(), way)?);
     }
@@ -158,10 +159,12 @@ fn no_way_leads_to_a_group_of_others(rt: HostRuntime) -> Result<(), Fail> {
         ("RE AO", "BG"),
     ] {
         let starts = sids(&rt, rt.alloc(), starts)?;
-        let found = accounts.way_to(rt.alloc(), &starts, &sid(&rt, group))?;
+        let member = accounts.membership(rt.alloc(), &starts)?;
+        let found = member.way_to(rt.alloc(), &sid(&rt, group))?;
         assert!(rt; found.is_none(), "{group}");
     }
-    let found = accounts.way_to(rt.alloc(), &[], &sid(&rt, "BG"))?;
+    let nobody = accounts.membership(rt.alloc(), &[])?;
+    let found = nobody.way_to(rt.alloc(), &sid(&rt, "BG"))?;
     assert!(rt; found.is_none());
     Ok(())
 }

@@ -1,13 +1,13 @@
 //! The lines of what is granted to a user.
 ghost use Rattle.std.specs.Prelude.{◌≡◌, IfOk, drop};
-ghost use Rattle.sd_accounts.specs.Accounts.{rows_of};
+ghost use Rattle.sd_accounts.specs.Membership.{rows_in, starts_in};
 ghost use Rattle.sd_people.specs.Lines.{leaves_out, person};
 ghost use Rattle.sd_people.specs.Way.{AreGranted};
 
 use crate::forms::PERSON;
 use crate::people::Told;
 use crate::way::with_way;
-use sd_accounts::Accounts;
+use sd_accounts::Membership;
 use sd_answer::LABEL_ALONE;
 use sd_commands::escaped_word;
 use sd_line::{Line, Part, Value};
@@ -17,19 +17,18 @@ use std::alloc::{AllocError, Global};
 /// Of the lines of `why` those of what is granted, each with the way to whom it is granted, and the user.
 pub(crate) fn grants_of(
     alloc: Global,
-    accounts: &Accounts,
-    starts: &[Sid],
+    member: &Membership<'_>,
     user: &Sid,
     name: &str,
     lines: Vec<Line>,
 ) -> Result<Vec<Told>, AllocError>
-    ensures { IfOk result (λ told. AreGranted (rows_of accounts.now) starts.now (user.now, name.now)
+    ensures { IfOk result (λ told. AreGranted (rows_in member.now) (starts_in member.now) (user.now, name.now)
         (drop 1 lines.items) told.items) }
 {
     let mut told = Vec::new(alloc);
     for line in without_first(lines) {
         if line.is_of("granted") {
-            let line = with_way(alloc, accounts, starts, line)?;
+            let line = with_way(alloc, member, line)?;
             told.push((line, person(alloc, PERSON, user, name)?))?;
         }
     }

@@ -18,7 +18,7 @@ use crate::change::{ALL_GRANTED, changes, granted_mask};
 use crate::granted::{grants_of, leaves_out};
 use crate::reading::{Reading, Readings, token_with};
 use crate::wanted::search_for;
-use sd_accounts::{Accounts, Search};
+use sd_accounts::{Accounts, Membership, Search};
 use sd_commands::{Answer, Outcome, Settings, answer_question, words_for};
 use sd_line::{Line, Part};
 use sd_named::{NamedError, NamedWords, Naming, lent};
@@ -136,14 +136,16 @@ impl Asker<'_> {
         ensures { IfOk result (λ people. IsOfUsers (rows_of self.now.naming.accounts.now) self.now.settings.now
             self.now.words.now (each_of each.entry) (named users.now) (people_of people)) }
     {
+        let has_logon = self.settings.logon.is_some();
         let mut told = Vec::new(self.naming.alloc);
         let mut left = false;
         for user in users {
-            let passed = self.passes_over(search, &user.0)?;
+            let starts = self.naming.starts(has_logon, &user.0, self.words)?;
+            let passed = passes_over(search, &starts)?;
             if passed {
                 continue;
             }
-            match self.of_user(each, &user.0, user.1)? {
+            match self.of_user(each, &starts, &user.0, user.1)? {
                 People::Fault(answer) => return Ok(People::Fault(answer)),
                 People::Told {
                     told: mut more,
@@ -157,63 +159,60 @@ impl Asker<'_> {
         Ok(People::Told { told, left })
     }
 
-    /// Whether nothing is granted to the user, as the search says without asking `why`.
-    fn passes_over(&self, search: &mut Option<Search<'_>>, user: &Sid) -> Result<bool, AllocError>
-        ensures passed { (each : EachAsked) → IsFit (rows_of self.now.naming.accounts.now) self.now.settings.now
-            self.now.words.now each search.old → IfOk result (λ passed. passed ≡ true
-            → IsGrantedNothing (rows_of self.now.naming.accounts.now) self.now.settings.now self.now.words.now each
-            user.now) }
-        ensures fit { (each : EachAsked) → IsFit (rows_of self.now.naming.accounts.now) self.now.settings.now
-            self.now.words.now each search.old → IsFit (rows_of self.now.naming.accounts.now) self.now.settings.now
-            self.now.words.now each search.new }
-    {
-        let Some(search) = search else {
-            return Ok(false);
-        };
-        let has_logon = self.settings.logon.is_some();
-        let starts = self.naming.starts(has_logon, user, self.words)?;
-        Ok(!search.finds(&starts)?)
-    }
-
-    fn of_user(&self, each: OfEach<'_>, user: &Sid, name: &str) -> Result<People, AllocError>
+    fn of_user(
+        &self,
+        each: OfEach<'_>,
+        starts: &[Sid],
+        user: &Sid,
+        name: &str,
+    ) -> Result<People, AllocError>
+        requires starts { starts.now
+            ≡ starts (is_some self.now.settings.now.logon) user.now self.now.words.now }
         requires ready { AreReady self.now.settings.now self.now.words.now (each_of each) self.now.readings.now }
         ensures { IfOk result (λ people. IsOfUser (rows_of self.now.naming.accounts.now) self.now.settings.now
             self.now.words.now (each_of each.entry) (user.now, name.now) (people_of people)) }
     {
+        let member = self.naming.accounts.membership(self.naming.alloc, starts)?;
         match each {
-            OfEach::Granted { text, mask } => self.granted(text, mask, user, name),
-            OfEach::Changed { old, new } => self.changed(old, new, user, name),
+            OfEach::Granted { text, mask } => self.granted(text, mask, &member, user, name),
+            OfEach::Changed { old, new } => self.changed(old, new, &member, user, name),
         }
     }
 
     /// What the descriptor grants the user of the mask.
-    fn granted(&self, text: &str, mask: &str, user: &Sid, name: &str) -> Result<People, AllocError>
+    fn granted(
+        &self,
+        text: &str,
+        mask: &str,
+        member: &Membership<'_>,
+        user: &Sid,
+        name: &str,
+    ) -> Result<People, AllocError>
+        requires member { IsMember self.now user.now member.now }
         requires ready { IsReady self.now.settings.now self.now.words.now text.now mask.now
             self.now.readings.now.first }
         ensures { IfOk result (λ people. IsOfUser (rows_of self.now.naming.accounts.now) self.now.settings.now
             self.now.words.now (Granted text.now mask.now) (user.now, name.now) (people_of people)) }
     {
-        let alloc = self.naming.alloc;
-        let answer = self.why(&self.readings.first, text, mask, user)?;
+        let answer = self.why(&self.readings.first, text, mask, member, user)?;
         if matches!(answer.outcome, Outcome::Fault) {
             return Ok(People::Fault(answer));
         }
         let left = leaves_out(&answer.lines);
-        let has_logon = self.settings.logon.is_some();
-        let starts = self.naming.starts(has_logon, user, self.words)?;
-        let told = grants_of(
-            alloc,
-            self.naming.accounts,
-            &starts,
-            user,
-            name,
-            answer.lines,
-        )?;
+        let told = grants_of(self.naming.alloc, member, user, name, answer.lines)?;
         Ok(People::Told { told, left })
     }
 
     /// What the user gains and loses where the new descriptor takes the place of the old one.
-    fn changed(&self, old: &str, new: &str, user: &Sid, name: &str) -> Result<People, AllocError>
+    fn changed(
+        &self,
+        old: &str,
+        new: &str,
+        member: &Membership<'_>,
+        user: &Sid,
+        name: &str,
+    ) -> Result<People, AllocError>
+        requires member { IsMember self.now user.now member.now }
         requires old { IsReady self.now.settings.now self.now.words.now old.now all_granted
             self.now.readings.now.first }
         requires new { IsReady self.now.settings.now self.now.words.now new.now all_granted
@@ -221,8 +220,8 @@ impl Asker<'_> {
         ensures { IfOk result (λ people. IsOfUser (rows_of self.now.naming.accounts.now) self.now.settings.now
             self.now.words.now (Changed old.now new.now) (user.now, name.now) (people_of people)) }
     {
-        let old = self.why(&self.readings.first, old, ALL_GRANTED, user)?;
-        let new = self.why(&self.readings.second, new, ALL_GRANTED, user)?;
+        let old = self.why(&self.readings.first, old, ALL_GRANTED, member, user)?;
+        let new = self.why(&self.readings.second, new, ALL_GRANTED, member, user)?;
         change_of(self.naming.alloc, user, name, old, new)
     }
 
@@ -232,29 +231,36 @@ impl Asker<'_> {
         reading: &Option<Reading>,
         text: &str,
         mask: &str,
+        member: &Membership<'_>,
         user: &Sid,
     ) -> Result<Answer, AllocError>
+        requires member { IsMember self.now user.now member.now }
         requires ready { IsReady self.now.settings.now self.now.words.now text.now mask.now reading.now }
         ensures { IfOk result (λ answer. IsWhy (rows_of self.now.naming.accounts.now) self.now.settings.now text.now
             mask.now self.now.words.now user.now (answer_of answer)) }
     {
         match reading {
-            Some(reading) => self.why_read(reading, user),
+            Some(reading) => self.why_read(reading, member, user),
             None => self.why_of_texts(text, mask, user),
         }
     }
 
     /// The answer for a user without words, of what is read already.
-    fn why_read(&self, reading: &Reading, user: &Sid) -> Result<Answer, AllocError>
+    fn why_read(
+        &self,
+        reading: &Reading,
+        member: &Membership<'_>,
+        user: &Sid,
+    ) -> Result<Answer, AllocError>
+        requires member { IsMember self.now user.now member.now }
         ensures { IfOk result (λ answer. (text mask : List ℕ) → self.now.words.now ≡ []
             → IsReadingOf self.now.settings.now text mask reading.now
             → IsWhy (rows_of self.now.naming.accounts.now) self.now.settings.now text mask self.now.words.now user.now
             (answer_of answer)) }
     {
         let alloc = self.naming.alloc;
-        let starts = self.naming.starts(false, user, self.words)?;
-        let groups = self.naming.accounts.groups_of(alloc, &starts)?;
-        let token = token_with(alloc, user, after_first(&starts), &groups)?;
+        let logged = after_first(member.starts());
+        let token = token_with(alloc, user, logged, member.groups())?;
         reading.answer(alloc, self.settings, &token)
     }
 
@@ -270,6 +276,21 @@ impl Asker<'_> {
         let question = TextCommand::Descriptor(DescriptorCommand::Why);
         answer_question(alloc, self.settings, question, text, &arguments)
     }
+}
+
+/// Whether nothing is granted to who has these SIDs, as the search says without asking `why`.
+fn passes_over(search: &mut Option<Search<'_>>, starts: &[Sid]) -> Result<bool, AllocError>
+    ensures passed { (rows : List AccountRow) (settings : Settings) (words : List NamedWord) (each : EachAsked)
+        (user : SidValue) → starts.now ≡ starts (is_some settings.logon) user words
+        → IsFit rows settings words each search.old → IfOk result (λ passed. passed ≡ true
+        → IsGrantedNothing rows settings words each user) }
+    ensures fit { (rows : List AccountRow) (settings : Settings) (words : List NamedWord) (each : EachAsked)
+        → IsFit rows settings words each search.old → IsFit rows settings words each search.new }
+{
+    let Some(search) = search else {
+        return Ok(false);
+    };
+    Ok(!search.finds(starts)?)
 }
 
 fn after_first(sids: &[Sid]) -> &[Sid]

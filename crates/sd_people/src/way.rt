@@ -2,28 +2,27 @@
 ghost use Rattle.std.specs.Prelude.{◌≡◌, IfOk, Some, option_map};
 ghost use Rattle.std.specs.List.{list_any};
 ghost use Rattle.sd_sid.specs.Sid.{same_sid};
-ghost use Rattle.sd_accounts.specs.Accounts.{rows_of};
+ghost use Rattle.sd_accounts.specs.Membership.{rows_in, starts_in};
 ghost use Rattle.sd_people.specs.Way.{IsWayTo, IsWithWay, holder, plain_sids, with_way};
 
 use crate::forms::BY_WAY_OF;
-use sd_accounts::Accounts;
+use sd_accounts::Membership;
 use sd_line::{Line, Part, SidMark, Value};
 use sd_sid::Sid;
 use std::alloc::{AllocError, Global};
 
-/// The line with the way from the starts to whom it says that something is granted.
+/// The line with the way to whom it says that something is granted.
 pub(crate) fn with_way(
     alloc: Global,
-    accounts: &Accounts,
-    starts: &[Sid],
+    member: &Membership<'_>,
     line: Line,
 ) -> Result<Line, AllocError>
-    ensures { IfOk result (IsWithWay (rows_of accounts.now) starts.now (holder line) line) }
+    ensures { IfOk result (IsWithWay (rows_in member.now) (starts_in member.now) (holder line) line) }
 {
     let Some(sid) = holder(&line) else {
         return Ok(line);
     };
-    match way_to(alloc, accounts, starts, &sid)? {
+    match way_to(alloc, member, &sid)? {
         Some(way) => with_groups(alloc, line, &way),
         None => Ok(line),
     }
@@ -42,17 +41,16 @@ fn holder(line: &Line) -> Option<Sid>
 /// A way to the SID, unless it is one of the starts.
 fn way_to(
     alloc: Global,
-    accounts: &Accounts,
-    starts: &[Sid],
+    member: &Membership<'_>,
     sid: &Sid,
 ) -> Result<Option<Vec<Sid>>, AllocError>
-    ensures { IfOk result (λ way. IsWayTo (rows_of accounts.now) starts.now sid.now
+    ensures { IfOk result (λ way. IsWayTo (rows_in member.now) (starts_in member.now) sid.now
         (option_map (λ groups. groups.items) way)) }
 {
-    if has_sid(starts, sid) {
+    if has_sid(member.starts(), sid) {
         return Ok(None);
     }
-    accounts.way_to(alloc, starts, sid)
+    member.way_to(alloc, sid)
 }
 
 fn has_sid(sids: &[Sid], sid: &Sid) -> bool

@@ -3,7 +3,7 @@ use Rattle.indexmap.specs.IndexMap.{keys}
 use Rattle.sd_accounts.specs.Accounts.{rows_of}
 use Rattle.sd_accounts.specs.Index.{AreWithin, sids_at}
 use Rattle.sd_accounts.specs.Walk.{IsWalked}
-use Rattle.sd_accounts.proofs.accounts.Accounts.groups_in_order.Given as goal
+use Rattle.sd_accounts.proofs.accounts.Accounts.membership.Given as goal
 
 abbrev pub invariant-loop-place : goal.invariant-loop-place
-invariant-loop-place l = IsWalked (rows_of l.self) l.starts (sids_at (keys l.self.index) l.found.keys) l.place × AreWithin (keys l.self.index) l.found.keys
+invariant-loop-place l = IsWalked (rows_of l.self) l.starts (sids_at (keys l.self.index) l.found.keys) l.before.items l.place × AreWithin (keys l.self.index) l.found.keys
