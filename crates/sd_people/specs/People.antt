@@ -6,6 +6,7 @@ use Rattle.std.specs.Borrow.{Bor}
 use Rattle.sd_sid.specs.Sid.{SidValue}
 use Rattle.sd_line.specs.Line.{LineOf}
 use Rattle.sd_answer.specs.Word.{texts}
+use Rattle.sd_accounts.specs.Membership.{MembershipValue}
 use Rattle.sd_accounts.specs.Row.{AccountRow}
 use Rattle.sd_accounts.specs.Users.{users_of}
 use Rattle.sd_named.specs.Arguments.{AreNamedWords, AreOfAccount, starts}
@@ -36,6 +37,11 @@ pub record IsWhy (rows : List AccountRow) (settings : Settings) (text mask : Lis
   pub arguments : List (Bor (List ℕ))
   pub are_of : AreOfAccount rows (is_some settings.logon) user mask words (texts arguments)
   pub answers : AnswersQuestion settings (Descriptor Why) text arguments answer
+
+-- the groups are those of the user, who has these words
+abbrev pub IsMemberOf : List AccountRow → Settings → List NamedWord → SidValue → MembershipValue → Type 0
+IsMemberOf rows settings words user member =
+    (member.rows ≡ rows) × (member.starts ≡ starts (is_some settings.logon) user words)
 
 -- what is said about people, and whether something was left out; or the answer to one of them that is a fault
 pub data PeopleValue : Type 0 where

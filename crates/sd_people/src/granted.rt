@@ -1,6 +1,5 @@
 //! The lines of what is granted to a user.
 ghost use Rattle.std.specs.Prelude.{◌≡◌, IfOk, drop};
-ghost use Rattle.sd_accounts.specs.Membership.{rows_in, starts_in};
 ghost use Rattle.sd_people.specs.Lines.{leaves_out, person};
 ghost use Rattle.sd_people.specs.Way.{AreGranted};
 
@@ -22,7 +21,7 @@ pub(crate) fn grants_of(
     name: &str,
     lines: Vec<Line>,
 ) -> Result<Vec<Told>, AllocError>
-    ensures { IfOk result (λ told. AreGranted (rows_in member.now) (starts_in member.now) (user.now, name.now)
+    ensures { IfOk result (λ told. AreGranted member.now.rows member.now.starts (user.now, name.now)
         (drop 1 lines.items) told.items) }
 {
     let mut told = Vec::new(alloc);

@@ -1,15 +1,18 @@
 //! What is said about each user.
-ghost use Rattle.std.specs.Prelude.{◌≡◌, ◌||◌, ℕ, IfOk, List, Some, [], drop, true};
+ghost use Rattle.std.specs.Prelude.{◌≡◌, ◌||◌, ℕ, IfOk, List, Some, [], drop, is_some, true};
 ghost use Rattle.sd_answer.specs.Word.{texts};
+ghost use Rattle.sd_sid.specs.Sid.{SidValue};
 ghost use Rattle.sd_accounts.specs.Accounts.{rows_of};
+ghost use Rattle.sd_accounts.specs.Row.{AccountRow};
 ghost use Rattle.sd_accounts.specs.Users.{named};
 ghost use Rattle.sd_commands.specs.Answer.{answer_of};
+ghost use Rattle.sd_named.specs.Arguments.{starts};
 ghost use Rattle.sd_named.specs.declared.word.NamedWord.{NamedWord};
 ghost use Rattle.sd_people.specs.Asked.{Changed, EachAsked, Granted, each_of};
 ghost use Rattle.sd_people.specs.Change.{all_granted};
 ghost use Rattle.sd_people.specs.Passed.{IsFit};
-ghost use Rattle.sd_people.specs.People.{IsGrantedNothing, IsOfPeople, IsOfUser, IsOfUsers, IsWhy, SaysChange};
-ghost use Rattle.sd_people.specs.People.{people_of};
+ghost use Rattle.sd_people.specs.People.{IsGrantedNothing, IsMemberOf, IsOfPeople, IsOfUser, IsOfUsers, IsWhy};
+ghost use Rattle.sd_people.specs.People.{SaysChange, people_of};
 ghost use Rattle.sd_people.specs.Reading.{AreReady, IsReadingOf, IsReady};
 ghost use Rattle.sd_commands.specs.declared.settings.Settings.{Settings};
 
@@ -188,7 +191,8 @@ impl Asker<'_> {
         user: &Sid,
         name: &str,
     ) -> Result<People, AllocError>
-        requires member { IsMember self.now user.now member.now }
+        requires member { IsMemberOf (rows_of self.now.naming.accounts.now) self.now.settings.now self.now.words.now
+            user.now member.now }
         requires ready { IsReady self.now.settings.now self.now.words.now text.now mask.now
             self.now.readings.now.first }
         ensures { IfOk result (λ people. IsOfUser (rows_of self.now.naming.accounts.now) self.now.settings.now
@@ -212,7 +216,8 @@ impl Asker<'_> {
         user: &Sid,
         name: &str,
     ) -> Result<People, AllocError>
-        requires member { IsMember self.now user.now member.now }
+        requires member { IsMemberOf (rows_of self.now.naming.accounts.now) self.now.settings.now self.now.words.now
+            user.now member.now }
         requires old { IsReady self.now.settings.now self.now.words.now old.now all_granted
             self.now.readings.now.first }
         requires new { IsReady self.now.settings.now self.now.words.now new.now all_granted
@@ -234,7 +239,8 @@ impl Asker<'_> {
         member: &Membership<'_>,
         user: &Sid,
     ) -> Result<Answer, AllocError>
-        requires member { IsMember self.now user.now member.now }
+        requires member { IsMemberOf (rows_of self.now.naming.accounts.now) self.now.settings.now self.now.words.now
+            user.now member.now }
         requires ready { IsReady self.now.settings.now self.now.words.now text.now mask.now reading.now }
         ensures { IfOk result (λ answer. IsWhy (rows_of self.now.naming.accounts.now) self.now.settings.now text.now
             mask.now self.now.words.now user.now (answer_of answer)) }
@@ -252,7 +258,8 @@ impl Asker<'_> {
         member: &Membership<'_>,
         user: &Sid,
     ) -> Result<Answer, AllocError>
-        requires member { IsMember self.now user.now member.now }
+        requires member { IsMemberOf (rows_of self.now.naming.accounts.now) self.now.settings.now self.now.words.now
+            user.now member.now }
         ensures { IfOk result (λ answer. (text mask : List ℕ) → self.now.words.now ≡ []
             → IsReadingOf self.now.settings.now text mask reading.now
             → IsWhy (rows_of self.now.naming.accounts.now) self.now.settings.now text mask self.now.words.now user.now

@@ -2,7 +2,6 @@
 ghost use Rattle.std.specs.Prelude.{◌≡◌, IfOk, Some, option_map};
 ghost use Rattle.std.specs.List.{list_any};
 ghost use Rattle.sd_sid.specs.Sid.{same_sid};
-ghost use Rattle.sd_accounts.specs.Membership.{rows_in, starts_in};
 ghost use Rattle.sd_people.specs.Way.{IsWayTo, IsWithWay, holder, plain_sids, with_way};
 
 use crate::forms::BY_WAY_OF;
@@ -17,7 +16,7 @@ pub(crate) fn with_way(
     member: &Membership<'_>,
     line: Line,
 ) -> Result<Line, AllocError>
-    ensures { IfOk result (IsWithWay (rows_in member.now) (starts_in member.now) (holder line) line) }
+    ensures { IfOk result (IsWithWay member.now.rows member.now.starts (holder line) line) }
 {
     let Some(sid) = holder(&line) else {
         return Ok(line);
@@ -39,12 +38,8 @@ fn holder(line: &Line) -> Option<Sid>
 }
 
 /// A way to the SID, unless it is one of the starts.
-fn way_to(
-    alloc: Global,
-    member: &Membership<'_>,
-    sid: &Sid,
-) -> Result<Option<Vec<Sid>>, AllocError>
-    ensures { IfOk result (λ way. IsWayTo (rows_in member.now) (starts_in member.now) sid.now
+fn way_to(alloc: Global, member: &Membership<'_>, sid: &Sid) -> Result<Option<Vec<Sid>>, AllocError>
+    ensures { IfOk result (λ way. IsWayTo member.now.rows member.now.starts sid.now
         (option_map (λ groups. groups.items) way)) }
 {
     if has_sid(member.starts(), sid) {

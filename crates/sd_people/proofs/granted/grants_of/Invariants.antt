@@ -1,7 +1,6 @@
 -- What is granted by the lines so far.
-use Rattle.sd_accounts.specs.Accounts.{rows_of}
 use Rattle.sd_people.specs.Way.{AreGranted}
 use Rattle.sd_people.proofs.granted.grants_of.Given as goal
 
 abbrev pub invariant-loop-line : goal.invariant-loop-line
-invariant-loop-line l = AreGranted (rows_of l.accounts) l.starts (l.user, l.name) l.yielded l.told.items
+invariant-loop-line l = AreGranted l.member.rows l.member.starts (l.user, l.name) l.yielded l.told.items

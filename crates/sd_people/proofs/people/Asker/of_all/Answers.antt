@@ -30,7 +30,7 @@ loop-user-preserved c =
       told = rw c.either-left.ensures
           (one_more rows asker.settings.now asker.words.now each c.args.users.now c.loop-user.user-index user c.loop-user.told.items c.in-Told.more.items
           c.append.new.self.items c.loop-user.left c.in-Told.some c.loop-user-test.true c.loop-user.invariant.told is c.in_ok-append-in-Told.ensures.items);
-      fit = c.passes_over.ensures.fit each c.loop-user.invariant.fit;
+      fit = c.passes_over.ensures.fit rows asker.settings.now asker.words.now each c.loop-user.invariant.fit;
     }
 
 pub loop-user-preserved-then-passed : goal.loop-user-preserved-then-passed
@@ -39,9 +39,9 @@ loop-user-preserved-then-passed c =
     let rows = rows_of asker.naming.accounts.now in
     let each = each_of c.args.each in
     let user = c.user-item.result in
-    let nothing = c.in_ok-passed.ensures.passed each c.loop-user.invariant.fit c.if-passed.true in
+    let nothing = c.in_ok-passed.ensures.passed rows asker.settings.now asker.words.now each user.0 (started c) c.loop-user.invariant.fit c.if-passed.true in
     record {
       told = one_passed rows asker.settings.now asker.words.now each c.args.users.now c.loop-user.user-index user c.loop-user.told.items c.loop-user.left
           c.loop-user-test.true c.loop-user.invariant.told (subst (λ u. IsGrantedNothing rows asker.settings.now asker.words.now each u.0) c.user-item.is nothing);
-      fit = c.passes_over.ensures.fit each c.loop-user.invariant.fit;
+      fit = c.passes_over.ensures.fit rows asker.settings.now asker.words.now each c.loop-user.invariant.fit;
     }
