@@ -121,7 +121,9 @@ typedef enum hudarin_status {
      * `place`. */
     HUDARIN_ROW = 26,
     /* A text means no user that may log on: the fault is HUDARIN_ACCOUNT_... */
-    HUDARIN_ACCOUNT = 27
+    HUDARIN_ACCOUNT = 27,
+    /* No kind of object has the number. */
+    HUDARIN_KIND = 28
 } hudarin_status;
 
 /* ---- Faults of a text (HUDARIN_TEXT) */
@@ -270,6 +272,17 @@ typedef enum hudarin_account_fault {
     /* The user's account is disabled. */
     HUDARIN_ACCOUNT_DISABLED = 4
 } hudarin_account_fault;
+
+/* ---- Kinds of objects, whose names masks have in words */
+
+typedef enum hudarin_kind {
+    /* The names that every object has alone. */
+    HUDARIN_KIND_ANY = 0,
+    HUDARIN_KIND_FILE = 1,
+    HUDARIN_KIND_KEY = 2,
+    HUDARIN_KIND_SERVICE = 3,
+    HUDARIN_KIND_PROCESS = 4
+} hudarin_kind;
 
 /* ---- Arguments of a check: the number of the invalid one, in an answer's `argument` */
 
@@ -672,7 +685,7 @@ typedef struct hudarin_value {
 
 /* The answer of hudarin_mask_from_text. */
 typedef struct hudarin_mask {
-    uint32_t status; /* HUDARIN_OK, HUDARIN_UTF8 or HUDARIN_TEXT */
+    uint32_t status; /* HUDARIN_OK, HUDARIN_KIND, HUDARIN_UTF8 or HUDARIN_TEXT */
     uint32_t fault;  /* HUDARIN_TEXT_.., else 0 */
     uint64_t place;  /* of HUDARIN_TEXT the fault's byte offset, of HUDARIN_UTF8 the number of valid bytes, else 0 */
     uint32_t mask;
@@ -876,11 +889,17 @@ HUDARIN_ANSWERS hudarin_written hudarin_sid_bytes_to_text(const void *bytes, siz
 HUDARIN_ANSWERS hudarin_written hudarin_sid_bytes_to_full_text(const void *bytes, size_t bytes_length, char *room,
                                                                size_t room_length);
 
-/* The mask that the text spells: a number, or names of rights. */
-HUDARIN_ANSWERS hudarin_mask hudarin_mask_from_text(const char *text, size_t text_length);
+/*
+ * The mask that the text is: words joined by "+", each a name that rights have for the kind of object, in any case, or
+ * else rights of SDDL or a number, as "FR", "RCWD", "0x20" or, of a file, "Modify+WRITE_DAC". An empty text is 0.
+ */
+HUDARIN_ANSWERS hudarin_mask hudarin_mask_from_text(const char *text, size_t text_length, uint32_t kind);
 
-/* The mask by names of rights, as "FR+WD"; the bits that no name has follow as a number, as in "FR+0x200". */
-HUDARIN_ANSWERS hudarin_written hudarin_mask_to_text(uint32_t mask, char *room, size_t room_length);
+/*
+ * The mask by the names of the kind of object, of a file as "FR+WD"; the bits that no name has follow as a number, as in
+ * "FR+0x200". hudarin_mask_from_text with the same kind returns the mask for each text that this writes.
+ */
+HUDARIN_ANSWERS hudarin_written hudarin_mask_to_text(uint32_t mask, uint32_t kind, char *room, size_t room_length);
 
 /* ---- Handles, for callers that check often */
 

@@ -117,7 +117,7 @@ int main(void)
     show("write", hudarin_check_parts(descriptor, length, &parts, files, 0x2));
     show("all that is granted", hudarin_check_parts(descriptor, length, &parts, files, HUDARIN_MAXIMUM_ALLOWED));
 
-    asked = hudarin_mask_from_text("GR", 2);
+    asked = hudarin_mask_from_text("GR", 2, HUDARIN_KIND_ANY);
     show("GR, without groups", hudarin_check_parts(descriptor, length, &alone, files, asked.mask));
 
     /* A refusal says why, and nothing is written. */

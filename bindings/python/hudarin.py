@@ -27,8 +27,8 @@ import struct
 import threading
 import uuid
 from pathlib import PurePath
-from typing import Any, Callable, ContextManager, Dict, Iterable, Iterator, List, NamedTuple, NoReturn, Optional
-from typing import SupportsBytes, Tuple, Type, TypeVar, Union, cast
+from typing import Any, Callable, ContextManager, Dict, Iterable, Iterator, List, Literal, NamedTuple, NoReturn
+from typing import Optional, SupportsBytes, Tuple, Type, TypeVar, Union, cast
 
 __version__ = "0.3.0"
 
@@ -57,6 +57,7 @@ __all__ = [
     "Judge",
     "KEYS",
     "KeptDescriptor",
+    "Kind",
     "Mask",
     "NoList",
     "Node",
@@ -122,6 +123,7 @@ STATUSES = {
     25: "undecided",
     26: "row",
     27: "account",
+    28: "kind",
 }
 VERDICTS = {1: "granted", 2: "denied", 3: "reserved", 4: "empty"}
 ARGUMENTS = {
@@ -358,8 +360,8 @@ def _load() -> ctypes.CDLL:
         "whole_with_entries": (given + [_U32] * 2 + given + buffer, _Written),
         "whole_list": (given + [_U32], _WholeList),
         "whole_entry": (given + [_U32, _U64] + buffer, _WholeEntry),
-        "mask_from_text": (given, _Mask),
-        "mask_to_text": ([_U32] + buffer, _Written),
+        "mask_from_text": (given + [_U32], _Mask),
+        "mask_to_text": ([_U32, _U32] + buffer, _Written),
         "check": (given + token + request, _Verdict),
         "keep_bytes": (given + [kept], _Written),
         "keep_token": (token + [kept], _Verdict),
@@ -548,16 +550,31 @@ def _data(value: object) -> bytes:
     raise TypeError(f"expected bytes, not {value!r}")
 
 
-def mask(text: str) -> int:
-    """The mask that the text spells: names of rights, as "FR" or "RCWD", or a number, as "0x1f01ff"."""
+#: The kinds of objects, whose names masks have in words.
+Kind = Literal["file", "key", "service", "process"]
+_KINDS = {None: 0, "file": 1, "key": 2, "service": 3, "process": 4}
+
+
+def _kind(kind: object) -> int:
+    if kind is None or isinstance(kind, str):
+        if kind in _KINDS:
+            return _KINDS[kind]
+        raise ValueError(f"expected file, key, service or process, not {kind!r}")
+    raise TypeError(f"expected a kind of object, not {kind!r}")
+
+
+def mask(text: str, kind: Optional[Kind] = None) -> int:
+    """The mask that the text is: words joined by "+", each a name that rights have for the kind of object, in any case,
+    or else rights of SDDL or a number, as "FR", "RCWD", "0x20" or, of a file, "Modify+WRITE_DAC". "" is 0."""
     given = _text(text)
-    return int(_checked(_library.hudarin_mask_from_text(given, len(given)), "mask").mask)
+    return int(_checked(_library.hudarin_mask_from_text(given, len(given), _kind(kind)), "mask").mask)
 
 
-def mask_names(mask: int) -> str:
-    """The mask by names of rights, as "FR+WD"; the bits that no name has follow as a number, as in "FR+0x200"."""
-    number = _number(mask, "mask")
-    return _filled(lambda *buffer: _library.hudarin_mask_to_text(number, *buffer), "mask")[0].decode()
+def mask_names(mask: int, kind: Optional[Kind] = None) -> str:
+    """The mask by the names of the kind of object, of a file as "FR+WD"; without a kind by those that every object has.
+    The bits that no name has follow as a number, as in "FR+0x200". `mask` with the same kind returns it again."""
+    number, of = _number(mask, "mask"), _kind(kind)
+    return _filled(lambda *buffer: _library.hudarin_mask_to_text(number, of, *buffer), "mask")[0].decode()
 
 
 def _mask(value: object, what: str) -> int:

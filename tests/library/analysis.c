@@ -117,7 +117,7 @@ static int ask(enum asks asks, const char *first, const char *second, char *base
     if (asks == COMPARE) {
         keep(second, &it.new_descriptor);
     } else if (asks == WHO) {
-        it.asked = hudarin_mask_from_text(second, strlen(second)).mask;
+        it.asked = hudarin_mask_from_text(second, strlen(second), HUDARIN_KIND_ANY).mask;
     }
     read_base(&it.base, base);
     worked(&it, lines);

@@ -127,7 +127,7 @@ static int sid_bytes_to_text(void)
 
 static int mask_from_text(void)
 {
-    return hudarin_mask_from_text("FRFX", 4).status == HUDARIN_OK;
+    return hudarin_mask_from_text("FRFX", 4, HUDARIN_KIND_ANY).status == HUDARIN_OK;
 }
 
 static const struct call {

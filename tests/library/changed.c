@@ -229,21 +229,26 @@ static void change_sid(void)
 
 static void change_mask(void)
 {
-    static const char *const masks[] = { "0x1f01ff", "RCSDWDWO", "017", "4294967295", "" };
+    static const char *const masks[] = { "0x1f01ff", "RCSDWDWO", "017", "4294967295", "", "Modify+WRITE_DAC+0x200",
+                                         "PROCESS_VM_READ+GA" };
     unsigned char text[MOST + 32];
-    char printed[20];
-    const char *seed = masks[below(5)];
+    char printed[1024];
+    const char *seed = masks[below(7)];
+    uint32_t kind = below(5);
     size_t length = strlen(seed);
     hudarin_mask answer, again;
+    hudarin_written written;
     memcpy(text, seed, length);
     length = changed(text, length, 1);
-    answer = hudarin_mask_from_text((char *)lent(text, length), length);
+    answer = hudarin_mask_from_text((char *)lent(text, length), length, kind);
     if (answer.status != HUDARIN_OK) {
         HOLDS((answer.status == HUDARIN_TEXT || answer.status == HUDARIN_UTF8) && answer.mask == 0 && answer.place <= length);
         return;
     }
     masks_read++;
-    again = hudarin_mask_from_text(printed, (size_t)sprintf(printed, "0x%" PRIx32, answer.mask));
+    written = hudarin_mask_to_text(answer.mask, kind, printed, sizeof printed);
+    HOLDS(written.status == HUDARIN_OK);
+    again = hudarin_mask_from_text(printed, (size_t)written.length, kind);
     HOLDS(again.status == HUDARIN_OK && again.mask == answer.mask);
 }
 

@@ -41,7 +41,7 @@ static void granted(void)
 /* That the library reads a name of the standard as these rights. */
 static void names(const char *name, uint32_t rights)
 {
-    hudarin_mask answer = hudarin_mask_from_text(name, strlen(name));
+    hudarin_mask answer = hudarin_mask_from_text(name, strlen(name), HUDARIN_KIND_ANY);
     HOLDS(answer.status == HUDARIN_OK && answer.mask == rights);
 }
 

@@ -166,13 +166,13 @@ static void lengths(void)
 
 static void masks(void)
 {
-    hudarin_mask answer = hudarin_mask_from_text(NULL, 0);
+    hudarin_mask answer = hudarin_mask_from_text(NULL, 0, HUDARIN_KIND_ANY);
     HOLDS(answer.status == HUDARIN_OK && answer.mask == 0);
-    answer = hudarin_mask_from_text((char *)lent("0xFfFfFfFf", 10), 10);
+    answer = hudarin_mask_from_text((char *)lent("0xFfFfFfFf", 10), 10, HUDARIN_KIND_ANY);
     HOLDS(answer.status == HUDARIN_OK && answer.mask == 0xffffffffu);
-    answer = hudarin_mask_from_text((char *)lent("0x100000000", 11), 11);
+    answer = hudarin_mask_from_text((char *)lent("0x100000000", 11), 11, HUDARIN_KIND_ANY);
     HOLDS(answer.status == HUDARIN_TEXT && answer.fault == HUDARIN_TEXT_RANGE && answer.place == 0 && answer.mask == 0);
-    answer = hudarin_mask_from_text((char *)lent("FA\xff", 3), 3);
+    answer = hudarin_mask_from_text((char *)lent("FA\xff", 3), 3, HUDARIN_KIND_ANY);
     HOLDS(answer.status == HUDARIN_UTF8 && answer.fault == 0 && answer.place == 2 && answer.mask == 0);
 }
 

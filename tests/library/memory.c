@@ -213,7 +213,7 @@ static void made(const row *row, outcome *it)
     case SID_BYTES: written(it, hudarin_sid_text_to_bytes(row->text, text, it->room, room)); break;
     case SID_TEXT: written(it, hudarin_sid_bytes_to_text(lent.bytes, lent.length, chars, room)); break;
     case FULL_TEXT: written(it, hudarin_sid_bytes_to_full_text(lent.bytes, lent.length, chars, room)); break;
-    case MASK_TEXT: written(it, hudarin_mask_to_text(0x160089u, chars, room)); break;
+    case MASK_TEXT: written(it, hudarin_mask_to_text(0x160089u, HUDARIN_KIND_FILE, chars, room)); break;
     case WHOLE_BYTES: written(it, hudarin_whole_from_sddl(NULL, 0, row->text, text, it->room, room)); break;
     case WHOLE_TEXT: written(it, hudarin_whole_to_sddl(lent.bytes, lent.length, 0, chars, room).written); break;
     case WHOLE_AT: written(it, hudarin_whole_at(lent.bytes, lent.length, 0, it->room, room)); break;
@@ -373,7 +373,7 @@ static void takes_none(void)
         HOLDS(verdict.status == HUDARIN_OK && verdict.kind == HUDARIN_DENIED && verdict.mask == 1);
         verdict = hudarin_explain(&descriptor, &token, files, 0x80000000u).answer;
         HOLDS(verdict.status == HUDARIN_OK && verdict.kind == HUDARIN_DENIED && verdict.mask == 1);
-        HOLDS(hudarin_mask_from_text("RCSD", 4).mask == 0x30000u);
+        HOLDS(hudarin_mask_from_text("RCSD", 4, HUDARIN_KIND_ANY).mask == 0x30000u);
         HOLDS(hudarin_descriptor_dacl(&descriptor).entries == 3);
         HOLDS(hudarin_lines_count(&lines).length == 2);
         HOLDS(hudarin_status_text(HUDARIN_MEMORY, (char *)bytes + length, 13).length == 13);

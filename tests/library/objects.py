@@ -10,6 +10,7 @@ import functools
 import multiprocessing
 import operator
 import pickle
+import random
 import struct
 import sys
 import uuid
@@ -37,6 +38,7 @@ from hudarin import (  # noqa: E402
     Explanation,
     Finding,
     KeptDescriptor,
+    Kind,
     NoList,
     Part,
     Refused,
@@ -294,7 +296,16 @@ def one_exception() -> None:
     gives("an alias of a domain", ("sid", 6, "DomainAlias", 0, None), lambda: refused(lambda: Sid.from_text("DA")))
     gives("a SID's bytes", ("sid", 3, "Short", 0, None), lambda: refused(lambda: Sid(b"\x01\x01")))
     gives("a mask's text", ("mask", 1, "Syntax", 0, None), lambda: refused(lambda: mask("alice")))
-    gives("a mask by names", ("FR+WD", "FR+0x200", "0x0"), lambda: tuple(map(mask_names, (0x160089, 0x120289, 0))))
+    named = (mask_names(0x160089, "file"), mask_names(0x120289, "file"), mask_names(3, "key"), mask_names(0))
+    gives("masks by names", ("FR+WD", "FR+0x200", "KEY_QUERY_VALUE+KEY_SET_VALUE", "0x0"), lambda: named)
+    gives("a name of a kind", 0x1301BF, lambda: mask("modify", "file"))
+    kinds: List[Optional[Kind]] = [None, "file", "key", "service", "process"]
+    for kind in kinds:
+        some = [random.getrandbits(32) & random.getrandbits(32) for _ in range(2000)]
+        gives(f"masks by the names of {kind}", some, lambda: [mask(mask_names(one, kind), kind) for one in some])
+    wrong: List[Any] = ["File", "files", ""]
+    for kind in wrong:
+        raises(f"the kind {kind!r}", ValueError, lambda: mask_names(1, kind))
     gives("a descriptor's text", ("sddl", 1, "Syntax", 0, None), lambda: refused(lambda: Descriptor.from_sddl("alice")))
     texts: List[Tuple[str, Callable[[str], Any]]] = [
         ("SDDL", Descriptor.from_sddl),

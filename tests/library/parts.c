@@ -171,15 +171,24 @@ static void full_texts(void)
     HOLDS(hudarin_sid_bytes_to_full_text(users, 15, (char *)room, sizeof room).fault == HUDARIN_SID_SHORT);
 }
 
-/* Of [MS-DTYP] 2.5.1.1 the names of rights, those with the most bits first. */
+/* The names of a kind's rights (winnt.h, winsvc.h; [MS-DTYP] 2.4.3, 2.5.1.1), those with the most bits first. */
 static void mask_texts(void)
 {
-    WRITES(hudarin_mask_to_text(0x120089, room, length), "FR", 2);
-    WRITES(hudarin_mask_to_text(0x160089, room, length), "FR+WD", 5);
-    WRITES(hudarin_mask_to_text(0x120289, room, length), "FR+0x200", 8);
-    WRITES(hudarin_mask_to_text(0x80000001, room, length), "GR+CC", 5);
-    WRITES(hudarin_mask_to_text(0xF0100000, room, length), "GR+GW+GX+GA+0x100000", 20);
-    WRITES(hudarin_mask_to_text(0, room, length), "0x0", 3);
+    char room[64];
+    WRITES(hudarin_mask_to_text(0x120089, HUDARIN_KIND_FILE, room, length), "FR", 2);
+    WRITES(hudarin_mask_to_text(0x160089, HUDARIN_KIND_FILE, room, length), "FR+WD", 5);
+    WRITES(hudarin_mask_to_text(0x120289, HUDARIN_KIND_FILE, room, length), "FR+0x200", 8);
+    WRITES(hudarin_mask_to_text(3, HUDARIN_KIND_FILE, room, length), "FILE_READ_DATA+FILE_WRITE_DATA", 30);
+    WRITES(hudarin_mask_to_text(3, HUDARIN_KIND_KEY, room, length), "KEY_QUERY_VALUE+KEY_SET_VALUE", 29);
+    WRITES(hudarin_mask_to_text(3, HUDARIN_KIND_SERVICE, room, length), "SERVICE_QUERY_CONFIG+SERVICE_CHANGE_CONFIG", 42);
+    WRITES(hudarin_mask_to_text(3, HUDARIN_KIND_PROCESS, room, length), "PROCESS_TERMINATE+PROCESS_CREATE_THREAD", 39);
+    WRITES(hudarin_mask_to_text(0x80000001, HUDARIN_KIND_ANY, room, length), "GR+0x1", 6);
+    WRITES(hudarin_mask_to_text(0xF0100000, HUDARIN_KIND_ANY, room, length), "GR+GW+GX+GA+SYNCHRONIZE", 23);
+    WRITES(hudarin_mask_to_text(0, HUDARIN_KIND_ANY, room, length), "0x0", 3);
+    HOLDS(hudarin_mask_to_text(3, 5, room, sizeof room).status == HUDARIN_KIND);
+    HOLDS(hudarin_mask_from_text("FR", 2, 5).status == HUDARIN_KIND);
+    HOLDS(hudarin_mask_from_text("modify+0x40000", 14, HUDARIN_KIND_FILE).mask == 0x1701bf);
+    HOLDS(hudarin_mask_from_text("modify", 6, HUDARIN_KIND_KEY).status == HUDARIN_TEXT);
 }
 
 /* The names of the faults of each status, in the order of their numbers. */

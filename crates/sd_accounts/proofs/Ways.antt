@@ -42,9 +42,11 @@ module _ (rows : List AccountRow) (starts groups : List SidValue) (before : List
   pub goes_back : (earlier : ℕ) → from ≡ Some earlier
       → (earlier < last) × ((d : SidValue) → Ends rows starts (get_or groups earlier d) (get_or groups place d) (back ++ one ∷ []))
   goes_back earlier some =
-      let step = subst (IsFoundFrom rows starts groups last) some known in
-      (step.0, λ d. subst (λ x. Ends rows starts (get_or groups earlier d) (get_or groups place d) (back ++ x ∷ [])) (same d)
-          (one_more_ends rows starts (get_or groups earlier d) (get_or groups last d) (get_or groups place d) back (step.1 d d) (ends d)))
+      let step = subst (IsFoundFrom rows starts groups last) some known in (
+        step.0,
+        λ d. subst (λ x. Ends rows starts (get_or groups earlier d) (get_or groups place d) (back ++ x ∷ [])) (same d)
+            (one_more_ends rows starts (get_or groups earlier d) (get_or groups last d) (get_or groups place d) back (step.1 d d) (ends d)),
+      )
 
   pub comes_to_start : from ≡ None → (d : SidValue) → IsWay rows starts (get_or groups place d) (reverse (back ++ one ∷ []))
   comes_to_start none d =

@@ -1,6 +1,7 @@
 pub mod Request
 pub mod CallAnswer
 pub mod Written
+pub mod Masks
 pub mod InDomain
 pub mod Length
 pub mod Handle

@@ -60,6 +60,7 @@ status_text n =
     else if n == 25 then codes "the descriptor can't be decided for the question"
     else if n == 26 then codes "a line of the accounts is no row"
     else if n == 27 then codes "the text means no user that may log on"
+    else if n == 28 then codes "no kind of object has the number"
     else []
 
 -- ---- the fault with a number

@@ -7,24 +7,21 @@ use Rattle.sd_acl.specs.Descriptor.{DescriptorValue}
 use Rattle.sd_text.specs.Canon.{canon, full_canon, sid_canon}
 use Rattle.sd_text.specs.Fault.{number_of}
 use Rattle.sd_text.specs.Grammar.{Grammar, Spells, SpellsOne, HasFault}
-use Rattle.sd_text.specs.MaskNames.{mask_names}
 use Rattle.sd_text.specs.Sddl.{sddl}
 use Rattle.sd_text.specs.Sid.{sid_text}
 use Rattle.sd_wire.specs.Fault.{wire_fault_number}
 use Rattle.sd_wire.specs.Reading.{descriptor_read}
 use Rattle.sd_wire.specs.Writing.{wire_of}
-use Rattle.sd_text.specs.Rights.{mask_text}
 use Rattle.sd_text.specs.declared.fault.TextError.{TextError}
 use Rattle.sd_text.specs.declared.fault.TextError.TheVariants as errors
 use Rattle.sd_c.specs.declared.call_answer.Written.{Written}
-use Rattle.sd_c.specs.declared.call_answer.MaskAnswer.{MaskAnswer}
 use Rattle.sd_c.specs.declared.refusal.Refusal.{Refusal}
 use Rattle.sd_whole.specs.Plain.{odd_number}
 use Rattle.sd_whole_text.specs.NoText.{no_text_number}
 use Rattle.sd_whole_text.specs.declared.no_text.NoText.{NoText as Reason}
 use Rattle.sd_whole_text.specs.declared.no_text.NoText.TheVariants as reasons
 use Rattle.sd_c.specs.declared.refusal.Refusal.TheVariants.{Memory, Utf8, Text, Wire, Sid, NoDomain, Lacking}
-use Rattle.sd_c.specs.declared.refusal.Refusal.TheVariants.{NoText, NotPlain}
+use Rattle.sd_c.specs.declared.refusal.Refusal.TheVariants.{NoText, NotPlain, NoKind}
 
 -- ---- the answer and the buffer
 
@@ -65,6 +62,7 @@ refused NoDomain = not_written 17 0 0
 refused Lacking = not_written 18 0 0
 refused (NoText why) = not_written 20 (no_text_number why) (index_of why)
 refused (NotPlain odd) = not_written 21 (odd_number odd.kind) (odd.entry - 1)
+refused NoKind = not_written 28 0 0
 
 -- the call writes these bytes, or returns that the buffer is too small for them
 abbrev pub Writes : List ℕ → List ℕ → List ℕ → Written → Type 0
@@ -136,32 +134,3 @@ IsSidTextOf bytes printed = (s : SidValue) × (n : ℕ) × (sid_reading bytes �
 -- the text in full, without aliases, of the SID at the front of the bytes
 abbrev pub IsFullSidTextOf : List ℕ → List ℕ → Type 0
 IsFullSidTextOf bytes printed = (s : SidValue) × (n : ℕ) × (sid_reading bytes ≡ Ok (s, n)) × (printed ≡ full_canon s)
-
--- ---- masks
-
-abbrev pub mask_given : ℕ → MaskAnswer
-mask_given mask = record { status = 0; fault = 0; place = 0; mask = mask }
-
-abbrev pub no_mask : Refusal → MaskAnswer
-no_mask why =
-    record { status = (refused why).status; fault = (refused why).fault; place = (refused why).place; mask = 0 }
-
--- the text of a mask is refused, never out of memory
-abbrev pub RefusesMask : List ℕ → Refusal → Type 0
-RefusesMask text (Utf8 place) = IsNotUtf8 text place
-RefusesMask text (Text fault place) = HasFault mask_text text fault place
-RefusesMask text _ = ⊥
-
--- the mask that the text spells, or a reason that holds
-abbrev pub AnswersMask : List ℕ → MaskAnswer → Type 0
-AnswersMask text answer =
-    ((mask : ℕ) × Spells mask_text text mask × (answer ≡ mask_given mask))
-    ⊎ ((why : Refusal) × RefusesMask text why × (answer ≡ no_mask why))
-
--- the mask by names of rights
-abbrev pub IsNamesOf : ℕ → List ℕ → Type 0
-IsNamesOf mask names = names ≡ mask_names mask
-
--- nothing is refused, except out of memory
-abbrev pub RefusesMemory : Refusal → Type 0
-RefusesMemory why = why ≡ Memory

@@ -3,7 +3,7 @@
 ghost use Rattle.std.specs.Prelude.{◌≡◌};
 ghost use Rattle.sd_c.specs.CallAnswer.{given, verdict_given, unread, not_read, undecided_place, unwritten, why_not};
 ghost use Rattle.sd_c.specs.Length.{length_told};
-ghost use Rattle.sd_c.specs.Written.{Writes, index_of, mask_given, no_mask, not_written, refused};
+ghost use Rattle.sd_c.specs.Written.{Writes, index_of, not_written, refused};
 
 use crate::refusal::Refusal;
 use crate::stop::{NotRead, Stop};
@@ -69,6 +69,8 @@ pub const UNDECIDED: u32 = 25;
 pub const ROW: u32 = 26;
 /// A text means no user that may log on; the fault says why.
 pub const ACCOUNT: u32 = 27;
+/// No kind of object has the number.
+pub const KIND: u32 = 28;
 
 /// The answer of a check: a verdict and its mask, or which argument is invalid.
 #[repr(C)]
@@ -265,6 +267,7 @@ pub(crate) fn refused(why: Refusal) -> Written
                 odd.entry.saturating_sub(1) as u64,
             )
         }
+        Refusal::NoKind => not_written(KIND, 0, 0),
     }
 }
 
@@ -277,42 +280,5 @@ fn index_of(why: NoText) -> u64
         NoText::Opaque(_, entry) | NoText::Kind(_, entry) | NoText::Data(_, entry) => {
             entry.saturating_sub(1) as u64
         }
-    }
-}
-
-/// The answer of `hudarin_mask_from_text`.
-#[repr(C)]
-#[derive(Clone, Copy, Debug, PartialEq, Eq)]
-pub struct MaskAnswer {
-    pub status: u32,
-    /// The fault's number, 0 where there is none.
-    pub fault: u32,
-    /// The byte offset of a fault in the text.
-    pub place: u64,
-    pub mask: u32,
-}
-
-/// The answer that is this mask.
-pub(crate) fn mask_given(mask: Mask) -> MaskAnswer
-    ensures { result ≡ mask_given mask }
-{
-    MaskAnswer {
-        status: OK,
-        fault: 0,
-        place: 0,
-        mask: mask.bits(),
-    }
-}
-
-/// The answer that says why there is no mask.
-pub(crate) fn no_mask(why: Refusal) -> MaskAnswer
-    ensures { result ≡ no_mask why }
-{
-    let told = refused(why);
-    MaskAnswer {
-        status: told.status,
-        fault: told.fault,
-        place: told.place,
-        mask: 0,
     }
 }

@@ -25,6 +25,7 @@ mod keeping;
 mod length;
 mod lines;
 mod mapping;
+mod masks;
 mod meaning;
 mod nodes;
 mod not_done;
@@ -53,7 +54,7 @@ pub use accounts::{
 };
 pub use analysis::{CompareAnswer, hudarin_compare, hudarin_lint, hudarin_who};
 pub use bytes::{hudarin_bytes_to_sddl, hudarin_sid_bytes_to_full_text, hudarin_sid_bytes_to_text};
-pub use call_answer::{CheckAnswer, MaskAnswer, Written};
+pub use call_answer::{CheckAnswer, Written};
 pub use check::hudarin_check;
 pub use client::hudarin_keep_client;
 pub use entries::{
@@ -68,6 +69,7 @@ pub use keeping::{hudarin_keep_bytes, hudarin_keep_sddl, hudarin_keep_token};
 pub use length::{front_is_read, hudarin_descriptor_length};
 pub use lines::{ValueAnswer, hudarin_line_print, hudarin_line_value, hudarin_lines_count};
 pub use mapping::Mapping;
+pub use masks::{MaskAnswer, hudarin_mask_from_text, hudarin_mask_to_text};
 pub use meaning::{faults_have_names, hudarin_fault_name, hudarin_status_text};
 pub use nodes::{NodeAnswer, hudarin_view_node, hudarin_view_own, own_forms_come_back};
 pub use not_done::{EditArgument, NotDone};
@@ -82,10 +84,7 @@ pub use stores::{
     hudarin_store_edit, hudarin_store_judge, hudarin_store_open, hudarin_store_open_within,
     hudarin_store_publish, hudarin_store_revert,
 };
-pub use text::{
-    hudarin_mask_from_text, hudarin_mask_to_text, hudarin_sddl_canonical, hudarin_sddl_to_bytes,
-    hudarin_sid_text_to_bytes,
-};
+pub use text::{hudarin_sddl_canonical, hudarin_sddl_to_bytes, hudarin_sid_text_to_bytes};
 pub use version::{Version, hudarin_version};
 pub use views::{ViewAnswer, hudarin_journal_length, hudarin_view_check, hudarin_view_descriptor};
 pub use whole::{hudarin_whole_at, hudarin_whole_from_sddl};

@@ -7,7 +7,7 @@ ghost use Rattle.sd_c.specs.Meaning.{account_fault_name, row_fault_name, undecid
 ghost use Rattle.sd_c.specs.Written.{Writes};
 
 use crate::call_answer::{
-    ACCOUNT, BEHIND_GROUPS, DOMAIN, EDIT, HANDLE, LIMITS, MAPPING, MEMORY, NO_NODE, NO_PART,
+    ACCOUNT, BEHIND_GROUPS, DOMAIN, EDIT, HANDLE, KIND, LIMITS, MAPPING, MEMORY, NO_NODE, NO_PART,
     NO_TEXT, NOT_PLAIN, OK, PARTS, PATH, PRIVILEGES, REFUSED, ROOM, ROW, SID, STATE, TEXT, TYPES,
     UNDECIDED, UNENDED, UTF8, WIRE, WORD, Written, write,
 };
@@ -70,6 +70,7 @@ fn status_text(status: u32) -> &'static str
         UNDECIDED => "the descriptor can't be decided for the question",
         ROW => "a line of the accounts is no row",
         ACCOUNT => "the text means no user that may log on",
+        KIND => "no kind of object has the number",
         _ => "",
     }
 }

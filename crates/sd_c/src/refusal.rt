@@ -31,6 +31,8 @@ pub enum Refusal {
     NoText(NoText),
     /// This entry of the DACL is no allow and no deny of a plain list.
     NotPlain(OddEntry),
+    /// There is no such kind of object.
+    NoKind,
 }
 
 impl From<AllocError> for Refusal {

@@ -1,25 +1,20 @@
-//! The calls that turn a text into bytes, a canonical text or a number.
+//! The calls that turn a text into bytes or a canonical text.
 
 ghost use Rattle.std.specs.Prelude.{◌≡◌, IfOk, IfErr, string_bytes};
 ghost use Rattle.sd_acl.specs.Descriptor.{descriptor_of};
 ghost use Rattle.sd_text.specs.Alias.{in_domain};
 ghost use Rattle.sd_text.specs.Grammar.{Spells};
-ghost use Rattle.sd_text.specs.Rights.{mask_text};
 ghost use Rattle.sd_text.specs.Sddl.{sddl, sddl_in};
 ghost use Rattle.sd_text.specs.Sid.{sid_text, sid_text_in};
-ghost use Rattle.sd_c.specs.Written.{Answers, AnswersMask, IsCanonOf, IsFormOf, IsNamesOf, IsNotUtf8, IsSidOf};
-ghost use Rattle.sd_c.specs.Written.{RefusesMask, RefusesMemory, RefusesText, text_refusal};
+ghost use Rattle.sd_c.specs.Written.{Answers, IsCanonOf, IsFormOf, IsNotUtf8, IsSidOf, RefusesText, text_refusal};
 
-use crate::call_answer::{MaskAnswer, Written, mask_given, no_mask, refused, write};
+use crate::call_answer::{Written, refused, write};
 use crate::refusal::Refusal;
 use sd_acl::Descriptor;
-use sd_sid::{Mask, Sid, sid_bytes};
-use sd_text::{
-    Aliases, Domain, TextError, print_mask_names, print_sddl, read_mask, read_sddl_in,
-    read_sid_text_in,
-};
+use sd_sid::{Sid, sid_bytes};
+use sd_text::{Aliases, Domain, TextError, print_sddl, read_sddl_in, read_sid_text_in};
 use sd_wire::write_descriptor;
-use std::alloc::{AllocError, Global};
+use std::alloc::Global;
 
 /// Writes the self-relative form ([MS-DTYP] 2.4.6) of the descriptor that the SDDL text spells ([MS-DTYP] 2.5.1) into
 /// the buffer. Refused if the text isn't UTF-8 or has a fault, or out of memory; then, and if the buffer is too small,
@@ -55,30 +50,6 @@ pub extern "C" fn hudarin_sid_text_to_bytes(alloc: Global, text: &[u8], room: &m
     match sid_form_of(alloc, text) {
         Ok(bytes) => write(&bytes, room),
         Err(why) => refused(why),
-    }
-}
-
-/// The mask that the text spells: a number, or names of rights ([MS-DTYP] 2.5.1.1, ace-rights). Refused if the text
-/// isn't UTF-8 or has a fault. Takes no memory.
-#[unsafe(no_mangle)]
-pub extern "C" fn hudarin_mask_from_text(text: &[u8]) -> MaskAnswer
-    ensures { AnswersMask text.now result }
-{
-    match mask_of(text) {
-        Ok(mask) => mask_given(mask),
-        Err(why) => no_mask(why),
-    }
-}
-
-/// Writes the mask by names of rights, as `FR+WD` ([MS-DTYP] 2.5.1.1, ace-rights), into the buffer. Refused only out of
-/// memory.
-#[unsafe(no_mangle)]
-pub extern "C" fn hudarin_mask_to_text(alloc: Global, mask: u32, room: &mut [u8]) -> Written
-    ensures { Answers (IsNamesOf mask) RefusesMemory room.old room.new result }
-{
-    match print_mask_names(alloc, Mask(mask)) {
-        Ok(names) => write(names.as_bytes(), room),
-        Err(AllocError) => refused(Refusal::Memory),
     }
 }
 
@@ -157,17 +128,4 @@ fn sid_form_of(alloc: Global, text: &[u8]) -> Result<Vec<u8>, Refusal>
 {
     let sid = sid_of(None, text)?;
     Ok(sid_bytes(alloc, &sid)?)
-}
-
-fn mask_of(text: &[u8]) -> Result<Mask, Refusal>
-    ensures ok { IfOk result (λ mask. Spells mask_text text.now mask) }
-    ensures err { IfErr result (λ why. RefusesMask text.now why) }
-{
-    match utf8_of(text) {
-        Ok(text) => match read_mask(text) {
-            Ok(mask) => Ok(mask),
-            Err(e) => Err(refusal_of(e)),
-        },
-        Err(place) => Err(Refusal::Utf8 { place }),
-    }
 }

@@ -36,11 +36,11 @@ loop-place-preserved c =
           let counted : w.len-in-Some-numbered.result ≡ length (sids_at all new) = w.len-in-Some-numbered.ensures.len ∙ sym (length-map new (sid_at all)) in
           let over : length before ≤ w.len-in-Some-numbered.result = omega (arith, counted, c.loop-place.invariant.0.reached.alike, ap length added.front, length-append (sids_at all old) added.further) in
           let are_more = grown before more c.loop-place.before.len w.len-in-Some-numbered.result (Some c.loop-place.place) c.loop-place.before.ok.0 over w.in_ok-resize-2.ensures.items
-              ∙ ap (λ n. before ++ replicate (n - length before) (Some c.loop-place.place)) counted in
+          ∙ ap (λ n. before ++ replicate (n - length before) (Some c.loop-place.place)) counted in
           let walked = walk_goes_on (rows_of self) c.args.starts.now (sids_at all old) (sids_at all new) before c.loop-place.place sid found.0 found.1 added more are_more c.loop-place.invariant.0 in
           let within : AreWithin all new = still_within all numbers old new c.loop-place.invariant.1 (subst (AreWithin all) (sym w.in-Some-numbered.ensures.groups) (self.indexed.sound.within sid)) w.in_ok-add_all.ensures in (
             subst (λ b. IsWalked (rows_of self) c.args.starts.now (sids_at all c.match-numbered.found.keys) b.items (c.loop-place.place + 1)) (sym w.before-is)
-            (subst (λ l. IsWalked (rows_of self) c.args.starts.now (sids_at all l.keys) more (c.loop-place.place + 1)) (sym w.found-is) walked),
+                (subst (λ l. IsWalked (rows_of self) c.args.starts.now (sids_at all l.keys) more (c.loop-place.place + 1)) (sym w.found-is) walked),
             subst (λ l. AreWithin all l.keys) (sym w.found-is) within,
           )
       | in_default-numbered w ↦ absurd (omega (arith, w.in_default-numbered.ensures.none, number_within all old c.loop-place.place c.in-Some.number at c.loop-place.invariant.1))
@@ -59,7 +59,7 @@ invariant_of-result c =
           omega (arith, none_at found c.loop-place.place (sym w.get_index.ensures.key ∙ sym w.copied.ensures ∙ w.in_default.is), length-map found (sid_at all))
     ] in (
       subst (AreGroupsOf (rows_of self) c.args.starts.now) (sym are)
-      (walk_ends (rows_of self) c.args.starts.now (sids_at all found) c.loop-place.before.items c.loop-place.place over c.loop-place.invariant.0
-      (two_sids all found self.indexed.sound.apart c.loop-place.invariant.1 c.in_ok-groups.ensures.once)),
+          (walk_ends (rows_of self) c.args.starts.now (sids_at all found) c.loop-place.before.items c.loop-place.place over c.loop-place.invariant.0
+          (two_sids all found self.indexed.sound.apart c.loop-place.invariant.1 c.in_ok-groups.ensures.once)),
       subst (λ groups. AreFoundFrom (rows_of self) c.args.starts.now groups c.loop-place.before.items) (sym are) c.loop-place.invariant.0.reached,
     )
