@@ -38,9 +38,10 @@ extern "C" {
 #define HUDARIN_VERSION_MINOR 3u
 #define HUDARIN_VERSION_PATCH 0u
 
-/* A program of 0.2 is compiled again, and changes nothing.
+/* What a program of 0.2 changes: hudarin_mask_from_text and hudarin_mask_to_text take a hudarin_kind. With
+ * HUDARIN_KIND_ANY the first takes what it took; the second has the names of a file with HUDARIN_KIND_FILE.
  *
- * What a program of 0.1 changes: hudarin_who, hudarin_compare and hudarin_store_review take a hudarin_lines as their
+ * What a program of 0.1 changes beside: hudarin_who, hudarin_compare and hudarin_store_review take a hudarin_lines as their
  * last argument; hudarin_line_print writes the lines, which hudarin_who and hudarin_compare put into a buffer, and
  * hudarin_store_review after the paths. hudarin_who returns a hudarin_verdict, and hudarin_accesses is gone; the status
  * of a hudarin_comparison is in `answer`, which was `written`. Instead of "same" there is no line. hudarin_whole_at and,
