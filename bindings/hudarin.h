@@ -684,9 +684,9 @@ typedef struct hudarin_value {
     uint64_t number; /* the mask or the number; of a SID HUDARIN_MARK_DENY, HUDARIN_MARK_RESTRICT or 0; of a text 0 */
 } hudarin_value;
 
-/* The answer of hudarin_mask_from_text. */
+/* The answer of hudarin_mask_from_text and hudarin_map_mask. */
 typedef struct hudarin_mask {
-    uint32_t status; /* HUDARIN_OK, HUDARIN_KIND, HUDARIN_UTF8 or HUDARIN_TEXT */
+    uint32_t status; /* HUDARIN_OK, HUDARIN_KIND, HUDARIN_UTF8, HUDARIN_TEXT or HUDARIN_MAPPING */
     uint32_t fault;  /* HUDARIN_TEXT_.., else 0 */
     uint64_t place;  /* of HUDARIN_TEXT the fault's byte offset, of HUDARIN_UTF8 the number of valid bytes, else 0 */
     uint32_t mask;
@@ -901,6 +901,9 @@ HUDARIN_ANSWERS hudarin_mask hudarin_mask_from_text(const char *text, size_t tex
  * "FR+0x200". hudarin_mask_from_text with the same kind returns the mask for each text that this writes.
  */
 HUDARIN_ANSWERS hudarin_written hudarin_mask_to_text(uint32_t mask, uint32_t kind, char *room, size_t room_length);
+
+/* The mask with its generic rights mapped, as MapGenericMask does, and as each check maps its request and the entries. */
+HUDARIN_ANSWERS hudarin_mask hudarin_map_mask(uint32_t mask, hudarin_mapping mapping);
 
 /* ---- Handles, for callers that check often */
 

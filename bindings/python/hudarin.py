@@ -84,6 +84,7 @@ __all__ = [
     "WholeDescriptor",
     "WholeEntry",
     "check_all",
+    "map_mask",
     "mask",
     "mask_names",
     "who_all",
@@ -360,6 +361,7 @@ def _load() -> ctypes.CDLL:
         "whole_with_entries": (given + [_U32] * 2 + given + buffer, _Written),
         "whole_list": (given + [_U32], _WholeList),
         "whole_entry": (given + [_U32, _U64] + buffer, _WholeEntry),
+        "map_mask": ([_U32, _Mapping], _Mask),
         "mask_from_text": (given + [_U32], _Mask),
         "mask_to_text": ([_U32, _U32] + buffer, _Written),
         "check": (given + token + request, _Verdict),
@@ -575,6 +577,11 @@ def mask_names(mask: int, kind: Optional[Kind] = None) -> str:
     The bits that no name has follow as a number, as in "FR+0x200". `mask` with the same kind returns it again."""
     number, of = _number(mask, "mask"), _kind(kind)
     return _filled(lambda *buffer: _library.hudarin_mask_to_text(number, of, *buffer), "mask")[0].decode()
+
+
+def map_mask(mask: Mask, mapping: Iterable[Mask] = FILES) -> int:
+    """The mask with its generic rights mapped, as each check maps what is asked for and the entries."""
+    return int(_checked(_library.hudarin_map_mask(_mask(mask, "mask"), _mapping(mapping)), "mapping").mask)
 
 
 def _mask(value: object, what: str) -> int:

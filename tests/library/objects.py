@@ -24,6 +24,7 @@ import hudarin  # noqa: E402
 from hudarin import (  # noqa: E402
     FILES,
     FLAGS,
+    KEYS,
     OF_DACL,
     OF_GROUP,
     OF_OWNER,
@@ -51,6 +52,7 @@ from hudarin import (  # noqa: E402
     View,
     WholeDescriptor,
     WholeEntry,
+    map_mask,
     mask,
     mask_names,
 )
@@ -298,6 +300,7 @@ def one_exception() -> None:
     gives("a mask's text", ("mask", 1, "Syntax", 0, None), lambda: refused(lambda: mask("alice")))
     named = (mask_names(0x160089, "file"), mask_names(0x120289, "file"), mask_names(3, "key"), mask_names(0))
     gives("masks by names", ("FR+WD", "FR+0x200", "KEY_QUERY_VALUE+KEY_SET_VALUE", "0x0"), lambda: named)
+    gives("masks mapped", (0x1200C9, 0xF003F), lambda: (map_mask(0x80000040), map_mask("GA", KEYS)))
     gives("a name of a kind", 0x1301BF, lambda: mask("modify", "file"))
     kinds: List[Optional[Kind]] = [None, "file", "key", "service", "process"]
     for kind in kinds:

@@ -175,6 +175,7 @@ static void full_texts(void)
 static void mask_texts(void)
 {
     char room[64];
+    hudarin_mapping files = { 0x120089, 0x120116, 0x1200a0, 0x1f01ff };
     WRITES(hudarin_mask_to_text(0x120089, HUDARIN_KIND_FILE, room, length), "FR", 2);
     WRITES(hudarin_mask_to_text(0x160089, HUDARIN_KIND_FILE, room, length), "FR+WD", 5);
     WRITES(hudarin_mask_to_text(0x120289, HUDARIN_KIND_FILE, room, length), "FR+0x200", 8);
@@ -189,6 +190,9 @@ static void mask_texts(void)
     HOLDS(hudarin_mask_from_text("FR", 2, 5).status == HUDARIN_KIND);
     HOLDS(hudarin_mask_from_text("modify+0x40000", 14, HUDARIN_KIND_FILE).mask == 0x1701bf);
     HOLDS(hudarin_mask_from_text("modify", 6, HUDARIN_KIND_KEY).status == HUDARIN_TEXT);
+    HOLDS(hudarin_map_mask(0x80000040u, files).mask == 0x1200c9u && hudarin_map_mask(0x10000000u, files).mask == 0x1f01ffu);
+    files.all = 0x200000;
+    HOLDS(hudarin_map_mask(1, files).status == HUDARIN_MAPPING && hudarin_map_mask(1, files).mask == 0);
 }
 
 /* The names of the faults of each status, in the order of their numbers. */

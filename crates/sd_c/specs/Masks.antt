@@ -1,15 +1,18 @@
 -- Masks in words, by the names of a kind of object.
-use Rattle.std.specs.Prelude.{◌≡◌, ◌⊎◌, ℕ, ◌==◌, List, Option, Some, None, if◌then◌else◌}
+use Rattle.std.specs.Prelude.{◌≡◌, ◌⊎◌, ℕ, ◌==◌, List, Option, Some, None, Result, Ok, Err, if◌then◌else◌}
+use Rattle.sd_sid.specs.Mapping.{MappingValue, mapped}
 use Rattle.sd_text.specs.declared.fault.TextError.TheVariants as errors
 use Rattle.sd_line.specs.Mask.{IsMaskErrorIn, IsMaskIn}
 use Rattle.sd_line.specs.Spelling.{spelled}
 use Rattle.sd_line.specs.declared.names.ObjectKind.TheVariants.{File, Key, Service, Process}
 use Rattle.sd_line.specs.declared.spelling.Spelling.{Spelling}
 use Rattle.sd_line.specs.declared.spelling.Spelling.TheVariants.{Names}
+use Rattle.sd_c.specs.CallAnswer.{not_read}
 use Rattle.sd_c.specs.Written.{IsNotUtf8, refused}
 use Rattle.sd_c.specs.declared.masks.MaskAnswer.{MaskAnswer}
 use Rattle.sd_c.specs.declared.refusal.Refusal.{Refusal}
 use Rattle.sd_c.specs.declared.refusal.Refusal.TheVariants.{Memory, Utf8, Text, NoKind}
+use Rattle.sd_c.specs.declared.stop.NotRead.{NotRead}
 
 -- the names of the kind of object with this number; with 0 those that every object has
 abbrev pub names_of : ℕ → Option Spelling
@@ -27,6 +30,11 @@ mask_given mask = record { status = 0; fault = 0; place = 0; mask = mask }
 abbrev pub no_mask : Refusal → MaskAnswer
 no_mask why =
     record { status = (refused why).status; fault = (refused why).fault; place = (refused why).place; mask = 0 }
+
+-- the mask with its generic rights mapped, unless the mapping is none
+abbrev pub mask_mapped : Result MappingValue NotRead → ℕ → MaskAnswer
+mask_mapped (Ok g) mask = mask_given (mapped g mask)
+mask_mapped (Err why) mask = record { status = (not_read why).status; fault = 0; place = 0; mask = 0 }
 
 -- the text of a mask is refused, never out of memory
 abbrev pub RefusesMask : Option Spelling → List ℕ → Refusal → Type 0

@@ -69,7 +69,7 @@ pub use keeping::{hudarin_keep_bytes, hudarin_keep_sddl, hudarin_keep_token};
 pub use length::{front_is_read, hudarin_descriptor_length};
 pub use lines::{ValueAnswer, hudarin_line_print, hudarin_line_value, hudarin_lines_count};
 pub use mapping::Mapping;
-pub use masks::{MaskAnswer, hudarin_mask_from_text, hudarin_mask_to_text};
+pub use masks::{MaskAnswer, hudarin_map_mask, hudarin_mask_from_text, hudarin_mask_to_text};
 pub use meaning::{faults_have_names, hudarin_fault_name, hudarin_status_text};
 pub use nodes::{NodeAnswer, hudarin_view_node, hudarin_view_own, own_forms_come_back};
 pub use not_done::{EditArgument, NotDone};

@@ -1,15 +1,19 @@
-//! Masks in words, by the names of a kind of object.
+//! Masks: in words, by the names of a kind of object; and mapped.
 
 ghost use Rattle.std.specs.Prelude.{◌≡◌, IfErr, IfOk, None, Some, string_bytes};
 ghost use Rattle.sd_line.specs.Mask.{IsMaskIn};
 ghost use Rattle.sd_line.specs.Spelling.{spelled};
 ghost use Rattle.sd_line.specs.declared.spelling.Spelling.{Spelling};
-ghost use Rattle.sd_c.specs.Masks.{AnswersMask, IsNamesOf, RefusesMask, RefusesNames, mask_given, names_of, no_mask};
+ghost use Rattle.sd_c.specs.Masks.{AnswersMask, IsNamesOf, RefusesMask, RefusesNames, mask_given, mask_mapped};
+ghost use Rattle.sd_c.specs.Masks.{names_of, no_mask};
+ghost use Rattle.sd_c.specs.Request.{mapping_read};
 ghost use Rattle.sd_c.specs.Written.{Answers};
 ghost use Rattle.sd_c.specs.declared.refusal.Refusal.TheVariants.{NoKind};
 
-use crate::call_answer::{OK, Written, refused, write};
+use crate::call_answer::{CheckAnswer, OK, Written, not_read, refused, write};
+use crate::mapping::Mapping;
 use crate::refusal::Refusal;
+use crate::request::mapping_of;
 use crate::text::{refusal_of, utf8_of};
 use sd_line::{ObjectKind, Spelling, read_mask_in, spell};
 use sd_sid::Mask;
@@ -56,6 +60,18 @@ pub extern "C" fn hudarin_mask_to_text(
     match text_of(alloc, Mask(mask), kind) {
         Ok(text) => write(text.as_bytes(), room),
         Err(why) => refused(why),
+    }
+}
+
+/// The mask with its generic rights replaced by the mapping's masks for them ([MS-DTYP] 2.4.3), as each check maps its
+/// request and the entries. Refused if a mask of the mapping has a bit beyond 0x001FFFFF. Takes no memory.
+#[unsafe(no_mangle)]
+pub extern "C" fn hudarin_map_mask(mask: u32, mapping: Mapping) -> MaskAnswer
+    ensures { result ≡ mask_mapped (mapping_read mapping) mask }
+{
+    match mapping_of(mapping) {
+        Ok(mapping) => mask_given(mapping.map(Mask(mask))),
+        Err(why) => unmapped(not_read(why)),
     }
 }
 
@@ -107,6 +123,18 @@ fn mask_given(mask: Mask) -> MaskAnswer
         fault: 0,
         place: 0,
         mask: mask.bits(),
+    }
+}
+
+/// The answer that says why no mask is mapped.
+fn unmapped(told: CheckAnswer) -> MaskAnswer
+    ensures { result ≡ record { status = told.status; fault = 0; place = 0; mask = 0 } }
+{
+    MaskAnswer {
+        status: told.status,
+        fault: 0,
+        place: 0,
+        mask: 0,
     }
 }
 
