@@ -2,7 +2,7 @@
 //! out. It is for people: rows of tests show each text, and no definition says one.
 
 use crate::remedies::{CHILDREN, UNNAMED_BITS};
-use crate::token_notes::{push_lacking, push_repeated};
+use crate::token_notes::{push_lacking, push_lacking_of_nodes, push_repeated};
 use bitflags::Flags;
 use sd_acl::{Ace, AceFlags};
 use sd_answer::entries_in;
@@ -50,6 +50,7 @@ pub(crate) fn notes_on(
                 push_mask(alloc, mask, words, &mut notes)?;
                 push_view(alloc, settings, mask, &mut notes)?;
             }
+            push_lacking_of_nodes(alloc, settings, text, request.arguments, &mut notes)?;
             push_repeated(alloc, settings, asked, &mut notes)?;
         }
         (TextCommand::Descriptor(DescriptorCommand::Who), [mask, words @ ..]) => {

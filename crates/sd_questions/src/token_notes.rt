@@ -6,12 +6,17 @@ use sd_answer::{read_token, verdict_line};
 use sd_check::{Verdict, check};
 use sd_claim::Claim;
 use sd_client::read_client;
-use sd_commands::{Settings, told_line};
+use sd_commands::{Settings, answer_question, told_line};
 use sd_line::{Output, Style, Tag, push_printed_line, read_mask_in};
 use sd_sid::{Mask, Sid};
 use sd_text::{Aliases, read_sddl_in, read_sid_text_in};
+use sd_usage::TextCommand;
 use sd_whole_parse::read_whole_sddl;
 use std::alloc::{AllocError, Global};
+
+/// What the note begins with.
+const LACKING: &str =
+    "the token lacks WD or AU, Everyone or Authenticated Users, which most have; with both ";
 
 /// Notes that the token lacks Everyone and Authenticated Users, with which the verdict is another.
 pub(crate) fn push_lacking(
@@ -24,19 +29,13 @@ pub(crate) fn push_lacking(
     let [user, mask, words @ ..] = arguments else {
         return Ok(());
     };
-    if settings.logon.is_some() {
-        return Ok(());
-    }
     let known = settings.aliases;
-    let (Ok(sid), Ok(asked)) = (
-        read_sid_text_in(known, user),
+    let (Some(sid), Ok(asked)) = (
+        logged_on(settings, user),
         read_mask_in(settings.spelling, mask),
     ) else {
         return Ok(());
     };
-    if is_well_known(&sid, 5, 7) {
-        return Ok(());
-    }
     let fuller = with_everyone(alloc, known, words)?;
     let (Some(verdict), Some(other)) = (
         verdict_in(alloc, settings, text, sid, asked, words),
@@ -48,10 +47,57 @@ pub(crate) fn push_lacking(
         return Ok(());
     }
     let line = verdict_text(alloc, settings, other)?;
-    let what =
-        "the token lacks WD or AU, Everyone or Authenticated Users, which most have; with both ";
-    let note = format!(in alloc; "sdstore: WORD: {what}{line}")?;
+    let note = format!(in alloc; "sdstore: WORD: {LACKING}{line}")?;
     notes.push_str(note.as_str())
+}
+
+/// Notes that the token lacks them, where with both a node of the tree has another verdict.
+pub(crate) fn push_lacking_of_nodes(
+    alloc: Global,
+    settings: &Settings,
+    text: &str,
+    arguments: &[&str],
+    notes: &mut String,
+) -> Result<(), AllocError> {
+    let [_tree, user, _mask, words @ ..] = arguments else {
+        return Ok(());
+    };
+    if logged_on(settings, user).is_none() {
+        return Ok(());
+    }
+    let mut fuller = Vec::from_slice(alloc, &arguments[..3])?;
+    fuller.append(&mut with_everyone(alloc, settings.aliases, words)?)?;
+    if node_lines(alloc, settings, text, arguments)?
+        == node_lines(alloc, settings, text, &fuller)?
+    {
+        return Ok(());
+    }
+    let note = format!(in alloc; "sdstore: WORD: {LACKING}nodes have another verdict\n")?;
+    notes.push_str(note.as_str())
+}
+
+/// The lines of the verdicts on nodes.
+fn node_lines(
+    alloc: Global,
+    settings: &Settings,
+    text: &str,
+    arguments: &[&str],
+) -> Result<Vec<u8>, AllocError> {
+    let answer = answer_question(alloc, settings, TextCommand::Types, text, arguments)?;
+    let mut printed = Vec::new(alloc);
+    for line in &answer.lines {
+        push_printed_line(alloc, &mut printed, plain_style(settings), Tag::None, line)?;
+    }
+    Ok(printed)
+}
+
+/// The SID of a user that logs on, and for whom no kind of logon adds the groups.
+fn logged_on(settings: &Settings, user: &str) -> Option<Sid> {
+    let sid = read_sid_text_in(settings.aliases, user).ok()?;
+    if settings.logon.is_some() || is_well_known(&sid, 5, 7) {
+        return None;
+    }
+    Some(sid)
 }
 
 /// The verdict for the user and these words, if there is one.
@@ -139,15 +185,18 @@ fn verdict_text(
     settings: &Settings,
     verdict: Verdict,
 ) -> Result<String, AllocError> {
-    let style = Style {
-        spelling: settings.spelling,
-        output: Output::Text,
-    };
     let line = verdict_line(alloc, verdict)?;
     let mut printed = Vec::new(alloc);
-    push_printed_line(alloc, &mut printed, style, Tag::None, &line)?;
+    push_printed_line(alloc, &mut printed, plain_style(settings), Tag::None, &line)?;
     // It is ASCII: words of ours and a mask.
     Ok(String::from_utf8(printed).unwrap_or(String::new(alloc)))
+}
+
+fn plain_style(settings: &Settings) -> Style {
+    Style {
+        spelling: settings.spelling,
+        output: Output::Text,
+    }
 }
 
 /// The words, and Everyone and Authenticated Users where none of them names these.
