@@ -14,7 +14,7 @@ pub use Rattle.sd_text.proofs.Parts.{went}
 pub use Rattle.sd_text.specs.Canon.{hex}
 pub use Rattle.sd_text.specs.Finding.{find}
 pub use Rattle.sd_text.specs.Grammar.{Name, Spells}
-pub use Rattle.sd_text.specs.MaskNames.{is_due, named_from, with_rest, with_word}
+pub use Rattle.sd_line.specs.MaskNames.{is_due, named_from, with_rest, with_word}
 pub use Rattle.sd_text.specs.Rights.{mask_text}
 pub use Rattle.sd_text.specs.declared.fault.TextError.{TextError}
 pub use Rattle.sd_text.specs.declared.fault.TextError.TheVariants.{Fault, Memory}

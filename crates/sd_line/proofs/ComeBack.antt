@@ -1,6 +1,6 @@
 -- What is printed of a mask parses as that mask.
 use Rattle.sd_line.proofs.Cited.{AllDigits, AreJoined, Bool, File, IsMaskIn, IsWordMask, Key, List, NamedBits, Names, None, Number, ObjectKind, Ok, Option, Process, Service, Some, Spelling, Spells, [], and_le_l, and_parts, and_zero_r, ap, append-nil, append_assoc, arith, between_pluses, bit_and, bit_at, bit_at_and, bit_at_or, bit_or, codes, digit_value, digits_is_IsNumeral, eqb-true, false, find, hex, holds, holds-and, holds-or, holds_place, inl, inr, is_due, is_of, join_with_byte, join_with_byte-slice_split, length, length-slice_split, list_all, ltb-true, mask_digits, mask_named, mask_of, mask_of-lt, mask_text, names_of, nat_lt, ne_eqb, not, number_read, onto_first, or_lt, or_zero_r, refl, same_from_bits, same_masks, spelled, subst, suc, sym, true, went, whole_value, with_rest, with_word, ℕ, ◌&&◌, ◌++◌, ◌<◌, ◌==◌, ◌^◌, ◌||◌, ◌∙◌, ◌∷◌, ◌≡◌}
-use Rattle.sd_text.specs.MaskNames.{named_from}
+use Rattle.sd_line.specs.MaskNames.{named_from}
 use Rattle.sd_text.specs.Rights.{mask_number, rights}
 use Rattle.sd_line.proofs.RightNames.{by_test}
 use Rattle.sd_line.specs.Names.{long_names, short_names}

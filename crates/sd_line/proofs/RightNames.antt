@@ -1,6 +1,6 @@
 -- The names of a table of named bits, one row after the other.
 use Rattle.sd_line.proofs.Cited.{Bool, Bor, List, Name, ObjectKind, Option, add-one, bit_or, cond, drop, drop-cons, false, get_or, is_due, is_of, length, map, named_bits, names_of, refl, true, with_word, ℕ, ◌&&◌, ◌+◌, ◌<◌, ◌∷◌, ◌≡◌}
-use Rattle.sd_text.specs.MaskNames.{named_from}
+use Rattle.sd_line.specs.MaskNames.{named_from}
 
 abbrev pub Row : Type 0
 Row = Bor (List ℕ) × ℕ × Option ObjectKind

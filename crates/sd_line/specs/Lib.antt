@@ -4,6 +4,7 @@ pub mod Json
 pub mod Laws
 pub mod Line
 pub mod Mask
+pub mod MaskNames
 pub mod Names
 pub mod Printed
 pub mod Rights

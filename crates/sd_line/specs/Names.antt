@@ -3,7 +3,7 @@ use Rattle.std.specs.Prelude.{ℕ, Bool, true, false, ◌&&◌, if◌then◌else
 use Rattle.std.specs.Str.{str_eq_ignore_ascii_case}
 use Rattle.std.specs.Borrow.{Bor}
 use Rattle.sd_text.specs.Grammar.{Name}
-use Rattle.sd_text.specs.MaskNames.{named_from}
+use Rattle.sd_line.specs.MaskNames.{named_from}
 use Rattle.sd_text.specs.Rights.{bits}
 use Rattle.sd_line.specs.declared.names.ObjectKind.{ObjectKind}
 use Rattle.sd_line.specs.declared.names.ObjectKind.TheVariants.{File, Key, Service, Process}

@@ -1,7 +1,7 @@
 -- The line of `rights`: a mask, the permission that it is, and the names of its rights, as winnt.h and winsvc.h have
 -- them.
 use Rattle.std.specs.Prelude.{ℕ, ◌&&◌, ◌==◌, if◌then◌else◌, List, [], ◌∷◌, ◌++◌, Option, Some, None, codes}
-use Rattle.sd_text.specs.MaskNames.{named_from}
+use Rattle.sd_line.specs.MaskNames.{named_from}
 use Rattle.sd_line.specs.Spelling.{mask_digits}
 use Rattle.sd_line.specs.Line.{LineOf, text_line}
 use Rattle.sd_line.specs.Names.{NamedBits, is_own, long_names, names_of, rights, short_names}

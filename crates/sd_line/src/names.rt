@@ -1,7 +1,7 @@
 //! The names of masks, by kind of object ([MS-DTYP] 2.4.3): one table for masks that are printed and parsed.
 ghost use Rattle.std.specs.Prelude.{◌≡◌, ◌++◌, ◌&&◌, [], IfOk, OnOk, map, option_map, string_bytes};
 ghost use Rattle.std.specs.Str.{str_eq_ignore_ascii_case};
-ghost use Rattle.sd_text.specs.MaskNames.{is_due, named_from, with_rest, with_word};
+ghost use Rattle.sd_line.specs.MaskNames.{is_due, named_from, with_rest, with_word};
 ghost use Rattle.sd_line.specs.Names.{bits_among, is_of, long_names, mask_named, mask_names, named_bits};
 ghost use Rattle.sd_line.specs.Names.{names_of, rights, short_names};
 ghost use Rattle.sd_line.specs.Rights.{permission_among};
@@ -166,7 +166,7 @@ pub(crate) fn mask_names(
 }
 
 /// A mask by the names of these rows, as `FILE_READ_DATA+DELETE`. Bits without a name follow as a number.
-#[tactic(auto, unfolding(sd_text::specs::MaskNames::named_from))]
+#[tactic(auto, unfolding(crate::specs::MaskNames::named_from))]
 pub(crate) fn names_among(
     alloc: Global,
     rows: &[NamedBits],

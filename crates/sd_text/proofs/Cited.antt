@@ -15,7 +15,6 @@ pub use Rattle.sd_text.specs.Entry.{entry, flag_names, has_one, opening}
 pub use Rattle.sd_text.specs.Finding.{Found, GivesUnlessMemory, IsCapped, behind_part, digits_len, find, find_items, name_or}
 pub use Rattle.sd_text.specs.Grammar.{Grammar, HasFault, Items, Name, Run, Spells, SpellsOne, and_then, begins, begins_digit, choose, end, faults, many, named, number, one_of, refused, run, spells, value, whole, word}
 pub use Rattle.sd_text.specs.Laws.{DescriptorsComeBack, MasksComeBack, SidsComeBack}
-pub use Rattle.sd_text.specs.MaskNames.{is_due, mask_names, named_from}
 pub use Rattle.sd_text.specs.Names.{Row, renamed, rows, well_known}
 pub use Rattle.sd_text.specs.Places.{are_placed, is_placed, sid_slot, sids_are_placed, slot}
 pub use Rattle.sd_text.specs.RightNames.{PrintedRight, has, name_in, printed_right}

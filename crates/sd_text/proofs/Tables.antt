@@ -1,8 +1,7 @@
 -- Names of a table, one row after the other.
-use Rattle.sd_text.proofs.Cited.{AllByRecursion, Bor, Items, List, Name, None, Ok, PrintedRight, RightNames, Row, SidValue, Some, [], add-one, and_parts, ap, begins, bit_or, cond, drop, drop-cons, eqb-true, find, fold, fold-append, get_or, has, inl, inr, is_due, length, many, map, named, option_map, or_lt, pow_pos, printed_right, refl, renamed, rows, rules, run, same_sid, same_sid-true, spells, subst, sym, value, ℕ, ◌&&◌, ◌++◌, ◌+◌, ◌<◌, ◌==◌, ◌^◌, ◌∙◌, ◌∷◌, ◌≡◌}
+use Rattle.sd_text.proofs.Cited.{AllByRecursion, Bor, Items, List, Name, None, Ok, PrintedRight, RightNames, Row, SidValue, Some, [], add-one, and_parts, ap, begins, bit_or, cond, drop, drop-cons, eqb-true, find, fold, fold-append, get_or, has, inl, inr, length, many, map, named, option_map, or_lt, pow_pos, printed_right, refl, renamed, rows, rules, run, same_sid, same_sid-true, spells, subst, sym, value, ℕ, ◌&&◌, ◌++◌, ◌+◌, ◌<◌, ◌==◌, ◌^◌, ◌∙◌, ◌∷◌, ◌≡◌}
 use Rattle.sd_text.specs.Rights.{bits_of}
 use Rattle.sd_text.specs.Alias.{aliases, alias_in}
-use Rattle.sd_text.specs.MaskNames.{named_from, with_word}
 use Rattle.sd_text.specs.RightNames.{name_in}
 use Rattle.sd_text.proofs.Parts.{went, chosen, name_is, found_is, part_ok}
 use Rattle.sd_text.proofs.Engine.{find_spells}
@@ -16,14 +15,6 @@ named_at rs i r text lt is = rw (drop-cons rs i r lt, sym is, add-one) refl
 pub name_at : (names : RightNames) (rs : List (Bor (List ℕ) × ℕ × RightNames)) (i : ℕ) (r : Bor (List ℕ) × ℕ × RightNames) (mask : ℕ) → i < length rs → r ≡ get_or rs i r → name_in names (map printed_right (drop i rs)) mask ≡ cond (has names r.2 && r.1 == mask) (Some r.0.now) (name_in names (map printed_right (drop (i + 1) rs)) mask)
 unfolding name_in
 name_at names rs i r mask lt is = rw (drop-cons rs i r lt, sym is, add-one) refl
-
--- of a table of masks, whose names are words of a text
-pub word_at : (rs : List (Row ℕ)) (i : ℕ) (r : Row ℕ) (mask named : ℕ) (text : List ℕ) → i < length rs → r ≡ get_or rs i r
-    → named_from (rows (drop i rs)) mask named text
-    ≡ cond (is_due mask named r.1) (named_from (rows (drop (i + 1) rs)) mask (bit_or named r.1) (with_word text r.0.now))
-    (named_from (rows (drop (i + 1) rs)) mask named text)
-unfolding named_from
-word_at rs i r mask named text lt is = rw (drop-cons rs i r lt, sym is, add-one) refl
 
 -- ---- a run of names, whose meanings are put together one by one
 

@@ -11,5 +11,4 @@ pub mod Entry
 pub mod Sddl
 pub mod RightNames
 pub mod Canon
-pub mod MaskNames
 pub mod Laws

@@ -18,7 +18,6 @@ mod domain;
 mod entry;
 mod fault;
 mod laws;
-mod mask_names;
 mod name;
 mod number;
 mod places;
@@ -37,7 +36,6 @@ pub use laws::{
     printed_texts_come_back, texts_have_a_value_or_a_fault, texts_have_one_fault,
     texts_have_one_value, texts_never_have_both,
 };
-pub use mask_names::print_mask_names;
 pub use print::{
     print_entry, print_entry_in, print_full_sid, print_sddl, print_sddl_in, print_sid, write_flags,
     write_rights, write_section, write_sid, write_where,

@@ -1,10 +1,9 @@
--- A mask by the names of rights ([MS-DTYP] 2.5.1.1, ace-rights).
+-- A mask by names of a table ([MS-DTYP] 2.4.3), as FR+WD.
 use Rattle.std.specs.Prelude.{ℕ, Bool, not, ◌&&◌, ◌==◌, if◌then◌else◌, List, [], ◌∷◌, ◌++◌, length, bit_and, bit_or}
 use Rattle.std.specs.Prelude.{codes}
 use Rattle.sd_sid.specs.Mask.{holds, mask_of}
 use Rattle.sd_text.specs.Canon.{hex}
 use Rattle.sd_text.specs.Grammar.{Name}
-use Rattle.sd_text.specs.Rights.{names_from_greatest}
 
 -- a name is due if all its bits are the mask's, and earlier names don't have all of them
 abbrev pub is_due : ℕ → ℕ → ℕ → Bool
@@ -28,7 +27,3 @@ named_from (name ∷ names) mask named text =
     if is_due mask named name.stands_for then named_from names mask (bit_or named name.stands_for)
     (with_word text name.letters)
     else named_from names mask named text
-
--- a mask by names, as FR+WD
-abbrev pub mask_names : ℕ → List ℕ
-mask_names mask = named_from names_from_greatest mask 0 []
