@@ -1,8 +1,9 @@
 -- What is parsed takes no more bytes than the data has: each part takes no more than there is room for.
-use Rattle.sd_claim.proofs.Found.{bound, chosen, held, passed, some_is}
+use Rattle.sd_data.proofs.Found.{bound, chosen, held, passed, some_is}
 use Rattle.sd_claim.proofs.Lengths.{length_of_terminated}
 use Rattle.sd_claim.proofs.Cited.{ClaimValue, ClaimsFitTheirData, Layout, List, Option, Some, Value, ValueType, [], after, ap, arith, at_most, claim_len, claim_of, claim_value, drop, flat_map, from_le_bytes, front_len, header_len, i64_at, inl, inr, is_claim, layout_of, least_len, length, length-append, length-drop, length-map-range_with_len, length-take, ltb-false, map, nat_lt, not, octet_string, range_with_len, refl, room_of, slice_range, subst, suc, sym, terminated, text_of_part, type_read, u16_at, u32_at, u32s_at, u64_at, values_read, w16, ℕ, ◌%◌, ◌*◌, ◌+◌, ◌-◌, ◌/◌, ◌==◌, ◌>>=◌, ◌∙◌, ◌∷◌, ◌≡◌, ◌≤◌}
-use Rattle.sd_claim.specs.Reading.{claim_read, header_read, name_read, part_len, terminated_len, text_read, value_at, value_read}
+use Rattle.sd_claim.specs.Reading.{claim_read, header_read, name_read, part_len, terminated_len, value_at, value_read}
+use Rattle.sd_data.specs.Reading.{text_read}
 use Rattle.sd_claim.specs.Writing.{value_bytes}
 use Rattle.sd_claim.specs.declared.value.Value.TheVariants as values
 use Rattle.sd_claim.specs.declared.value_type.Layout.TheVariants.{Number, TerminatedText, OctetString}

@@ -1,10 +1,7 @@
 -- How many bytes each part takes.
-use Rattle.sd_claim.proofs.Cited.{ClaimValue, List, None, Option, Some, SomeIff, Value, [], and_parts, ap, arith, claim_len, flat_map, is_text, is_value_of, leb-true, length, length-append, length-replicate, list_all, nat_le, offsets_from, padding_len, refl, replicate, subst, terminated, text_bytes, to_le_bytes, true, value_bytes, values_place, w32, ℕ, ◌&&◌, ◌*◌, ◌++◌, ◌+◌, ◌<◌, ◌^◌, ◌∙◌, ◌∷◌, ◌≡◌, ◌≤◌}
+use Rattle.sd_claim.proofs.Cited.{ClaimValue, List, Option, Some, SomeIff, Value, [], and_parts, arith, claim_len, flat_map, is_text, is_value_of, leb-true, length, length-append, length-replicate, list_all, nat_le, offsets_from, padding_len, refl, replicate, subst, terminated, text_bytes, to_le_bytes, true, value_bytes, values_place, w32, ℕ, ◌&&◌, ◌*◌, ◌++◌, ◌+◌, ◌<◌, ◌^◌, ◌∙◌, ◌∷◌, ◌≡◌, ◌≤◌}
+use Rattle.sd_data.proofs.Lengths.{known_len, length_of_text}
 use Rattle.sd_claim.specs.Writing.{claim_bytes, claim_data, is_claim}
-
-pub length_of_text : (units : List ℕ) → length (text_bytes units) ≡ 2 * length units
-length_of_text [] = refl
-length_of_text (x ∷ xs) = omega (arith, length_of_text xs)
 
 pub length_of_terminated : (units : List ℕ) → length (terminated units) ≡ 2 * length units + 2
 length_of_terminated units = omega (arith, length_of_text units, length-append (text_bytes units) (0 ∷ 0 ∷ []))
@@ -35,14 +32,6 @@ claim_fits c is =
     let parts = and_parts (list_all (is_value_of c.value_type) c.values) (nat_le (length (claim_data c)) 65535) (and_parts (is_text c.name) later is).1 in
     let fits : length (claim_data c) ≤ 65535 = leb-true _ _ parts.1 in
     (fits, omega (arith, length_of_data c))
-
--- a length that is small enough is known
-known_len : (n : Option ℕ) (size : ℕ) → SomeIff n (size < 2 ^ 64) size → size ≤ 65535 → n ≡ Some size
-known_len None size is fits = absurd (is (omega arith))
-known_len (Some k) size is fits = ap (λ x. Some x) is.1
-
-pub some_is : (n : Option ℕ) (k size : ℕ) → n ≡ Some k → n ≡ Some size → k ≡ size
-some_is n k size one other = cc
 
 pub claim_known : (c : ClaimValue) (name : List ℕ) (vs : List Value) (n : Option ℕ) → name ≡ c.name → vs ≡ c.values → is_claim c ≡ true
     → SomeIff n (claim_len name vs < 2 ^ 64) (claim_len name vs) → n ≡ Some (claim_len c.name c.values)

@@ -4,5 +4,4 @@ pub mod Loop
 pub mod ValuesComeBack
 pub mod ClaimsComeBack
 pub mod WorkedClaims
-pub mod Found
 pub mod ClaimsFit

@@ -1,7 +1,7 @@
 -- What is read one after the other, as a loop does: the units of a text, then the values of a claim.
-use Rattle.sd_claim.proofs.Cited.{Err, Gives, List, None, Option, Refusal, Some, Value, ValueType, [], after, ap, append-nil, append_assoc, arith, drop, drop_more, drop_of_length-le, false, get_or-map-range_with_len, length, length-drop, length-map-range_with_len, refl, sym, take, take_all, true, u16_at, u32_at, u32s_at, value_at, values_read, ℕ, ◌*◌, ◌++◌, ◌+◌, ◌-◌, ◌<◌, ◌==◌, ◌>>=◌, ◌∙◌, ◌∷◌, ◌≡◌, ◌≤◌}
+use Rattle.sd_claim.proofs.Cited.{List, None, Option, Some, Value, ValueType, [], after, ap, append-nil, arith, drop, drop_more, drop_of_length-le, false, get_or-map-range_with_len, length, length-drop, length-map-range_with_len, refl, sym, take, take_all, true, u16_at, u32_at, u32s_at, value_at, values_read, ℕ, ◌*◌, ◌++◌, ◌+◌, ◌-◌, ◌<◌, ◌==◌, ◌>>=◌, ◌∙◌, ◌∷◌, ◌≡◌, ◌≤◌}
 use Rattle.sd_claim.specs.Reading.{terminated_len}
-use Rattle.sd_claim.specs.declared.refusal.Refusal.TheVariants.{Memory, Malformed}
+use Rattle.sd_data.proofs.Loop.{regroup, with_front}
 
 -- ---- texts
 
@@ -60,19 +60,6 @@ pub no_end : (bytes rest : List ℕ) (n : ℕ) → length rest < 2 → TextLeft 
 no_end bytes rest n short left = sym left.is ∙ ap (behind n) (too_short rest short)
 
 -- ---- values
-
--- where a part is refused, so is the whole
-pub refused : {A B : Type 0} (e : Refusal) (part : Option A) (whole : Option B) → Gives (Err e) part → (part ≡ None → whole ≡ None) → Gives (Err e) whole
-refused Memory part whole given none = tt
-refused Malformed part whole given none = none given
-
--- the values that were read before, and those that are still read
-abbrev pub with_front : List Value → Option (List Value) → Option (List Value)
-with_front front read = read >>= λ others. Some (front ++ others)
-
-regroup : (front : List Value) (v : Value) (read : Option (List Value)) → with_front front (read >>= λ others. Some (v ∷ others)) ≡ with_front (front ++ v ∷ []) read
-regroup front v None = refl
-regroup front v (Some others) = ap (λ (l : List Value). Some l) (sym (append_assoc front (v ∷ []) others))
 
 -- the values so far, and those at the offsets that are left, are all values
 abbrev pub ValuesLeft : ValueType → List ℕ → ℕ → ℕ → ℕ → ℕ → List Value → Type 0

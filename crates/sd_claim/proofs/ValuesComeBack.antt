@@ -1,33 +1,14 @@
 -- What is written of a name or a value is parsed again, whatever precedes and follows it.
-use Rattle.sd_claim.proofs.Cited.{All, All-from_recursion, All-get_or, AreUnits, Fits-lt-pow, Fits-of_z, IsValue, Layout, List, Option, Some, Value, [], add-zero, after, and_parts, ap, arith, cast_signed, cast_unsigned, drop, drop_at, eq-eqb, false, fill_by_all, from_le_bytes, from_le_bytes-to_le_bytes_2, from_le_bytes-to_le_bytes_4, from_le_bytes-to_le_bytes_8, front_len, get_or, get_or-flat_map, i64_at, is_text, is_value, layout_of, le-ltb, length, length-append, length-take-le, map, nat_lt, not, not-true, number_len, octet_string, octet_string_len, range_with_len, refl, slice_range, sym, take, take_all, take_at, terminated, text_bytes, text_of_part, to_le_bytes, to_z-of_z, true, type_of, u16_at, u32_at, w16, w32, w64, ℕ, ◌%◌, ◌*◌, ◌++◌, ◌+◌, ◌-◌, ◌/◌, ◌<◌, ◌==◌, ◌>>=◌, ◌^◌, ◌∙◌, ◌∷◌, ◌≡◌, ◌≤◌}
-use Rattle.sd_claim.proofs.Lengths.{length_of_terminated, length_of_text}
-use Rattle.sd_claim.specs.Reading.{part_len, terminated_len, text_read, value_at, value_read}
+use Rattle.sd_claim.proofs.Cited.{AreUnits, IsValue, Layout, List, Option, Some, Value, [], and_parts, ap, arith, cast_unsigned, drop, drop_at, false, from_le_bytes, from_le_bytes-to_le_bytes_2, from_le_bytes-to_le_bytes_4, from_le_bytes-to_le_bytes_8, front_len, is_text, is_value, layout_of, le-ltb, length, length-append, nat_lt, not, not-true, number_len, octet_string, octet_string_len, refl, slice_range, sym, take, take_at, terminated, text_bytes, text_of_part, to_le_bytes, true, type_of, u32_at, w16, w32, w64, ℕ, ◌*◌, ◌++◌, ◌+◌, ◌-◌, ◌<◌, ◌==◌, ◌>>=◌, ◌^◌, ◌∙◌, ◌∷◌, ◌≡◌, ◌≤◌}
+use Rattle.sd_claim.proofs.Lengths.{length_of_terminated}
+use Rattle.sd_data.proofs.TextsComeBack.{after_part, signed_again, text_again}
+use Rattle.sd_data.proofs.Lengths.{length_of_text}
+use Rattle.sd_claim.specs.Reading.{part_len, terminated_len, value_at, value_read}
+use Rattle.sd_data.specs.Reading.{text_read}
 use Rattle.sd_claim.specs.Writing.{value_bytes}
 use Rattle.sd_claim.specs.declared.value.Value.TheVariants as values
 
 -- ---- texts
-
--- the j-th byte of the k-th unit
-unit_cell : (units : List ℕ) (k j : ℕ) → k < length units → j < 2 → get_or (text_bytes units) (2 * k + j) 0 ≡ get_or (to_le_bytes w16 (get_or units k 0)) j 0
-unit_cell units k j h lt =
-    let before : length (text_bytes (take k units)) ≡ 2 * k = length_of_text (take k units) ∙ ap (λ n. 2 * n) (length-take-le k units (omega arith)) in
-    ap (λ i. get_or (text_bytes units) (i + j) 0) (sym before) ∙ get_or-flat_map (to_le_bytes w16) units k j 0 0 h lt
-
-unit_again : (units : List ℕ) (k : ℕ) → All (λ unit. unit < 2 ^ 16) units → k < length units → u16_at (text_bytes units) (2 * k) ≡ get_or units k 0
-unit_again units k small h =
-    let first : get_or (text_bytes units) (2 * k) 0 ≡ get_or (to_le_bytes w16 (get_or units k 0)) 0 0 = ap (λ i. get_or (text_bytes units) i 0) (sym (add-zero (2 * k))) ∙ unit_cell units k 0 h (omega arith) in
-    rw (first, unit_cell units k 1 h (omega arith)) (from_le_bytes-to_le_bytes_2 (get_or units k 0) (All-get_or (λ unit. unit < 2 ^ 16) units k 0 h small))
-
-text_again : (units : List ℕ) → AreUnits units → text_read (text_bytes units) ≡ Some units
-unfolding text_read
-text_again units are =
-    let bytes = text_bytes units in
-    let small : All (λ unit. unit < 2 ^ 16) units = All-from_recursion (λ unit. unit < 2 ^ 16) units are in
-    let even : (length bytes % 2 == 0) ≡ true = eq-eqb _ _ (omega (arith, length_of_text units)) in
-    let half : length bytes / 2 ≡ length units = omega (arith, length_of_text units) in
-    let again : map (λ k. u16_at bytes (2 * k)) (range_with_len 0 (length units)) ≡ units =
-    sym (fill_by_all (λ k. u16_at bytes (2 * k)) units (length units) 0 refl (λ k h. sym (unit_again units k small h))) in
-    rw (even, half, again) refl
 
 pub part_text_again : (units : List ℕ) → AreUnits units → text_of_part (terminated units) ≡ Some units
 part_text_again units are =
@@ -58,12 +39,6 @@ pub text_len_again : (units rest : List ℕ) → AreUnits units → is_text unit
 text_len_again units rest are is = units_len units rest are is ∙ ap (λ n. Some n) (sym (length_of_terminated units))
 
 -- ---- parts
-
--- what follows a part
-after_part : (part rest : List ℕ) → after (length part) (part ++ rest) ≡ rest
-after_part part rest =
-    ap (take (length (part ++ rest) - length part)) (drop_at part rest (length part) refl)
-    ∙ take_all (length (part ++ rest) - length part) rest (omega (arith, length-append part rest))
 
 pub part_again : (layout : Layout) (front part rest : List ℕ) (room : ℕ) → front_len layout (part ++ rest) ≡ Some (length part) → length part ≤ room
     → part_len layout (front ++ (part ++ rest)) (length front) room ≡ Some (length part)
@@ -107,9 +82,7 @@ value_front (values.Octets octets) rest is sound small = octets_front octets res
 pub value_read_again : (v : Value) → IsValue v → value_read (type_of v) (value_bytes v) ≡ Some v
 unfolding value_read value_bytes
 value_read_again (values.Integer number) is =
-    let again : i64_at (to_le_bytes w64 (cast_unsigned w64 number)) 0 ≡ number =
-    ap (cast_signed w64) (from_le_bytes-to_le_bytes_8 (cast_unsigned w64 number) (Fits-lt-pow (Fits-of_z is))) ∙ to_z-of_z w64 number is in
-    ap (λ n. Some (values.Integer n)) again
+    ap (λ n. Some (values.Integer n)) (signed_again number is)
 value_read_again (values.Unsigned number) is = ap (λ n. Some (values.Unsigned n)) (from_le_bytes-to_le_bytes_8 number is)
 value_read_again (values.Text text) is = rw (part_text_again text is) refl
 value_read_again (values.Sid octets) is = ap (λ (o : List ℕ). Some (values.Sid o)) (after_part (to_le_bytes w32 (length octets)) octets)

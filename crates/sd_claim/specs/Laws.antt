@@ -2,19 +2,12 @@
 use Rattle.std.specs.Prelude.{◌≡◌, ℕ, ◌<◌, ◌≤◌, ◌^◌, true, List, length, Some, FitsSigned}
 use Rattle.std.specs.Int.{w64}
 use Rattle.std.specs.List.{AllByRecursion}
+use Rattle.sd_data.specs.Writing.{AreOctets, AreUnits}
 use Rattle.sd_claim.specs.Claim.{ClaimValue}
 use Rattle.sd_claim.specs.Reading.{claim_read}
 use Rattle.sd_claim.specs.Writing.{claim_data, claim_len, is_claim}
 use Rattle.sd_claim.specs.declared.value.Value.{Value}
 use Rattle.sd_claim.specs.declared.value.Value.TheVariants as values
-
--- UTF-16 units, of which each has 16 bits
-abbrev pub AreUnits : List ℕ → Type 0
-AreUnits units = AllByRecursion (λ unit. unit < 2 ^ 16) units
-
--- octets, of which each has 8 bits
-abbrev pub AreOctets : List ℕ → Type 0
-AreOctets octets = AllByRecursion (λ octet. octet < 2 ^ 8) octets
 
 -- what every value is: a number of 64 bits, units of 16, octets
 abbrev pub IsValue : Value → Type 0

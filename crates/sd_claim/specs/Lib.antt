@@ -1,4 +1,3 @@
-pub mod Outcome
 pub mod Claim
 pub mod Table
 pub mod Writing

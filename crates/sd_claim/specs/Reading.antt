@@ -1,13 +1,13 @@
 -- How a claim is parsed ([MS-DTYP] 2.4.10.1): the header, and at each offset the name or a value, wherever in the data
 -- it is. Parts that overlap are accepted, as long as all of them together take no more bytes than the data has after
 -- the header and the offsets: so what is parsed is never larger than the data.
-use Rattle.std.specs.Prelude.{ℕ, ℤ, ◌+◌, ◌*◌, ◌-◌, ◌/◌, ◌%◌, not, ◌==◌, nat_lt, List, [], ◌∷◌, length, map}
-use Rattle.std.specs.Prelude.{slice_index, slice_range, Option, Some, None, if◌then◌else◌}
-use Rattle.std.specs.Int.{w16, w64, from_le_bytes, cast_signed}
-use Rattle.std.specs.List.{range_with_len}
+use Rattle.std.specs.Prelude.{ℕ, ◌+◌, ◌-◌, not, ◌==◌, nat_lt, List, [], ◌∷◌, length, slice_range, Option, Some, None}
+use Rattle.std.specs.Prelude.{if◌then◌else◌}
+use Rattle.std.specs.Int.{w16, from_le_bytes}
 use Rattle.sd_sid.specs.SidBytes.{u32_at, u32s_at}
 use Rattle.sd_claim.specs.Claim.{ClaimValue, claim_value}
-use Rattle.sd_claim.specs.Outcome.{◌>>=◌}
+use Rattle.sd_data.specs.Outcome.{◌>>=◌}
+use Rattle.sd_data.specs.Reading.{after, i64_at, text_read, u16_at, u64_at}
 use Rattle.sd_claim.specs.Table.{layout_of, type_read}
 use Rattle.sd_claim.specs.Writing.{header_len, is_claim}
 use Rattle.sd_claim.specs.declared.value.Value.{Value}
@@ -17,33 +17,7 @@ use Rattle.sd_claim.specs.declared.value_type.Layout.TheVariants.{Number, Termin
 use Rattle.sd_claim.specs.declared.value_type.ValueType.{ValueType}
 use Rattle.sd_claim.specs.declared.value_type.ValueType.TheVariants.{Integer, Unsigned, Text, Sid, Boolean, Octets}
 
--- the bytes after so many
-abbrev pub after : ℕ → List ℕ → List ℕ
-after n bytes = slice_range bytes n (length bytes)
-
--- ---- numbers
-
--- the number in the two bytes at an offset, little-endian
-abbrev pub u16_at : List ℕ → ℕ → ℕ
-u16_at bytes o = from_le_bytes w16 (slice_index bytes o ∷ slice_index bytes (o + 1) ∷ [])
-
--- the number in the eight bytes at an offset, little-endian
-abbrev pub u64_at : List ℕ → ℕ → ℕ
-u64_at bytes o = from_le_bytes w64 (slice_index bytes o ∷ slice_index bytes (o + 1) ∷ slice_index bytes (o + 2)
-    ∷ slice_index bytes (o + 3) ∷ slice_index bytes (o + 4) ∷ slice_index bytes (o + 5) ∷ slice_index bytes (o + 6)
-    ∷ slice_index bytes (o + 7) ∷ [])
-
--- the signed number there
-abbrev pub i64_at : List ℕ → ℕ → ℤ
-i64_at bytes o = cast_signed w64 (u64_at bytes o)
-
 -- ---- parts
-
--- UTF-16 units: all of the bytes, two for each
-unfoldable pub text_read : List ℕ → Option (List ℕ)
-text_read bytes =
-    if length bytes % 2 == 0 then Some (map (λ k. u16_at bytes (2 * k)) (range_with_len 0 (length bytes / 2)))
-    else None
 
 -- how many bytes a text takes at the front of the bytes, with the zero unit that ends it
 unfoldable pub terminated_len : List ℕ → Option ℕ

@@ -1,9 +1,10 @@
 -- The one written form of a claim ([MS-DTYP] 2.4.10.1): the header, the offsets of the values, the name, the values,
 -- without gaps, and zero bytes up to the next multiple of four.
-use Rattle.std.specs.Prelude.{ℕ, ◌+◌, ◌*◌, ◌-◌, ◌%◌, Bool, true, not, ◌&&◌, ◌==◌, nat_le, List, [], ◌∷◌, ◌++◌, length}
+use Rattle.std.specs.Prelude.{ℕ, ◌+◌, ◌*◌, Bool, true, not, ◌&&◌, ◌==◌, nat_le, List, [], ◌∷◌, ◌++◌, length}
 use Rattle.std.specs.Prelude.{replicate}
 use Rattle.std.specs.Int.{w16, w32, w64, cast_unsigned, to_le_bytes}
 use Rattle.std.specs.List.{flat_map, list_all}
+use Rattle.sd_data.specs.Writing.{padding_len, text_bytes}
 use Rattle.sd_claim.specs.Claim.{ClaimValue}
 use Rattle.sd_claim.specs.Table.{same_type, type_number, type_of}
 use Rattle.sd_claim.specs.declared.value.Value.{Value}
@@ -11,10 +12,6 @@ use Rattle.sd_claim.specs.declared.value.Value.TheVariants as values
 use Rattle.sd_claim.specs.declared.value_type.ValueType.{ValueType}
 
 -- ---- values
-
--- UTF-16 units, little-endian
-abbrev pub text_bytes : List ℕ → List ℕ
-text_bytes units = flat_map (to_le_bytes w16) units
 
 -- a text, and the zero unit that ends it
 abbrev pub terminated : List ℕ → List ℕ
@@ -60,10 +57,6 @@ claim_bytes c = header_bytes c ++ (flat_map (to_le_bytes w32) (offsets_from (val
 -- how many bytes these are
 abbrev pub claim_len : List ℕ → List Value → ℕ
 claim_len name vs = header_len (length vs) + length (terminated name) + length (flat_map value_bytes vs)
-
--- how many zero bytes follow so many bytes of a claim
-abbrev pub padding_len : ℕ → ℕ
-padding_len n = (4 - n % 4) % 4
 
 -- the claim, and the padding
 unfoldable pub claim_data : ClaimValue → List ℕ

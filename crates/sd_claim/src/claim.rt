@@ -6,22 +6,22 @@ ghost use Rattle.std.specs.Int.{w16, w32, to_le_bytes};
 ghost use Rattle.sd_sid.specs.SidBytes.{u32_at};
 ghost use Rattle.sd_claim.specs.Claim.{claim_value};
 ghost use Rattle.sd_claim.specs.Memory.{HasName, TakesMemory};
-ghost use Rattle.sd_claim.specs.Outcome.{Gives};
+ghost use Rattle.sd_data.specs.Outcome.{Gives};
 ghost use Rattle.sd_claim.specs.Reading.{claim_of, claim_read, header_read, name_read, room_of};
 ghost use Rattle.sd_claim.specs.Table.{type_number};
 ghost use Rattle.sd_claim.specs.Writing.{claim_bytes, claim_data, claim_len, header_bytes, header_len};
-ghost use Rattle.sd_claim.specs.Writing.{is_claim, padding_len};
-ghost use Rattle.sd_claim.specs.declared.refusal.Refusal.TheVariants.{Memory};
+ghost use Rattle.sd_claim.specs.Writing.{is_claim};
+ghost use Rattle.sd_data.specs.Writing.{padding_len};
+ghost use Rattle.sd_data.specs.declared.refusal.Refusal.TheVariants.{Memory};
 
-use crate::number::{read_u16, read_u32};
 use crate::part::read_part_len;
-use crate::refusal::Refusal;
-use crate::text::{Utf16, is_text, push_terminated, read_text_part, terminated_len};
+use crate::text::{is_text, push_terminated, read_text_part, terminated_len};
 use crate::value::Value;
 use crate::value_type::{Layout, ValueType};
 use crate::values::{
     HEADER_BYTES, OFFSET_BYTES, are_values_of, push_offsets, push_values, read_values, values_len,
 };
+use sd_data::{Refusal, Utf16, padding_len, push_padding, push_u16, push_u32, read_u16, read_u32};
 use std::alloc::{AllocError, Global};
 use std::marker::Model;
 
@@ -159,13 +159,6 @@ fn claim_len(name: &Utf16, values: &[Value]) -> Option<usize>
     before.checked_add(values_len(values)?)
 }
 
-/// How many zero bytes follow so many bytes of a claim.
-fn padding_len(len: usize) -> usize
-    ensures { result ≡ padding_len len }
-{
-    (4 - len % 4) % 4
-}
-
 /// The claim of an entry's application data ([MS-DTYP] 2.4.10.1); `None` if the data is none: an offset or a length
 /// leads past the end, no zero ends a text, the type is unknown, Reserved isn't zero, or the name and the values take
 /// more bytes than the data has for them, which they can where they overlap. So what is copied is never larger than the
@@ -257,31 +250,5 @@ fn push_header(bytes: &mut Vec<u8>, claim: &Claim) -> Result<(), AllocError>
     push_u16(bytes, 0)?;
     push_u32(bytes, claim.flags())?;
     push_u32(bytes, count as u32)?;
-    Ok(())
-}
-
-/// Appends a number in two bytes.
-fn push_u16(bytes: &mut Vec<u8>, number: u16) -> Result<(), AllocError>
-    ensures { OnOk result (bytes.new.items ≡ bytes.old.items ++ to_le_bytes w16 number) }
-{
-    bytes.extend_from_slice(&number.to_le_bytes())?;
-    Ok(())
-}
-
-/// Appends a number in four bytes.
-fn push_u32(bytes: &mut Vec<u8>, number: u32) -> Result<(), AllocError>
-    ensures { OnOk result (bytes.new.items ≡ bytes.old.items ++ to_le_bytes w32 number) }
-{
-    bytes.extend_from_slice(&number.to_le_bytes())?;
-    Ok(())
-}
-
-/// Appends zero bytes.
-fn push_padding(bytes: &mut Vec<u8>, len: usize) -> Result<(), AllocError>
-    ensures { OnOk result (bytes.new.items ≡ bytes.old.items ++ replicate len 0) }
-{
-    for _ in 0..len {
-        bytes.push(0)?;
-    }
     Ok(())
 }

@@ -11,9 +11,7 @@
 
 mod claim;
 mod laws;
-mod number;
 mod part;
-mod refusal;
 mod text;
 mod value;
 mod value_type;
@@ -21,6 +19,5 @@ mod values;
 
 pub use claim::{Claim, MAX_CLAIM_BYTES, read_claim};
 pub use laws::{claims_come_back, claims_fit_their_data, worked_claims_are_written};
-pub use text::{Octets, Utf16};
 pub use value::Value;
 pub use value_type::ValueType;

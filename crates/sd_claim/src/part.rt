@@ -1,15 +1,14 @@
 //! Parts of a claim: how many bytes the name or a value takes, at an offset into the data.
 
 ghost use Rattle.std.specs.Prelude.{◌≡◌, ◌+◌, ◌≤◌, length, IfOk, IsErrOf};
-ghost use Rattle.sd_claim.specs.Outcome.{Gives};
+ghost use Rattle.sd_data.specs.Outcome.{Gives};
 ghost use Rattle.sd_claim.specs.Reading.{front_len, number_len, octet_string_len, part_len, terminated_len};
 ghost use Rattle.sd_claim.specs.Table.{least_len};
-ghost use Rattle.sd_claim.specs.declared.refusal.Refusal.TheVariants.{Memory};
+ghost use Rattle.sd_data.specs.declared.refusal.Refusal.TheVariants.{Memory};
 
-use crate::number::{read_u16, read_u32};
-use crate::refusal::Refusal;
 use crate::text::TERMINATOR_BYTES;
 use crate::value_type::Layout;
+use sd_data::{Refusal, read_u16, read_u32};
 
 /// The length of a number ([MS-DTYP] 2.4.10.1).
 pub(crate) const NUMBER_BYTES: usize = 8;

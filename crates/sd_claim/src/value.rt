@@ -2,16 +2,18 @@
 
 ghost use Rattle.std.specs.Prelude.{◌≡◌, ◌+◌, ◌^◌, ◌<◌, ◌≤◌, ◌++◌, length, IfOk, OnOk};
 ghost use Rattle.std.specs.Int.{w64, cast_unsigned, to_le_bytes};
-ghost use Rattle.sd_claim.specs.Outcome.{Gives};
-ghost use Rattle.sd_claim.specs.Reading.{after, value_at, value_read};
+ghost use Rattle.sd_data.specs.Outcome.{Gives};
+ghost use Rattle.sd_claim.specs.Reading.{value_at, value_read};
+ghost use Rattle.sd_data.specs.Reading.{after};
 ghost use Rattle.sd_claim.specs.Table.{layout_of, least_len, type_of};
 ghost use Rattle.sd_claim.specs.Writing.{is_value, is_value_of, octet_string, value_bytes};
 
-use crate::number::{read_i64, read_u64};
 use crate::part::{LENGTH_BYTES, NUMBER_BYTES, read_part_len};
-use crate::refusal::Refusal;
-use crate::text::{Octets, Utf16, is_text, push_terminated, read_text_part, terminated_len};
+use crate::text::{is_text, push_terminated, read_text_part, terminated_len};
 use crate::value_type::ValueType;
+use sd_data::{
+    Octets, Refusal, Utf16, push_i64, push_u32, push_u64, read_i64, read_octets, read_u64,
+};
 use std::alloc::{AllocError, Global};
 
 /// A value of a claim ([MS-DTYP] 2.4.10.1).
@@ -92,23 +94,14 @@ fn read_value(alloc: Global, value_type: ValueType, part: &[u8]) -> Result<Value
             Ok(Value::Text(text))
         }
         ValueType::Sid => {
-            let octets = read_octets(alloc, part)?;
+            let octets = read_octets(alloc, &part[LENGTH_BYTES..])?;
             Ok(Value::Sid(octets))
         }
         ValueType::Octets => {
-            let octets = read_octets(alloc, part)?;
+            let octets = read_octets(alloc, &part[LENGTH_BYTES..])?;
             Ok(Value::Octets(octets))
         }
     }
-}
-
-/// The octets of a part, after their length.
-fn read_octets(alloc: Global, part: &[u8]) -> Result<Octets, AllocError>
-    requires { 4 ≤ length part.now }
-    ensures { IfOk result (λ octets. octets ≡ after 4 part.now) }
-{
-    let octets = Vec::from_slice(alloc, &part[LENGTH_BYTES..])?;
-    Ok(Octets::new(octets))
 }
 
 /// How many bytes a value takes.
@@ -140,29 +133,12 @@ pub(crate) fn push_value(bytes: &mut Vec<u8>, value: &Value) -> Result<(), Alloc
     }
 }
 
-/// Appends a signed number, little-endian.
-fn push_i64(bytes: &mut Vec<u8>, number: i64) -> Result<(), AllocError>
-    ensures { OnOk result (bytes.new.items ≡ bytes.old.items ++ to_le_bytes w64 (cast_unsigned w64 number)) }
-{
-    bytes.extend_from_slice(&number.to_le_bytes())?;
-    Ok(())
-}
-
-/// Appends a number, little-endian.
-fn push_u64(bytes: &mut Vec<u8>, number: u64) -> Result<(), AllocError>
-    ensures { OnOk result (bytes.new.items ≡ bytes.old.items ++ to_le_bytes w64 number) }
-{
-    bytes.extend_from_slice(&number.to_le_bytes())?;
-    Ok(())
-}
-
 /// Appends octets, after their length.
 fn push_octet_string(bytes: &mut Vec<u8>, octets: &Octets) -> Result<(), AllocError>
     requires { length (octet_string octets.now) ≤ 65535 }
     ensures { OnOk result (bytes.new.items ≡ bytes.old.items ++ octet_string octets.now) }
 {
     let octets = octets.octets();
-    bytes.extend_from_slice(&(octets.len() as u32).to_le_bytes())?;
-    bytes.extend_from_slice(octets)?;
-    Ok(())
+    push_u32(bytes, octets.len() as u32)?;
+    bytes.extend_from_slice(octets)
 }

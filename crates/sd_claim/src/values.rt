@@ -4,14 +4,13 @@ ghost use Rattle.std.specs.Prelude.{◌≡◌, ◌+◌, ◌^◌, ◌<◌, ◌≤
 ghost use Rattle.std.specs.Int.{w32, to_le_bytes};
 ghost use Rattle.std.specs.List.{flat_map, list_all};
 ghost use Rattle.sd_sid.specs.SidBytes.{u32s_at};
-ghost use Rattle.sd_claim.specs.Outcome.{Fails};
+ghost use Rattle.sd_data.specs.Outcome.{Fails};
 ghost use Rattle.sd_claim.specs.Reading.{values_read};
 ghost use Rattle.sd_claim.specs.Writing.{header_len, is_value_of, offsets_from, value_bytes};
 
-use crate::number::read_u32;
-use crate::refusal::Refusal;
 use crate::value::{Value, is_value_of, push_value, read_value_at, value_len};
 use crate::value_type::ValueType;
+use sd_data::{Refusal, push_u32, read_u32};
 use std::alloc::{AllocError, Global};
 
 /// The length of a claim's header, before the offsets of its values ([MS-DTYP] 2.4.10.1).
@@ -80,7 +79,7 @@ pub(crate) fn push_offsets(
 {
     let mut place = first;
     for value in values {
-        bytes.extend_from_slice(&(place as u32).to_le_bytes())?;
+        push_u32(bytes, place as u32)?;
         place += value_len(value);
     }
     Ok(())

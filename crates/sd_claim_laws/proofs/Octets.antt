@@ -7,7 +7,7 @@ use Rattle.std.proofs.lemmas.Bool.{ltb-true}
 use Rattle.std.proofs.lemmas.Bool.Decides.{nat_tests}
 use Rattle.hex.proofs.HexLemmas.{decode_of-encode_upper}
 use Rattle.hex.specs.Hex.{decode_pairs, encode_upper, encode_with, upper_digits}
-use Rattle.sd_claim.specs.Laws.{AreOctets}
+use Rattle.sd_data.specs.Writing.{AreOctets}
 use Rattle.sd_text.proofs.Runs.{run_begins, run_behind, run_digits}
 use Rattle.sd_text.specs.Grammar.{Run, begins, begins_digit}
 use Rattle.sd_claim_text.specs.Value.{octets_found, octets_text}

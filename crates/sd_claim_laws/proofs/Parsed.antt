@@ -5,11 +5,13 @@ use Rattle.std.proofs.Math.Facts.{Fits-of_lt, sfits_to_z}
 use Rattle.std.specs.Prelude.{map, slice_range, ◌==◌}
 use Rattle.std.specs.Int.{from_le_bytes, w64}
 use Rattle.std.specs.List.{AllByRecursion, range_with_len}
-use Rattle.sd_claim.proofs.Found.{bound, held, some_is}
+use Rattle.sd_data.proofs.Found.{bound, held, some_is}
 use Rattle.sd_claim.specs.Claim.{ClaimValue, claim_value}
-use Rattle.sd_claim.specs.Laws.{AreOctets, AreUnits, IsClaim, IsValue}
-use Rattle.sd_claim.specs.Outcome.{◌>>=◌}
-use Rattle.sd_claim.specs.Reading.{after, claim_of, claim_read, header_read, i64_at, name_read, part_len, room_of, text_of_part, text_read, u16_at, u64_at, value_at, value_read, values_read}
+use Rattle.sd_claim.specs.Laws.{IsClaim, IsValue}
+use Rattle.sd_data.specs.Writing.{AreOctets, AreUnits}
+use Rattle.sd_data.specs.Outcome.{◌>>=◌}
+use Rattle.sd_claim.specs.Reading.{claim_of, claim_read, header_read, name_read, part_len, room_of, text_of_part, value_at, value_read, values_read}
+use Rattle.sd_data.specs.Reading.{after, i64_at, text_read, u16_at, u64_at}
 use Rattle.sd_claim.specs.Table.{layout_of}
 use Rattle.sd_claim.specs.Writing.{is_claim}
 use Rattle.sd_claim.specs.declared.value.Value.{Value}

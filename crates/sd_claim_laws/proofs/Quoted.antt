@@ -10,7 +10,7 @@ use Rattle.std.proofs.lemmas.List.{get_or-append-add, get_or_append_left, length
 use Rattle.sd_text.proofs.Parts.{chosen}
 use Rattle.std.proofs.lemmas.List.Sums.{position_or_len_is}
 use Rattle.std.proofs.lemmas.Str.{NoCharPasses-byte, chars-encodes, is_utf8-from_IsUtf8}
-use Rattle.sd_claim.specs.Laws.{AreUnits}
+use Rattle.sd_data.specs.Writing.{AreUnits}
 use Rattle.sd_condition_text.specs.Value.{is_unquotable}
 use Rattle.sd_claim_text.specs.Utf16.{utf16_found}
 use Rattle.sd_claim_text.specs.Value.{ends_text, quoted_found, quoted_text}

@@ -15,7 +15,8 @@ use Rattle.std.proofs.lemmas.Fmt.{decimal_is_IsNumeral}
 use Rattle.std.proofs.lemmas.List.{length-append}
 use Rattle.hex.specs.Hex.{encode_with, upper_digits}
 use Rattle.std.specs.Prelude.{slice_index}
-use Rattle.sd_claim.specs.Laws.{AreOctets, IsValue}
+use Rattle.sd_claim.specs.Laws.{IsValue}
+use Rattle.sd_data.specs.Writing.{AreOctets}
 use Rattle.sd_claim.specs.Table.{same_type, type_number, type_of, type_read}
 use Rattle.sd_claim.specs.Writing.{is_value, is_value_of}
 use Rattle.sd_claim.specs.declared.value.Value.{Value}

@@ -8,7 +8,7 @@ use Rattle.std.specs.Char.{digit_char, eq_ignore_ascii_case}
 use Rattle.std.specs.Char.Escape.{hex_digit_at}
 use Rattle.std.specs.List.{flat_map}
 use Rattle.std.specs.Prelude.{Bool, not, ◌==◌}
-use Rattle.sd_claim.specs.Laws.{AreUnits}
+use Rattle.sd_data.specs.Writing.{AreUnits}
 use Rattle.sd_claim.specs.Writing.{is_text}
 use Rattle.sd_text.proofs.Parts.{found, went}
 use Rattle.sd_claim_text.specs.Name.{escaped_unit, hex_digit, is_literal, is_name, is_within, name_found, name_text, part_found, unit_text}

@@ -1,6 +1,6 @@
 -- The laws of a claim's text.
 use Rattle.std.specs.Prelude.{◌≡◌, ℕ, true, List, ◌++◌, Some, Ok}
-use Rattle.sd_claim.specs.Laws.{AreUnits}
+use Rattle.sd_data.specs.Writing.{AreUnits}
 use Rattle.sd_claim.specs.Writing.{is_text}
 use Rattle.sd_claim_text.specs.Name.{name_found, name_text}
 

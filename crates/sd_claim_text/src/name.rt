@@ -14,7 +14,7 @@ ghost use Rattle.sd_claim_text.specs.Parser.{mapped};
 
 use crate::error::ClaimError;
 use crate::utf16::parse_utf16;
-use sd_claim::Utf16;
+use sd_data::Utf16;
 use sd_text::{Cursor, TextFault};
 use std::alloc::{AllocError, Global};
 

@@ -7,7 +7,7 @@ ghost use Rattle.sd_claim_text.specs.Value.{octets_found, octets_text, pairs_fou
 use crate::error::ClaimError;
 use crate::number::digits_of;
 use hex::FromHexError;
-use sd_claim::Octets;
+use sd_data::Octets;
 use sd_text::{Cursor, TextFault};
 use std::alloc::{AllocError, Global};
 

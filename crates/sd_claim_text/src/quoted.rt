@@ -8,8 +8,8 @@ ghost use Rattle.sd_claim_text.specs.Value.{ends_text, quoted_found, quoted_text
 
 use crate::error::ClaimError;
 use crate::utf16::parse_utf16;
-use sd_claim::Utf16;
 use sd_condition_text::has_unquotable;
+use sd_data::Utf16;
 use sd_text::Cursor;
 use std::alloc::{AllocError, Global};
 

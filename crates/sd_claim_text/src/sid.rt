@@ -8,7 +8,7 @@ ghost use Rattle.sd_claim_text.specs.Outcome.{GivesOrMemory};
 ghost use Rattle.sd_claim_text.specs.Value.{full_sid_found, sid_of};
 
 use crate::error::ClaimError;
-use sd_claim::Octets;
+use sd_data::Octets;
 use sd_sid::Sid;
 use sd_text::{Aliases, Cursor, print_full_sid, write_sid};
 use std::alloc::{AllocError, Global};

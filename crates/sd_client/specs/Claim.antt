@@ -5,7 +5,7 @@ use Rattle.std.specs.List.{after_first, before_first, list_any}
 use Rattle.sd_sid.specs.SidBytes.{bytes_of_sid}
 use Rattle.sd_text.specs.declared.alias.Aliases.{Aliases}
 use Rattle.sd_claim.specs.Claim.{ClaimValue, claim_value}
-use Rattle.sd_claim.specs.Outcome.{◌>>=◌}
+use Rattle.sd_data.specs.Outcome.{◌>>=◌}
 use Rattle.sd_claim.specs.Reading.{claim_of}
 use Rattle.sd_claim.specs.Table.{type_of}
 use Rattle.sd_claim.specs.declared.value.Value.{Value as InClaim}

@@ -7,9 +7,10 @@ ghost use Rattle.sd_client.specs.Whole.{all_of};
 ghost use Rattle.sd_condition_parse.specs.Condition.{condition_found};
 
 use crate::word::Holder;
-use sd_claim::{Claim, Octets, Utf16, Value as InClaim};
+use sd_claim::{Claim, Value as InClaim};
 use sd_condition::{Attribute, Condition, Operator, Scope, Token, Value};
 use sd_condition_parse::{ConditionError, parse_condition};
+use sd_data::{Octets, Utf16};
 use sd_sid::sid_bytes;
 use sd_text::{Aliases, Cursor};
 use std::alloc::{AllocError, Global};

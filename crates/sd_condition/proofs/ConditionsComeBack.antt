@@ -1,36 +1,15 @@
 -- What is written is parsed again, whatever follows it.
-use Rattle.sd_condition.proofs.Cited.{All, All-from_recursion, All-get_or, AllByRecursion, AreTokens, AreUnits, Attribute, ConditionsComeBack, Device, Fits-lt-pow, Fits-of_z, FitsSigned, Int16, Int32, Int64, Int8, Integer, IsSid, IsToken, IsValue, List, Local, None, Ok, Operator, Resource, Scope, SidValue, Some, Token, User, Value, Width, [], add-zero, after, ap, append-nil, append_assoc, arith, attribute_read, bytes_of_sid, cast_signed, cast_unsigned, cond, drop_at, eq-eqb, false, fill_by_all, flat_map, from_le_bytes-to_le_bytes_2, from_le_bytes-to_le_bytes_4, from_le_bytes-to_le_bytes_8, get_or, get_or-flat_map, i64_at, integer_bytes, is_condition, is_padding, le-ltb, length, length-append, length-replicate, length-take-le, list_read, map, nat_le, nat_lt, ne_eqb, operator_byte, padded_read, padding_len, range_with_len, refl, replicate, scope_byte, sid_read, sid_reading, sids_come_back, slice_range, suc, sym, take, take_all, take_at, text_bytes, to_le_bytes, to_z-of_z, true, u16_at, u32_at, w16, w64, whole_sid, width_byte, with_content, zero, ℕ, ◌%◌, ◌*◌, ◌++◌, ◌+◌, ◌-◌, ◌/◌, ◌<◌, ◌==◌, ◌^◌, ◌∙◌, ◌∷◌, ◌≡◌, ◌≤◌}
-use Rattle.sd_condition.proofs.Lengths.{length_of_data, length_of_text, tokens_fit}
+use Rattle.sd_condition.proofs.Cited.{AllByRecursion, AreTokens, AreUnits, Attribute, ConditionsComeBack, Device, FitsSigned, Int16, Int32, Int64, Int8, Integer, IsSid, IsToken, IsValue, List, Local, None, Ok, Operator, Resource, Scope, SidValue, Some, Token, User, Value, Width, [], after, ap, append-nil, append_assoc, arith, attribute_read, bytes_of_sid, cond, eq-eqb, false, flat_map, from_le_bytes-to_le_bytes_4, get_or, i64_at, integer_bytes, is_condition, is_padding, le-ltb, length, length-append, length-replicate, list_read, nat_le, nat_lt, ne_eqb, operator_byte, padded_read, padding_len, refl, replicate, scope_byte, sid_read, sid_reading, sids_come_back, slice_range, suc, sym, take, take_at, text_bytes, true, u32_at, w64, whole_sid, width_byte, with_content, zero, ℕ, ◌%◌, ◌++◌, ◌+◌, ◌-◌, ◌<◌, ◌==◌, ◌^◌, ◌∙◌, ◌∷◌, ◌≡◌, ◌≤◌}
+use Rattle.sd_condition.proofs.Lengths.{length_of_data, tokens_fit}
+use Rattle.sd_data.proofs.TextsComeBack.{after_part, signed_again, text_again}
 use Rattle.sd_condition.proofs.Tables.{base_again, operator_again, scope_again, sign_again, width_again}
-use Rattle.sd_condition.specs.Reading.{condition_read, content_len, integer_read, literal_read, text_read, token_read, tokens_read, value_read, values_read}
+use Rattle.sd_condition.specs.Reading.{condition_read, content_len, integer_read, literal_read, token_read, tokens_read, value_read, values_read}
 use Rattle.sd_condition.specs.Writing.{condition_data, token_bytes, value_bytes}
 use Rattle.sd_condition.specs.declared.operator.Operator.TheVariants as operators
 use Rattle.sd_condition.specs.declared.token.Token.TheVariants as tokens
 use Rattle.sd_condition.specs.declared.value.Value.TheVariants as values
 
 -- ---- contents
-
--- the j-th byte of the k-th unit
-unit_cell : (units : List ℕ) (k j : ℕ) → k < length units → j < 2 → get_or (text_bytes units) (2 * k + j) 0 ≡ get_or (to_le_bytes w16 (get_or units k 0)) j 0
-unit_cell units k j h lt =
-    let before : length (text_bytes (take k units)) ≡ 2 * k = length_of_text (take k units) ∙ ap (λ n. 2 * n) (length-take-le k units (omega arith)) in
-    ap (λ i. get_or (text_bytes units) (i + j) 0) (sym before) ∙ get_or-flat_map (to_le_bytes w16) units k j 0 0 h lt
-
-unit_again : (units : List ℕ) (k : ℕ) → All (λ unit. unit < 2 ^ 16) units → k < length units → u16_at (text_bytes units) (2 * k) ≡ get_or units k 0
-unit_again units k small h =
-    let first : get_or (text_bytes units) (2 * k) 0 ≡ get_or (to_le_bytes w16 (get_or units k 0)) 0 0 = ap (λ i. get_or (text_bytes units) i 0) (sym (add-zero (2 * k))) ∙ unit_cell units k 0 h (omega arith) in
-    rw (first, unit_cell units k 1 h (omega arith)) (from_le_bytes-to_le_bytes_2 (get_or units k 0) (All-get_or (λ unit. unit < 2 ^ 16) units k 0 h small))
-
-text_again : (units : List ℕ) → AreUnits units → text_read (text_bytes units) ≡ Some units
-unfolding text_read
-text_again units are =
-    let bytes = text_bytes units in
-    let small : All (λ unit. unit < 2 ^ 16) units = All-from_recursion (λ unit. unit < 2 ^ 16) units are in
-    let even : (length bytes % 2 == 0) ≡ true = eq-eqb _ _ (omega (arith, length_of_text units)) in
-    let half : length bytes / 2 ≡ length units = omega (arith, length_of_text units) in
-    let again : map (λ k. u16_at bytes (2 * k)) (range_with_len 0 (length units)) ≡ units =
-    sym (fill_by_all (λ k. u16_at bytes (2 * k)) units (length units) 0 refl (λ k h. sym (unit_again units k small h))) in
-    rw (even, half, again) refl
 
 sid_again : (s : SidValue) → IsSid s → sid_read (bytes_of_sid s) ≡ Some s
 sid_again s sound =
@@ -65,7 +44,7 @@ unfolding integer_read
 integer_again i rest fits =
     let bytes = integer_bytes i ++ rest in
     let long : nat_lt (length bytes) 11 ≡ false = le-ltb _ _ (omega arith) in
-    let value : i64_at bytes 1 ≡ i.value = ap (cast_signed w64) (from_le_bytes-to_le_bytes_8 (cast_unsigned w64 i.value) (Fits-lt-pow (Fits-of_z fits))) ∙ to_z-of_z w64 i.value fits in
+    let value : i64_at bytes 1 ≡ i.value = signed_again i.value fits in
     rw (long, width_again i.width, sign_again i.sign, base_again i.base, value) refl
 
 -- the first byte of a value, which is below those of other tokens
@@ -129,12 +108,6 @@ value_again (values.Sid sid) rest is small =
     ∙ ap (λ n. Some (values.Sid sid, n)) (omega arith)
 
 -- ---- lists
-
--- what follows a part
-pub after_part : (part rest : List ℕ) → after (length part) (part ++ rest) ≡ rest
-after_part part rest =
-    ap (take (length (part ++ rest) - length part)) (drop_at part rest (length part) refl)
-    ∙ take_all (length (part ++ rest) - length part) rest (omega (arith, length-append part rest))
 
 value_next : (most : ℕ) (bytes : List ℕ) (v : Value) (n : ℕ) (others : List Value) → (length bytes == 0) ≡ false → value_read bytes ≡ Some (v, n)
     → values_read most (after n bytes) ≡ Some others → values_read (suc most) bytes ≡ Some (v ∷ others)

@@ -1,8 +1,9 @@
 -- What is parsed is written again: the token at the front of the bytes is those bytes.
 use Rattle.sd_condition.proofs.Cited.{Attribute, Base, DataComesBack, Err, Integer, List, None, Ok, Operator, Option, Result, Scope, SidError, SidValue, Sign, Some, Token, Value, Width, [], add-zero, after, and_parts, ap, append_assoc, arith, attribute_read, base_byte, base_read, bases, bytes_of_sid, cast_signed, cast_unsigned, cells, cells_fit, cond, condition_of, drop, drop-drop, eqb-true, flat_map, from_le_bytes, get_or, i64_at, inl, inr, integer_bytes, is_condition, is_padding, le_bytes_2, le_bytes_4, le_bytes_8, leb-true, length, length-append, length-drop, length-replicate, length-take-le, list_all, list_read, ltb-false, ltb-true, map, nat_le, nat_lt, not, not-false, of_z-to_z, operator_byte, operator_read, operators, padded_read, padding_len, range_with_len, refl, replicate, scope_byte, scope_read, scopes, sid_read, sid_reading, sids_stand, sign_byte, sign_read, signs, slice_range, subst, suc, sym, take, take-add, take-append-drop, take_all, text_bytes, to_le_bytes, true, u16_at, u32_at, w16, w32, w64, whole_sid, width_byte, width_read, widths, with_content, zero, ℕ, ◌%◌, ◌*◌, ◌++◌, ◌+◌, ◌-◌, ◌/◌, ◌<◌, ◌==◌, ◌>>=◌, ◌^◌, ◌∙◌, ◌∷◌, ◌≡◌, ◌≤◌}
-use Rattle.sd_condition.proofs.Found.{bound, chosen, held, passed, some_is}
+use Rattle.sd_data.proofs.Found.{bound, chosen, held, passed, some_is}
 use Rattle.sd_condition.proofs.Tables.{byte_of_read}
-use Rattle.sd_condition.specs.Reading.{condition_read, content_len, tokens_read, token_read, values_read, integer_read, literal_read, text_read, value_read}
+use Rattle.sd_condition.specs.Reading.{condition_read, content_len, tokens_read, token_read, values_read, integer_read, literal_read, value_read}
+use Rattle.sd_data.specs.Reading.{text_read}
 use Rattle.sd_condition.specs.Writing.{condition_data, token_bytes, value_bytes}
 use Rattle.sd_condition.specs.declared.token.Token.TheVariants as tokens
 use Rattle.sd_condition.specs.declared.value.Value.TheVariants as values

@@ -1,7 +1,6 @@
 pub mod Cited
 pub mod Loop
 pub mod Lengths
-pub mod Found
 pub mod Tables
 pub mod DataComesBack
 pub mod ConditionsComeBack

@@ -1,19 +1,7 @@
 -- What is read one after the other, as a loop does: the values of a list, then the tokens of a condition.
-use Rattle.sd_condition.proofs.Cited.{Err, Gives, List, Malformed, Memory, None, Option, Refusal, Some, Token, Value, [], after, ap, append-nil, append_assoc, arith, cond, drop, false, is_padding, length, length-drop, length-take, ne_eqb, padded_read, refl, slice_index, subst, suc, sym, token_read, true, value_read, zero, ℕ, ◌++◌, ◌-◌, ◌<◌, ◌==◌, ◌>>=◌, ◌∙◌, ◌∷◌, ◌≡◌, ◌≤◌}
+use Rattle.sd_condition.proofs.Cited.{List, None, Some, Token, Value, [], after, ap, append-nil, arith, cond, drop, false, is_padding, length, length-drop, length-take, ne_eqb, padded_read, refl, slice_index, subst, suc, sym, token_read, true, value_read, zero, ℕ, ◌++◌, ◌-◌, ◌<◌, ◌==◌, ◌>>=◌, ◌∙◌, ◌∷◌, ◌≡◌, ◌≤◌}
+use Rattle.sd_data.proofs.Loop.{regroup, with_front}
 use Rattle.sd_condition.specs.Reading.{tokens_read, values_read}
-
--- those that were read before, and those that are still read
-abbrev pub with_front : {A : Type 0} → List A → Option (List A) → Option (List A)
-with_front front read = read >>= λ others. Some (front ++ others)
-
-regroup : {A : Type 0} (front : List A) (x : A) (read : Option (List A)) → with_front front (read >>= λ others. Some (x ∷ others)) ≡ with_front (front ++ x ∷ []) read
-regroup front x None = refl
-regroup {A} front x (Some others) = ap (λ (l : List A). Some l) (sym (append_assoc front (x ∷ []) others))
-
--- where a part is refused, so is the whole
-pub refused : {A B : Type 0} (e : Refusal) (part : Option A) (whole : Option B) → Gives (Err e) part → (part ≡ None → whole ≡ None) → Gives (Err e) whole
-refused Memory part whole given none = tt
-refused Malformed part whole given none = none given
 
 -- what is left after a part that isn't empty is shorter
 pub shorter : (size : ℕ) (rest : List ℕ) (m : ℕ) → 0 < size → size ≤ length rest → length rest ≤ suc m → length (after size rest) ≤ m

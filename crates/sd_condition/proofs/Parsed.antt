@@ -4,8 +4,9 @@ use Rattle.sd_sid.proofs.Outcomes.{passed as sid_passed}
 use Rattle.sd_sid.specs.SidBytes.{sid_reading}
 use Rattle.sd_sid.specs.declared.sid.SidError.TheVariants as sid_errors
 use Rattle.sd_condition.proofs.DataComesBack.{IsBytes, after_fits, condition_is, sid_found}
-use Rattle.sd_condition.proofs.Found.{bound, chosen, held, passed, some_is}
-use Rattle.sd_condition.specs.Reading.{condition_read, integer_read, literal_read, text_read, token_read, tokens_read, value_read, values_read}
+use Rattle.sd_data.proofs.Found.{bound, chosen, held, passed, some_is}
+use Rattle.sd_condition.specs.Reading.{condition_read, integer_read, literal_read, token_read, tokens_read, value_read, values_read}
+use Rattle.sd_data.specs.Reading.{text_read}
 use Rattle.sd_condition.specs.declared.token.Token.TheVariants as tokens
 use Rattle.sd_condition.specs.declared.value.Value.TheVariants as values
 

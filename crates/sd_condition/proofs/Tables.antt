@@ -1,6 +1,6 @@
 -- A byte is read as what it stands for.
 use Rattle.sd_condition.proofs.Cited.{Base, Decimal, Device, Hexadecimal, Int16, Int32, Int64, Int8, List, Local, Minus, Octal, Omitted, Operator, Plus, Resource, Scope, Sign, Some, User, Width, [], ap, base_byte, base_read, eqb-true, inl, inr, operator_byte, operator_read, refl, scope_byte, scope_read, sign_byte, sign_read, sym, width_byte, width_read, with_byte, ℕ, ◌==◌, ◌∙◌, ◌∷◌, ◌≡◌}
-use Rattle.sd_condition.proofs.Found.{chosen, some_is}
+use Rattle.sd_data.proofs.Found.{chosen, some_is}
 use Rattle.sd_condition.specs.declared.operator.Operator.TheVariants as ops
 
 -- what is read of a byte has that byte

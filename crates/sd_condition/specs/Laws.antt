@@ -1,8 +1,9 @@
 -- The laws of a condition's two forms, its tokens and its application data.
-use Rattle.std.specs.Prelude.{◌≡◌, ℕ, ◌<◌, ◌^◌, true, List, slice_index, Some, FitsSigned}
+use Rattle.std.specs.Prelude.{◌≡◌, ℕ, ◌<◌, true, List, slice_index, Some, FitsSigned}
 use Rattle.std.specs.Int.{w64}
 use Rattle.std.specs.List.{AllByRecursion}
 use Rattle.sd_sid.specs.Sid.{IsSid}
+use Rattle.sd_data.specs.Writing.{AreOctets, AreUnits}
 use Rattle.sd_condition.specs.Reading.{condition_read}
 use Rattle.sd_condition.specs.Writing.{condition_data, is_condition}
 use Rattle.sd_condition.specs.declared.token.Token.{Token}
@@ -10,15 +11,11 @@ use Rattle.sd_condition.specs.declared.token.Token.TheVariants as tokens
 use Rattle.sd_condition.specs.declared.value.Value.{Value}
 use Rattle.sd_condition.specs.declared.value.Value.TheVariants as values
 
--- UTF-16 units, of which each has 16 bits
-abbrev pub AreUnits : List ℕ → Type 0
-AreUnits units = AllByRecursion (λ unit. unit < 2 ^ 16) units
-
 -- what every value is: an integer of 64 bits, units of 16, octets, a SID
 abbrev pub IsValue : Value → Type 0
 IsValue (values.Integer integer) = FitsSigned w64 integer.value
 IsValue (values.Text text) = AreUnits text
-IsValue (values.Octets octets) = AllByRecursion (λ octet. octet < 2 ^ 8) octets
+IsValue (values.Octets octets) = AreOctets octets
 IsValue (values.Sid sid) = IsSid sid
 
 -- what every token is

@@ -1,13 +1,12 @@
 -- How a condition is parsed: each token at the front of the bytes, and how many bytes it takes ([MS-DTYP] 2.4.4.17.4).
-use Rattle.std.specs.Prelude.{ℕ, ℤ, zero, suc, ◌+◌, ◌*◌, ◌/◌, ◌%◌, Bool, not, ◌&&◌, ◌==◌, nat_lt, nat_le, List, []}
-use Rattle.std.specs.Prelude.{◌∷◌, length, map, slice_index, slice_range, Option, Some, None, Result, Ok, Err}
-use Rattle.std.specs.Prelude.{if◌then◌else◌}
-use Rattle.std.specs.Int.{w16, w64, from_le_bytes, cast_signed}
-use Rattle.std.specs.List.{list_all, range_with_len}
+use Rattle.std.specs.Prelude.{ℕ, zero, suc, ◌+◌, ◌%◌, Bool, not, ◌&&◌, ◌==◌, nat_lt, nat_le, List, [], ◌∷◌, length}
+use Rattle.std.specs.Prelude.{slice_index, slice_range, Option, Some, None, Result, Ok, Err, if◌then◌else◌}
+use Rattle.std.specs.List.{list_all}
 use Rattle.sd_sid.specs.Sid.{SidValue}
 use Rattle.sd_sid.specs.SidBytes.{u32_at, sid_reading}
 use Rattle.sd_sid.specs.declared.sid.SidError.{SidError}
-use Rattle.sd_condition.specs.Outcome.{◌>>=◌}
+use Rattle.sd_data.specs.Outcome.{◌>>=◌}
+use Rattle.sd_data.specs.Reading.{after, i64_at, text_read}
 use Rattle.sd_condition.specs.Table.{base_read, operator_read, scope_read, sign_read, width_read}
 use Rattle.sd_condition.specs.Writing.{is_condition}
 use Rattle.sd_condition.specs.declared.attribute.Attribute.{Attribute}
@@ -16,22 +15,6 @@ use Rattle.sd_condition.specs.declared.token.Token.{Token}
 use Rattle.sd_condition.specs.declared.token.Token.TheVariants as tokens
 use Rattle.sd_condition.specs.declared.value.Value.{Value}
 use Rattle.sd_condition.specs.declared.value.Value.TheVariants as values
-
--- the bytes after so many
-abbrev pub after : ℕ → List ℕ → List ℕ
-after n bytes = slice_range bytes n (length bytes)
-
--- ---- numbers
-
--- the number in the two bytes at an offset, little-endian
-abbrev pub u16_at : List ℕ → ℕ → ℕ
-u16_at bytes o = from_le_bytes w16 (slice_index bytes o ∷ slice_index bytes (o + 1) ∷ [])
-
--- the signed number in the eight bytes at an offset, little-endian
-abbrev pub i64_at : List ℕ → ℕ → ℤ
-i64_at bytes o = cast_signed w64 (from_le_bytes w64 (slice_index bytes o ∷ slice_index bytes (o + 1)
-    ∷ slice_index bytes (o + 2) ∷ slice_index bytes (o + 3) ∷ slice_index bytes (o + 4) ∷ slice_index bytes (o + 5)
-    ∷ slice_index bytes (o + 6) ∷ slice_index bytes (o + 7) ∷ []))
 
 -- ---- values (2.4.4.17.5)
 
@@ -43,18 +26,6 @@ integer_read bytes =
     (sign_read (slice_index bytes 9) >>= λ sign.
     (base_read (slice_index bytes 10) >>= λ base.
     Some (record { width = width; value = i64_at bytes 1; sign = sign; base = base }))))
-
--- UTF-16 units, two bytes each
-abbrev pub units_in : List ℕ → List ℕ
-units_in bytes = map (λ k. u16_at bytes (2 * k)) (range_with_len 0 (length bytes / 2))
-
--- a text or a name: all of the bytes are units
-unfoldable pub text_read : List ℕ → Option (List ℕ)
-text_read bytes = if length bytes % 2 == 0 then Some (units_in bytes) else None
-
--- octets: all of the bytes
-abbrev pub octets_read : List ℕ → Option (List ℕ)
-octets_read bytes = Some bytes
 
 -- a SID that takes all of so many bytes
 abbrev pub whole_sid : ℕ → Result (SidValue × ℕ) SidError → Option SidValue
@@ -77,7 +48,7 @@ content_len bytes =
 unfoldable pub literal_read : ℕ → List ℕ → Option Value
 literal_read byte content =
     if byte == 0x10 then (text_read content >>= λ text. Some (values.Text text))
-    else if byte == 0x18 then (octets_read content >>= λ octets. Some (values.Octets octets))
+    else if byte == 0x18 then Some (values.Octets content)
     else if byte == 0x51 then (sid_read content >>= λ sid. Some (values.Sid sid))
     else None
 

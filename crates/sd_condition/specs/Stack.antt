@@ -3,7 +3,7 @@
 use Rattle.std.specs.Prelude.{Bool, true, false, List, [], ◌∷◌, Option, Some, None}
 use Rattle.std.specs.Prelude.{if◌then◌else◌}
 use Rattle.std.specs.List.{list_all}
-use Rattle.sd_condition.specs.Outcome.{◌>>=◌}
+use Rattle.sd_data.specs.Outcome.{◌>>=◌}
 use Rattle.sd_condition.specs.declared.operator.Operator.{Operator}
 use Rattle.sd_condition.specs.declared.operator.Operator.TheVariants as operators
 use Rattle.sd_condition.specs.declared.operator.Takes.{Takes}

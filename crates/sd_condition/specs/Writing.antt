@@ -1,9 +1,10 @@
 -- The application data of a condition ([MS-DTYP] 2.4.4.17.4): `artx`, its tokens in postfix order, and zero bytes up to
 -- the next multiple of four.
-use Rattle.std.specs.Prelude.{ℕ, ◌-◌, ◌%◌, Bool, ◌&&◌, nat_le, is_some, List, [], ◌∷◌, ◌++◌, length, replicate}
-use Rattle.std.specs.Int.{w16, w32, w64, cast_unsigned, to_le_bytes}
+use Rattle.std.specs.Prelude.{ℕ, Bool, ◌&&◌, nat_le, is_some, List, [], ◌∷◌, ◌++◌, length, replicate}
+use Rattle.std.specs.Int.{w32, w64, cast_unsigned, to_le_bytes}
 use Rattle.std.specs.List.{flat_map}
 use Rattle.sd_sid.specs.SidBytes.{bytes_of_sid}
+use Rattle.sd_data.specs.Writing.{padding_len, text_bytes}
 use Rattle.sd_condition.specs.Stack.{outcome}
 use Rattle.sd_condition.specs.Table.{base_byte, operator_byte, scope_byte, sign_byte, width_byte}
 use Rattle.sd_condition.specs.declared.integer.Integer.{Integer}
@@ -21,10 +22,6 @@ abbrev pub integer_bytes : Integer → List ℕ
 integer_bytes i = width_byte i.width
     ∷ (to_le_bytes w64 (cast_unsigned w64 i.value) ++ sign_byte i.sign ∷ base_byte i.base ∷ [])
 
--- UTF-16 units, little-endian
-abbrev pub text_bytes : List ℕ → List ℕ
-text_bytes units = flat_map (to_le_bytes w16) units
-
 -- a value (2.4.4.17.5)
 unfoldable pub value_bytes : Value → List ℕ
 value_bytes (values.Integer integer) = integer_bytes integer
@@ -38,10 +35,6 @@ token_bytes (tokens.Value value) = value_bytes value
 token_bytes (tokens.List list) = with_content 0x50 (flat_map value_bytes list)
 token_bytes (tokens.Attribute attribute) = with_content (scope_byte attribute.scope) (text_bytes attribute.name)
 token_bytes (tokens.Operator operator) = operator_byte operator ∷ []
-
--- how many zero bytes follow so many bytes of tokens
-abbrev pub padding_len : ℕ → ℕ
-padding_len n = (4 - n % 4) % 4
 
 -- `artx`, the tokens, the padding
 unfoldable pub condition_data : List Token → List ℕ

@@ -1,12 +1,11 @@
 //! Attributes.
 
 ghost use Rattle.std.specs.Prelude.{◌≡◌};
-ghost use Rattle.sd_condition.specs.Outcome.{Gives};
+ghost use Rattle.sd_data.specs.Outcome.{Gives};
 ghost use Rattle.sd_condition.specs.Reading.{attribute_read};
 ghost use Rattle.sd_condition.specs.Table.{scope_byte, scope_read};
 
-use crate::refusal::Refusal;
-use crate::text::{Utf16, read_text};
+use sd_data::{Refusal, Utf16, read_text};
 use std::alloc::Global;
 
 /// Where an attribute comes from ([MS-DTYP] 2.4.4.17.8).

@@ -3,14 +3,14 @@
 ghost use Rattle.std.specs.Prelude.{◌≡◌, ◌+◌, ◌<◌, ◌≤◌, ◌++◌, not, ◌==◌, nat_le, length, replicate, slice_index};
 ghost use Rattle.std.specs.Prelude.{true, Some, IfErr, IfOk, IsErr, IsErrOf, OnOk};
 ghost use Rattle.sd_condition.specs.Memory.{TakesMemory};
-ghost use Rattle.sd_condition.specs.Outcome.{Fails, Gives};
+ghost use Rattle.sd_data.specs.Outcome.{Fails, Gives};
 ghost use Rattle.sd_condition.specs.Reading.{condition_of, condition_read, is_padding, padded_read};
-ghost use Rattle.sd_condition.specs.Writing.{condition_data, is_condition, padding_len};
+ghost use Rattle.sd_condition.specs.Writing.{condition_data, is_condition};
+ghost use Rattle.sd_data.specs.Writing.{padding_len};
 
-use crate::number::read_u32;
-use crate::refusal::Refusal;
 use crate::stack::find_outcome;
 use crate::token::{Token, push_tokens, read_token, tokens_len};
+use sd_data::{Refusal, padding_len, push_padding, push_u32, read_u32};
 use std::alloc::{AllocError, Global};
 use std::marker::Model;
 
@@ -65,7 +65,7 @@ impl Condition {
     {
         let tokens = self.tokens();
         let mut bytes = Vec::with_capacity(alloc, self.data_len())?;
-        bytes.extend_from_slice(&MAGIC.to_le_bytes())?;
+        push_u32(&mut bytes, MAGIC)?;
         push_tokens(&mut bytes, tokens)?;
         let len = bytes.len() - MAGIC_BYTES;
         push_padding(&mut bytes, padding_len(len))?;
@@ -121,23 +121,6 @@ fn padded_len(len: usize) -> usize
     ensures { result ≡ 4 + len + padding_len len }
 {
     MAGIC_BYTES + len + padding_len(len)
-}
-
-/// How many zero bytes follow so many bytes of tokens.
-fn padding_len(len: usize) -> usize
-    ensures { result ≡ padding_len len }
-{
-    (4 - len % 4) % 4
-}
-
-/// Appends zero bytes.
-fn push_padding(bytes: &mut Vec<u8>, len: usize) -> Result<(), AllocError>
-    ensures { OnOk result (bytes.new.items ≡ bytes.old.items ++ replicate len 0) }
-{
-    for _ in 0..len {
-        bytes.push(0)?;
-    }
-    Ok(())
 }
 
 /// The condition of an entry's application data ([MS-DTYP] 2.4.4.17.4); `None` if the data isn't exactly one: `artx`,

@@ -2,13 +2,12 @@
 
 ghost use Rattle.std.specs.Prelude.{◌≡◌, ◌≤◌, ◌++◌, length, IfOk, OnOk};
 ghost use Rattle.std.specs.Int.{w64, cast_unsigned, to_le_bytes};
-ghost use Rattle.sd_condition.specs.Outcome.{Gives};
+ghost use Rattle.sd_data.specs.Outcome.{Gives};
 ghost use Rattle.sd_condition.specs.Reading.{integer_read};
 ghost use Rattle.sd_condition.specs.Writing.{integer_bytes};
 ghost use Rattle.sd_condition.specs.Table.{base_byte, base_read, sign_byte, sign_read, width_byte, width_read};
 
-use crate::number::read_i64;
-use crate::refusal::Refusal;
+use sd_data::{Refusal, push_i64, read_i64};
 use std::alloc::AllocError;
 
 /// The length of an integer's token: its byte, the value, the sign, the base ([MS-DTYP] 2.4.4.17.5).
@@ -154,13 +153,5 @@ pub(crate) fn push_integer(bytes: &mut Vec<u8>, integer: Integer) -> Result<(), 
     push_i64(bytes, integer.value)?;
     bytes.push(integer.sign.byte())?;
     bytes.push(integer.base.byte())?;
-    Ok(())
-}
-
-/// Appends a signed number, little-endian.
-fn push_i64(bytes: &mut Vec<u8>, value: i64) -> Result<(), AllocError>
-    ensures { OnOk result (bytes.new.items ≡ bytes.old.items ++ to_le_bytes w64 (cast_unsigned w64 value)) }
-{
-    bytes.extend_from_slice(&value.to_le_bytes())?;
     Ok(())
 }

@@ -18,11 +18,8 @@ mod condition;
 mod integer;
 mod laws;
 mod list;
-mod number;
 mod operator;
-mod refusal;
 mod stack;
-mod text;
 mod token;
 mod value;
 
@@ -32,6 +29,5 @@ pub use integer::{Base, Integer, Sign, Width};
 pub use laws::{conditions_come_back, data_comes_back, parsed_is_a_condition};
 pub use list::ValueList;
 pub use operator::Operator;
-pub use text::{Octets, Utf16};
 pub use token::Token;
 pub use value::Value;

@@ -2,12 +2,12 @@
 
 ghost use Rattle.std.specs.Prelude.{◌≡◌, ◌^◌, ◌<◌, ◌≤◌, ◌++◌, length, OnOk, SomeIff};
 ghost use Rattle.std.specs.List.{flat_map};
-ghost use Rattle.sd_condition.specs.Outcome.{Gives};
+ghost use Rattle.sd_data.specs.Outcome.{Gives};
 ghost use Rattle.sd_condition.specs.Reading.{list_read};
 ghost use Rattle.sd_condition.specs.Writing.{value_bytes};
 
-use crate::refusal::Refusal;
 use crate::value::{Value, push_value, read_value, value_len};
+use sd_data::Refusal;
 use std::alloc::{AllocError, Global};
 use std::marker::Model;
 

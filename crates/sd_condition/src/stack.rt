@@ -2,15 +2,15 @@
 
 ghost use Rattle.std.specs.Prelude.{◌≡◌, ◌<◌, [], ◌∷◌, length, Some, true, false, IfErr, IfOk, IsErrOf, OnOk};
 ghost use Rattle.std.specs.List.{list_all};
-ghost use Rattle.sd_condition.specs.Outcome.{Fails, Gives};
+ghost use Rattle.sd_data.specs.Outcome.{Fails, Gives};
 ghost use Rattle.sd_condition.specs.Stack.{after_operator, after_token, after_tokens, is_attribute};
 ghost use Rattle.sd_condition.specs.Stack.{is_comparable, is_sid, is_sids, is_truth, outcome, values_operand};
-ghost use Rattle.sd_condition.specs.declared.refusal.Refusal.TheVariants.{Malformed};
+ghost use Rattle.sd_data.specs.declared.refusal.Refusal.TheVariants.{Malformed};
 
 use crate::operator::Takes;
-use crate::refusal::Refusal;
 use crate::token::Token;
 use crate::value::Value;
+use sd_data::Refusal;
 use std::alloc::Global;
 use std::collections::VecDeque;
 

@@ -2,18 +2,17 @@
 
 ghost use Rattle.std.specs.Prelude.{◌≡◌, ◌^◌, ◌<◌, ◌≤◌, ◌++◌, length, IfOk, OnOk, SomeIff};
 ghost use Rattle.std.specs.List.{flat_map};
-ghost use Rattle.sd_condition.specs.Outcome.{Gives};
+ghost use Rattle.sd_data.specs.Outcome.{Gives};
 ghost use Rattle.sd_condition.specs.Reading.{token_read};
 ghost use Rattle.sd_condition.specs.Writing.{token_bytes};
 
 use crate::attribute::{Attribute, read_attribute};
 use crate::list::{ValueList, push_values, read_list, values_len};
 use crate::operator::Operator;
-use crate::refusal::Refusal;
-use crate::text::{push_text, text_len};
 use crate::value::{
     LENGTH_BYTES, Value, push_head, push_value, read_content_len, read_value, value_len,
 };
+use sd_data::{Refusal, push_text, text_len};
 use std::alloc::{AllocError, Global};
 
 /// The byte of a list ([MS-DTYP] 2.4.4.17.5, composite).

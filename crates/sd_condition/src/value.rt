@@ -3,14 +3,14 @@
 ghost use Rattle.std.specs.Prelude.{◌≡◌, ◌+◌, ◌*◌, ◌^◌, ◌<◌, ◌≤◌, ◌∷◌, ◌++◌, length, IfOk, OnOk};
 ghost use Rattle.std.specs.Int.{w32, to_le_bytes};
 ghost use Rattle.sd_sid.specs.SidBytes.{bytes_of_sid};
-ghost use Rattle.sd_condition.specs.Outcome.{Gives};
+ghost use Rattle.sd_data.specs.Outcome.{Gives};
 ghost use Rattle.sd_condition.specs.Reading.{content_len, literal_read, sid_read, value_read};
 ghost use Rattle.sd_condition.specs.Writing.{value_bytes};
 
 use crate::integer::{INTEGER_BYTES, Integer, Width, push_integer, read_integer};
-use crate::number::read_u32;
-use crate::refusal::Refusal;
-use crate::text::{Octets, Utf16, octets_len, push_text, read_octets, read_text, text_len};
+use sd_data::{
+    Octets, Refusal, Utf16, push_text, push_u32, read_octets, read_text, read_u32, text_len,
+};
 use sd_sid::{SID_HEADER_BYTES, Sid, push_sid, read_sid};
 use std::alloc::{AllocError, Global};
 
@@ -114,13 +114,13 @@ pub(crate) fn value_len(value: &Value) -> usize
     match value {
         Value::Integer(_) => INTEGER_BYTES,
         Value::Text(text) => LENGTH_BYTES + text_len(text),
-        Value::Octets(octets) => LENGTH_BYTES + octets_len(octets),
+        Value::Octets(octets) => LENGTH_BYTES + octets.octets().len(),
         Value::Sid(sid) => LENGTH_BYTES + sid_len(sid),
     }
 }
 
 /// How many bytes a SID takes.
-#[tactic(auto, using(crate::proofs::Lengths::length_of_sid_bytes))]
+#[tactic(auto, using(sd_sid::proofs::SidLaws::length_of_sid))]
 fn sid_len(sid: &Sid) -> usize
     ensures exact { result ≡ length (bytes_of_sid sid.now) }
     ensures most { result ≤ 68 }
@@ -134,8 +134,7 @@ pub(crate) fn push_head(bytes: &mut Vec<u8>, byte: u8, len: usize) -> Result<(),
     ensures { OnOk result (bytes.new.items ≡ bytes.old.items ++ byte ∷ to_le_bytes w32 len) }
 {
     bytes.push(byte)?;
-    bytes.extend_from_slice(&(len as u32).to_le_bytes())?;
-    Ok(())
+    push_u32(bytes, len as u32)
 }
 
 /// Appends a value's token.
@@ -151,7 +150,7 @@ pub(crate) fn push_value(bytes: &mut Vec<u8>, value: &Value) -> Result<(), Alloc
             push_text(bytes, text)
         }
         Value::Octets(octets) => {
-            push_head(bytes, OCTETS, octets_len(octets))?;
+            push_head(bytes, OCTETS, octets.octets().len())?;
             bytes.extend_from_slice(octets.octets())
         }
         Value::Sid(sid) => {

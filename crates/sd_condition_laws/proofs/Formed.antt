@@ -2,8 +2,8 @@
 use Rattle.std.proofs.Common.{Bool, List, None, Option, Some, [], ap, cond, false, is_some, refl, subst, true, ◌∙◌, ◌∷◌, ◌≡◌}
 use Rattle.std.proofs.lemmas.Bool.{and_parts}
 use Rattle.std.specs.List.{list_all}
-use Rattle.sd_condition.proofs.Found.{bound, held, some_is}
-use Rattle.sd_condition.specs.Outcome.{◌>>=◌}
+use Rattle.sd_data.proofs.Found.{bound, held, some_is}
+use Rattle.sd_data.specs.Outcome.{◌>>=◌}
 use Rattle.sd_condition.specs.Stack.{after_one as kind_after_one, after_token as kinds_after_token, after_tokens as kinds_after, after_two as kinds_after_two, alone as kind_alone, is_attribute, is_comparable, is_sid, is_sids, is_truth, outcome, values_operand}
 use Rattle.sd_condition.specs.Writing.{is_condition}
 use Rattle.sd_condition.specs.declared.operator.Operator.{Operator}

@@ -2,7 +2,7 @@
 use Rattle.std.proofs.Common.{List, Ok, Some, [], append_assoc, ap, arith, codes, false, length, length-append, refl, subst, suc, sym, true, zero, ℕ, ◌++◌, ◌<◌, ◌∙◌, ◌∷◌, ◌≡◌}
 use Rattle.std.specs.Fmt.{◌++?◌}
 use Rattle.std.specs.List.{AllByRecursion, prefix_len}
-use Rattle.sd_condition.proofs.Found.{some_is}
+use Rattle.sd_data.proofs.Found.{some_is}
 use Rattle.sd_condition.specs.declared.value.Value.{Value}
 use Rattle.sd_condition_laws.proofs.Runs.{both_texts, text_before, text_behind}
 use Rattle.sd_condition_laws.proofs.Values.{Head, ValueEnds, no_mark}

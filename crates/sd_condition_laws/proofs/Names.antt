@@ -5,8 +5,8 @@ use Rattle.std.proofs.lemmas.Bool.Decides.{nat_tests}
 use Rattle.std.specs.Char.{eq_ignore_ascii_case}
 use Rattle.std.specs.List.{flat_map, list_all, prefix_len}
 use Rattle.std.specs.Prelude.{not, slice_index, ◌&&◌, ◌==◌}
-use Rattle.sd_condition.proofs.Found.{held, some_is}
-use Rattle.sd_condition.specs.Laws.{AreUnits}
+use Rattle.sd_data.proofs.Found.{held, some_is}
+use Rattle.sd_data.specs.Writing.{AreUnits}
 use Rattle.sd_condition.specs.declared.attribute.Attribute.{Attribute}
 use Rattle.sd_condition.specs.declared.attribute.Scope.{Scope}
 use Rattle.sd_condition.specs.declared.attribute.Scope.TheVariants.{Local, User, Resource, Device}

@@ -2,7 +2,7 @@
 use Rattle.std.proofs.Common.{List, Ok, Some, [], false, refl, subst, sym, true, ℕ, ◌++◌, ◌∙◌, ◌∷◌, ◌≡◌}
 use Rattle.std.proofs.lemmas.Bool.{and_parts}
 use Rattle.std.specs.List.{AllByRecursion, list_all, prefix_len}
-use Rattle.sd_condition.proofs.Found.{some_is}
+use Rattle.sd_data.proofs.Found.{some_is}
 use Rattle.sd_condition.specs.Laws.{IsToken, IsValue}
 use Rattle.sd_condition.specs.Stack.{is_sid}
 use Rattle.sd_condition.specs.declared.token.Token.{Token}

@@ -10,8 +10,8 @@ use Rattle.std.specs.Char.Utf16.{has_unpaired_surrogate, is_high_surrogate, is_l
 use Rattle.std.specs.List.{flat_map, list_all, list_any}
 use Rattle.std.specs.Prelude.{not, nat_le, nat_lt, ◌&&◌, ◌==◌}
 use Rattle.std.specs.Str.{encode_utf8_all}
-use Rattle.sd_condition.proofs.Found.{held, some_is}
-use Rattle.sd_condition.specs.Laws.{AreUnits}
+use Rattle.sd_data.proofs.Found.{held, some_is}
+use Rattle.sd_data.specs.Writing.{AreUnits}
 use Rattle.sd_condition_laws.proofs.Runs.{run_all}
 use Rattle.sd_condition_parse.specs.Run.{is_unquoted}
 use Rattle.sd_condition_parse.specs.Value.{quoted}

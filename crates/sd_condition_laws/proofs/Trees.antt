@@ -1,7 +1,7 @@
 -- The text of a tree is parsed as its tokens, where a parenthesis closes behind it.
 use Rattle.std.proofs.Common.{Bool, List, Some, [], ap, append-nil, append_assoc, codes, false, refl, subst, sym, true, ℕ, ◌++◌, ◌∙◌, ◌∷◌, ◌≡◌}
 use Rattle.std.specs.Fmt.{◌++?◌}
-use Rattle.sd_condition.proofs.Found.{passed}
+use Rattle.sd_data.proofs.Found.{passed}
 use Rattle.sd_condition.specs.Laws.{AreTokens}
 use Rattle.sd_condition.specs.declared.attribute.Attribute.{Attribute}
 use Rattle.sd_condition.specs.declared.operator.Operator.{Operator}

@@ -9,7 +9,7 @@ use Rattle.std.specs.Int.{w64}
 use Rattle.std.specs.List.{prefix_len}
 use Rattle.std.specs.Prelude.{ℤ, pos, negsuc, unsigned_abs, ◌&&◌, ◌==◌, FitsSigned}
 use Rattle.std.specs.Str.Parse.{IsNumeral}
-use Rattle.sd_condition.proofs.Found.{held, some_is}
+use Rattle.sd_data.proofs.Found.{held, some_is}
 use Rattle.sd_condition.specs.Laws.{IsValue}
 use Rattle.sd_condition.specs.declared.integer.Base.{Base}
 use Rattle.sd_condition.specs.declared.integer.Base.TheVariants.{Octal, Decimal, Hexadecimal}

@@ -2,7 +2,7 @@
 use Rattle.std.proofs.Common.{Bool, List, None, Ok, Option, Some, [], ap, arith, codes, cond, drop, false, inl, inr, is_some, length, refl, subst, suc, true, zero, ℕ, ◌++◌, ◌∙◌, ◌∷◌, ◌≡◌, ◌⊎◌}
 use Rattle.std.proofs.lemmas.Bool.{and_parts}
 use Rattle.std.specs.List.{list_all}
-use Rattle.sd_condition.proofs.Found.{bound, some_is}
+use Rattle.sd_data.proofs.Found.{bound, some_is}
 use Rattle.sd_condition.specs.Stack.{after_token, after_tokens, is_comparable, is_sid, is_truth, outcome, taken_by, values_operand}
 use Rattle.sd_condition.specs.declared.attribute.Attribute.{Attribute}
 use Rattle.sd_condition.specs.declared.operator.Operator.{Operator}

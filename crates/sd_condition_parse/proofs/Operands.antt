@@ -2,7 +2,7 @@
 use Rattle.std.proofs.Common.{Bool, List, None, Option, Some, [], ap, append-nil, append_assoc, arith, false, length, refl, subst, suc, sym, true, ℕ, ◌++◌, ◌+◌, ◌∙◌, ◌∷◌, ◌≡◌}
 use Rattle.std.proofs.lemmas.Bool.{and_parts}
 use Rattle.std.specs.List.{list_all}
-use Rattle.sd_condition.proofs.Found.{bound, some_is}
+use Rattle.sd_data.proofs.Found.{bound, some_is}
 use Rattle.sd_condition.specs.Stack.{after_one, after_operator, after_token, after_tokens, is_truth, taken_by, values_operand}
 use Rattle.sd_condition.specs.declared.operator.Operator.{Operator}
 use Rattle.sd_condition.specs.declared.operator.Operator.TheVariants.{And, Or, Not}

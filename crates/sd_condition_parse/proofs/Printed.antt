@@ -9,7 +9,7 @@ use Rattle.std.specs.Fmt.{digit_glyph, digits, digits_onto}
 use Rattle.std.specs.Int.{w64}
 use Rattle.std.specs.Prelude.{ℤ, pos, negsuc, nat_le, unsigned_abs, ◌&&◌, ◌==◌, FitsSigned}
 use Rattle.std.specs.Str.Parse.{IsNumeral}
-use Rattle.sd_condition.proofs.Found.{held, some_is}
+use Rattle.sd_data.proofs.Found.{held, some_is}
 use Rattle.sd_condition.specs.declared.integer.Base.{Base}
 use Rattle.sd_condition.specs.declared.integer.Base.TheVariants.{Octal, Decimal, Hexadecimal}
 use Rattle.sd_condition.specs.declared.integer.Integer.{Integer}

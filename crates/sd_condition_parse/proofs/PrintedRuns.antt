@@ -9,7 +9,7 @@ use Rattle.std.specs.List.{AllByRecursion, flat_map, list_all}
 use Rattle.std.specs.Prelude.{not, slice_index, ◌&&◌, ◌==◌}
 use Rattle.hex.proofs.HexLemmas.{decode_of-encode_upper}
 use Rattle.hex.specs.Hex.{decode_of, encode_upper, encode_with, upper_digits}
-use Rattle.sd_condition.proofs.Found.{held, some_is}
+use Rattle.sd_data.proofs.Found.{held, some_is}
 use Rattle.sd_condition.specs.declared.attribute.Scope.TheVariants.{Local}
 use Rattle.sd_condition_parse.specs.Attribute.{attribute, local_attribute}
 use Rattle.sd_condition_parse.specs.Laws.{OctetsComeBack, PlainNamesComeBack}

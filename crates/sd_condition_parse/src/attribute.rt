@@ -10,7 +10,8 @@ ghost use Rattle.sd_condition_text.specs.Attribute.{is_literal, is_text};
 
 use crate::error::ConditionError;
 use crate::run::{Class, is_digit, run_len, take_run};
-use sd_condition::{Attribute, Scope, Utf16};
+use sd_condition::{Attribute, Scope};
+use sd_data::Utf16;
 use sd_text::{Cursor, TextFault};
 use std::alloc::{AllocError, Global};
 

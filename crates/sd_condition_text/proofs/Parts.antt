@@ -1,7 +1,7 @@
 -- What the stack machine leaves of parts is the part of the tree that it leaves of trees.
 use Rattle.std.proofs.Common.{List, None, Option, Some, [], map, refl, ◌∷◌, ◌≡◌}
 use Rattle.std.specs.Option.{option_map}
-use Rattle.sd_condition.specs.Outcome.{◌>>=◌}
+use Rattle.sd_data.specs.Outcome.{◌>>=◌}
 use Rattle.sd_condition.specs.declared.operator.Operator.{Operator}
 use Rattle.sd_condition.specs.declared.token.Token.{Token}
 use Rattle.sd_condition.specs.declared.token.Token.TheVariants as tokens

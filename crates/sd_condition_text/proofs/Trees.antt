@@ -1,8 +1,8 @@
 -- Each condition has a tree, and the tree says its tokens.
 use Rattle.std.proofs.Common.{List, None, Option, Some, [], ap, append-nil, append_assoc, cond, is_some, refl, subst, sym, true, ◌++◌, ◌∙◌, ◌∷◌, ◌≡◌}
 use Rattle.std.proofs.lemmas.Bool.{and_parts}
-use Rattle.sd_condition.proofs.Found.{bound, held, some_is}
-use Rattle.sd_condition.specs.Outcome.{◌>>=◌}
+use Rattle.sd_data.proofs.Found.{bound, held, some_is}
+use Rattle.sd_data.specs.Outcome.{◌>>=◌}
 use Rattle.sd_condition.specs.Stack.{after_one as operand_after_one, after_token as operands_after_token, after_tokens as operands_after, after_two as operands_after_two, alone as operand_alone, is_attribute, is_comparable, is_sids, is_truth, outcome}
 use Rattle.sd_condition.specs.Writing.{is_condition}
 use Rattle.sd_condition.specs.declared.operator.Operator.{Operator}

@@ -1,7 +1,7 @@
 -- What a stack machine makes of tokens in their postfix order: something of each operand, and, of what stands on the
 -- stack, something for each operator ([MS-DTYP] 2.4.4.17.4).
 use Rattle.std.specs.Prelude.{List, [], ◌∷◌, Option, Some, None}
-use Rattle.sd_condition.specs.Outcome.{◌>>=◌}
+use Rattle.sd_data.specs.Outcome.{◌>>=◌}
 use Rattle.sd_condition.specs.declared.operator.Operator.{Operator}
 use Rattle.sd_condition.specs.declared.token.Token.{Token}
 use Rattle.sd_condition.specs.declared.token.Token.TheVariants as tokens

@@ -3,7 +3,7 @@ use Rattle.std.proofs.Common.{List, None, Option, Some, [], ap, map, refl, sym, 
 use Rattle.std.specs.Option.{option_map}
 use Rattle.sd_acl.specs.declared.ace.AceKind.{AceKind}
 use Rattle.sd_check.specs.declared.grounds.Pass.{Pass}
-use Rattle.sd_condition.specs.Outcome.{◌>>=◌}
+use Rattle.sd_data.specs.Outcome.{◌>>=◌}
 use Rattle.sd_condition.specs.Writing.{is_condition}
 use Rattle.sd_condition.specs.declared.operator.Operator.{Operator}
 use Rattle.sd_condition.specs.declared.operator.Operator.TheVariants as operators

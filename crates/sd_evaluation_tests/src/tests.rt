@@ -3,10 +3,11 @@
 use crate::rows::{DEVICE, LOCAL, RESOURCE, ROWS, USER};
 use sd_acl::AceKind;
 use sd_check::{GroupState, Pass, Privileges, Token};
-use sd_claim::{Claim, Octets, Utf16, Value, ValueType};
+use sd_claim::{Claim, Value, ValueType};
 use sd_claim_text::{ClaimError, parse_claim};
 use sd_condition::Condition;
 use sd_condition_parse::{ConditionError, parse_condition};
+use sd_data::{Octets, Utf16};
 use sd_evaluation::{Facts, Truth, applies, evaluate};
 use sd_sid::Sid;
 use sd_text::{Aliases, Cursor};

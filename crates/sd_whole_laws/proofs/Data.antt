@@ -13,7 +13,7 @@ use Rattle.sd_claim_laws.proofs.Claims.{texts_come_back}
 use Rattle.sd_claim_laws.proofs.Parsed.{parsed_claim}
 use Rattle.sd_claim_text.specs.Text.{claim_text}
 use Rattle.sd_condition.proofs.DataComesBack.{data_comes_back}
-use Rattle.sd_condition.proofs.Found.{bound, held}
+use Rattle.sd_data.proofs.Found.{bound, held}
 use Rattle.sd_condition.proofs.Parsed.{parsed_is_a_condition}
 use Rattle.sd_condition.specs.Reading.{condition_read}
 use Rattle.sd_condition_laws.proofs.Whole.{conditions_come_back}

@@ -5,7 +5,7 @@ use Rattle.std.specs.Str.{bytes_eq}
 use Rattle.sd_claim.specs.Reading.{claim_read}
 use Rattle.sd_claim.specs.Writing.{claim_data}
 use Rattle.sd_claim_text.specs.Text.{claim_text}
-use Rattle.sd_condition.specs.Outcome.{◌>>=◌}
+use Rattle.sd_data.specs.Outcome.{◌>>=◌}
 use Rattle.sd_condition.specs.Reading.{condition_read}
 use Rattle.sd_condition_text.specs.Text.{condition_text}
 use Rattle.sd_whole.specs.declared.ace.TypedAce.{TypedAce}

@@ -1,6 +1,7 @@
 -- Each turn reads the value at the next offset, or finds none.
 use Rattle.sd_claim.proofs.Cited.{ap, err_from_is_err_and, sym, u32_at, u32s_at, value_at, values_read, ℕ, ◌*◌, ◌+◌, ◌∙◌}
-use Rattle.sd_claim.proofs.Loop.{bad_value, next_value, refused, values_done}
+use Rattle.sd_claim.proofs.Loop.{bad_value, next_value, values_done}
+use Rattle.sd_data.proofs.Loop.{refused}
 use Rattle.sd_claim.proofs.values.read_values.Goals as goal
 
 pub returns-in_err-value-clause-err : goal.returns-in_err-value-clause-err

@@ -1,6 +1,7 @@
 -- Each turn reads the next token, or ends without one.
 use Rattle.sd_condition.proofs.Cited.{err_from_is_err_and, not-false, not-true, padded_read, slice_index, sym, token_read, ◌==◌, ◌∙◌}
-use Rattle.sd_condition.proofs.Loop.{bad_padding, bad_token, next_token, refused, tokens_done}
+use Rattle.sd_condition.proofs.Loop.{bad_padding, bad_token, next_token, tokens_done}
+use Rattle.sd_data.proofs.Loop.{refused}
 use Rattle.sd_condition.proofs.condition.read_tokens.Goals as goal
 
 pub returns-in_err-token-clause-err : goal.returns-in_err-token-clause-err

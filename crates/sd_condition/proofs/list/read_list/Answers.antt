@@ -1,6 +1,7 @@
 -- Each turn reads the next value, or ends without one.
 use Rattle.sd_condition.proofs.Cited.{err_from_is_err_and, list_read, sym, value_read, ◌∙◌}
-use Rattle.sd_condition.proofs.Loop.{bad_value, next_value, refused, some_left, values_done}
+use Rattle.sd_condition.proofs.Loop.{bad_value, next_value, some_left, values_done}
+use Rattle.sd_data.proofs.Loop.{refused}
 use Rattle.sd_condition.proofs.list.read_list.Goals as goal
 
 pub returns-in_err-value : goal.returns-in_err-value

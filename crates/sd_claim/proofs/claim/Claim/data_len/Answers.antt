@@ -1,6 +1,7 @@
 -- A claim's data has at most 65,535 bytes, and so has the claim before its padding.
-use Rattle.sd_claim.proofs.Cited.{Some, arith, claim_len, refl, sym, ◌≡◌}
-use Rattle.sd_claim.proofs.Lengths.{claim_fits, claim_known, length_of_data, some_is}
+use Rattle.sd_claim.proofs.Cited.{Some, arith, claim_len, refl, sym, ◌∙◌, ◌≡◌}
+use Rattle.sd_claim.proofs.Lengths.{claim_fits, claim_known, length_of_data}
+use Rattle.sd_data.proofs.Found.{some_is}
 use Rattle.sd_claim.proofs.claim.Claim.data_len.Goals as goal
 use Rattle.sd_claim.proofs.claim.Claim.data_len.Goals.{After-claim_len, After-padding_len}
 
@@ -9,8 +10,8 @@ known c = claim_known c.args.self.now c.name.result.now c.values.result.now c.cl
 
 counted : (c : After-padding_len) → c.unwrap-len.result ≡ claim_len c.args.self.now.name c.args.self.now.values
 counted c =
-    some_is c.claim_len.result c.unwrap-len.result (claim_len c.args.self.now.name c.args.self.now.values) c.unwrap-len.ensures
-    (claim_known c.args.self.now c.name.result.now c.values.result.now c.claim_len.result c.name.ensures c.values.ensures.values c.values.ensures.known c.claim_len.ensures)
+    some_is _ _
+    (sym c.unwrap-len.ensures ∙ claim_known c.args.self.now c.name.result.now c.values.result.now c.claim_len.result c.name.ensures c.values.ensures.values c.values.ensures.known c.claim_len.ensures)
 
 pub unwrap-len-requires : goal.unwrap-len-requires
 unwrap-len-requires c = rw (known c) refl

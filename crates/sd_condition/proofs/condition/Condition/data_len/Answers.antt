@@ -1,6 +1,7 @@
 -- A condition's tokens take at most 65,535 bytes, and so does its data.
 use Rattle.sd_condition.proofs.Cited.{Some, flat_map, length, refl, sym, token_bytes, ◌∙◌, ◌≡◌}
-use Rattle.sd_condition.proofs.Lengths.{length_of_data, some_is, tokens_fit, tokens_known}
+use Rattle.sd_condition.proofs.Lengths.{length_of_data, tokens_fit, tokens_known}
+use Rattle.sd_data.proofs.Found.{some_is}
 use Rattle.sd_condition.proofs.condition.Condition.data_len.Goals as goal
 use Rattle.sd_condition.proofs.condition.Condition.data_len.Goals.{After-tokens_len, After-unwrap}
 
@@ -8,7 +9,7 @@ known : (c : After-tokens_len) → c.tokens_len.result ≡ Some (length (flat_ma
 known c = tokens_known c.tokens.result.now c.args.self.now c.tokens_len.result c.tokens.ensures.tokens c.tokens.ensures.known c.tokens_len.ensures
 
 counted : (c : After-unwrap) → c.unwrap.result ≡ length (flat_map token_bytes c.args.self.now)
-counted c = some_is c.tokens_len.result c.unwrap.result (length (flat_map token_bytes c.args.self.now)) c.unwrap.ensures (tokens_known c.tokens.result.now c.args.self.now c.tokens_len.result c.tokens.ensures.tokens c.tokens.ensures.known c.tokens_len.ensures)
+counted c = some_is _ _ (sym c.unwrap.ensures ∙ tokens_known c.tokens.result.now c.args.self.now c.tokens_len.result c.tokens.ensures.tokens c.tokens.ensures.known c.tokens_len.ensures)
 
 pub unwrap-requires : goal.unwrap-requires
 unwrap-requires c = rw (known c) refl

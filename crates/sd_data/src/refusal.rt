@@ -1,13 +1,13 @@
-//! Why bytes are not read.
+//! Why bytes are not parsed.
 
 ghost use Rattle.std.specs.Prelude.{◌≡◌};
-ghost use Rattle.sd_claim.specs.declared.refusal.Refusal.TheVariants.{Memory};
+ghost use Rattle.sd_data.specs.declared.refusal.Refusal.TheVariants.{Memory};
 
 use std::alloc::{AllocError, AllocFailed};
 
-/// Why a part of a claim isn't parsed.
+/// Why a part of the data isn't parsed.
 #[derive(Clone, Copy, Debug, PartialEq, Eq)]
-pub(crate) enum Refusal {
+pub enum Refusal {
     /// An allocation failed.
     Memory,
     /// The bytes are no such part.

@@ -1,7 +1,7 @@
--- What a part of a claim is parsed as: something or nothing, unless memory runs out.
+-- What a part of the data is parsed as: something or nothing, unless memory runs out.
 use Rattle.std.specs.Prelude.{◌≡◌, Option, Some, None, Result, Ok, Err}
-use Rattle.sd_claim.specs.declared.refusal.Refusal.{Refusal}
-use Rattle.sd_claim.specs.declared.refusal.Refusal.TheVariants.{Memory, Malformed}
+use Rattle.sd_data.specs.declared.refusal.Refusal.{Refusal}
+use Rattle.sd_data.specs.declared.refusal.Refusal.TheVariants.{Memory, Malformed}
 
 infixl 10 ◌>>=◌
 -- one parse after another: where one finds nothing, nor do both

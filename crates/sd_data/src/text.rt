@@ -1,16 +1,17 @@
-//! Texts and octets of a condition.
+//! Texts and octets.
 
 ghost use Rattle.std.specs.Prelude.{◌≡◌, ◌*◌, ◌/◌, ◌^◌, ◌<◌, ◌++◌, length, vec_capacity, IfOk, OnOk};
-ghost use Rattle.sd_condition.specs.Outcome.{Gives};
-ghost use Rattle.sd_condition.specs.Reading.{octets_read, text_read, units_in};
-ghost use Rattle.sd_condition.specs.Writing.{text_bytes};
+ghost use Rattle.sd_data.specs.Outcome.{Gives};
+ghost use Rattle.sd_data.specs.Reading.{text_read, units_in};
+ghost use Rattle.sd_data.specs.Writing.{text_bytes};
 
 use crate::number::read_u16;
 use crate::refusal::Refusal;
 use std::alloc::{AllocError, Global};
 use std::marker::Model;
 
-/// A text or a name: UTF-16 units, whatever they say ([MS-DTYP] 2.4.4.17.5, 2.4.4.17.8). Contracts see the list.
+/// A text or a name: UTF-16 units, whatever they say, without the zero that ends them in a claim
+/// ([MS-DTYP] 2.4.4.17.5, 2.4.4.17.8, 2.4.10.1). Contracts see the list.
 #[derive(Debug, Drop)]
 pub struct Utf16 {
     units: Vec<u16>,
@@ -40,7 +41,7 @@ impl Utf16 {
     }
 }
 
-/// An octet string ([MS-DTYP] 2.4.4.17.5). Contracts see the list.
+/// An octet string, without its length ([MS-DTYP] 2.4.4.17.5, 2.4.10.2). Contracts see the list.
 #[derive(Debug, Drop)]
 pub struct Octets {
     octets: Vec<u8>,
@@ -70,9 +71,9 @@ impl Octets {
     }
 }
 
-/// The units in the bytes, two bytes each.
+/// The units in the bytes, two bytes each; Malformed if one has half of its bytes ([MS-DTYP] 2.4.4.17.5).
 #[tactic(auto, unfolding(crate::specs::Reading::text_read))]
-pub(crate) fn read_text(alloc: Global, bytes: &[u8]) -> Result<Utf16, Refusal>
+pub fn read_text(alloc: Global, bytes: &[u8]) -> Result<Utf16, Refusal>
     ensures { Gives result (text_read bytes.now) }
 {
     if !bytes.len().is_multiple_of(2) {
@@ -95,8 +96,8 @@ fn read_units(alloc: Global, bytes: &[u8]) -> Result<Vec<u16>, AllocError>
 }
 
 /// The bytes, as octets.
-pub(crate) fn read_octets(alloc: Global, bytes: &[u8]) -> Result<Octets, Refusal>
-    ensures { Gives result (octets_read bytes.now) }
+pub fn read_octets(alloc: Global, bytes: &[u8]) -> Result<Octets, AllocError>
+    ensures { IfOk result (λ octets. octets ≡ bytes.now) }
 {
     let octets = Vec::from_slice(alloc, bytes)?;
     Ok(Octets { octets })
@@ -104,23 +105,15 @@ pub(crate) fn read_octets(alloc: Global, bytes: &[u8]) -> Result<Octets, Refusal
 
 /// How many bytes a text takes.
 #[tactic(auto, using(crate::proofs::Lengths::length_of_text))]
-pub(crate) fn text_len(text: &Utf16) -> usize
+pub fn text_len(text: &Utf16) -> usize
     ensures exact { result ≡ length (text_bytes text.now) }
     ensures most { result < 2 ^ 63 }
 {
     2 * text.units().len()
 }
 
-/// How many bytes octets take.
-pub(crate) fn octets_len(octets: &Octets) -> usize
-    ensures exact { result ≡ length octets.now }
-    ensures most { result < 2 ^ 63 }
-{
-    octets.octets().len()
-}
-
 /// Appends the units of a text, two bytes each.
-pub(crate) fn push_text(bytes: &mut Vec<u8>, text: &Utf16) -> Result<(), AllocError>
+pub fn push_text(bytes: &mut Vec<u8>, text: &Utf16) -> Result<(), AllocError>
     ensures { OnOk result (bytes.new.items ≡ bytes.old.items ++ text_bytes text.now) }
 {
     for unit in text.units() {

@@ -1,5 +1,5 @@
 -- Parses that found something, and what is known of their steps.
-use Rattle.sd_condition.proofs.Cited.{Bool, None, Option, Some, cond, false, inl, inr, refl, true, ◌>>=◌, ◌≡◌, ◌⊎◌}
+use Rattle.sd_data.proofs.Cited.{Bool, None, Option, Some, cond, false, inl, inr, refl, true, ◌>>=◌, ◌≡◌, ◌⊎◌}
 
 pub some_is : {A : Type 0} (x y : A) → Some x ≡ Some y → x ≡ y
 some_is x y e = cc

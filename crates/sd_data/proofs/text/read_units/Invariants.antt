@@ -1,7 +1,6 @@
 -- The units so far are those at the front of the bytes, and there is room for the others.
-use Rattle.sd_condition.proofs.Cited.{length, range_with_len, u16_at, vec_capacity, vec_len, ◌*◌, ◌/◌, ◌≡◌}
-use Rattle.std.proofs.Common.{map}
-use Rattle.sd_condition.proofs.text.read_units.Given as goal
+use Rattle.sd_data.proofs.Cited.{length, map, range_with_len, u16_at, vec_capacity, vec_len, ◌*◌, ◌/◌, ◌≡◌}
+use Rattle.sd_data.proofs.text.read_units.Given as goal
 
 abbrev pub invariant-loop-k : goal.invariant-loop-k
 invariant-loop-k l =

@@ -1,6 +1,6 @@
 -- Each turn reads the next unit.
-use Rattle.sd_claim.proofs.Cited.{List, [], ap, arith, map, map-range_with_len_more, range_with_len, sym, u16_at, ℕ, ◌*◌, ◌++◌, ◌∙◌, ◌∷◌}
-use Rattle.sd_claim.proofs.text.read_text.Goals as goal
+use Rattle.sd_data.proofs.Cited.{List, [], ap, arith, map, map-range_with_len_more, range_with_len, sym, u16_at, ℕ, ◌*◌, ◌++◌, ◌∙◌, ◌∷◌}
+use Rattle.sd_data.proofs.text.read_units.Goals as goal
 
 pub loop-k-preserved : goal.loop-k-preserved
 loop-k-preserved c =

@@ -1,0 +1,5 @@
+pub mod Cited
+pub mod Found
+pub mod Loop
+pub mod Lengths
+pub mod TextsComeBack
