@@ -3,13 +3,13 @@ pub use Rattle.sd_claim.specs.Claim.{ClaimValue, claim_value}
 pub use Rattle.sd_claim.specs.Laws.{ClaimsComeBack, ClaimsFitTheirData, IsValue}
 pub use Rattle.sd_claim.specs.Reading.{at_most, claim_of, front_len, number_len, octet_string_len, part_len, room_of, text_of_part, value_at, values_read}
 pub use Rattle.sd_claim.specs.Table.{layout_of, least_len, same_type, type_number, type_of, type_read}
-pub use Rattle.sd_claim.specs.Writing.{claim_len, header_len, is_claim, is_text, is_value, is_value_of, octet_string, offsets_from, terminated, value_bytes, values_place}
+pub use Rattle.sd_claim.specs.Writing.{claim_len, header_len, is_claim, is_value, is_value_of, octet_string, offsets_from, terminated, value_bytes, values_place}
 pub use Rattle.sd_claim.specs.declared.value.Value.{Value}
 pub use Rattle.sd_claim.specs.declared.value_type.Layout.{Layout}
 pub use Rattle.sd_claim.specs.declared.value_type.ValueType.{ValueType}
 pub use Rattle.sd_data.specs.Outcome.{◌>>=◌}
 pub use Rattle.sd_data.specs.Reading.{after, i64_at, u16_at, u64_at}
-pub use Rattle.sd_data.specs.Writing.{AreUnits, padding_len, text_bytes}
+pub use Rattle.sd_data.specs.Writing.{AreUnits, has_no_zero, padding_len, text_bytes}
 pub use Rattle.sd_sid.proofs.SidWords.{words_again}
 pub use Rattle.sd_sid.specs.SidBytes.{u32_at, u32s_at}
 pub use Rattle.std.proofs.Common.{All, List, None, Option, Some, [], ap, append-nil, append_assoc, arith, drop, eq-eqb, false, inl, inr, le-ltb, length, length-append, length-drop, length-take, ltb-false, map, nat_le, nat_lt, ne_eqb, not, refl, replicate, subst, suc, sym, take, true, ℕ, ◌%◌, ◌&&◌, ◌*◌, ◌++◌, ◌+◌, ◌-◌, ◌/◌, ◌<◌, ◌==◌, ◌^◌, ◌∙◌, ◌∷◌, ◌≡◌, ◌≤◌}

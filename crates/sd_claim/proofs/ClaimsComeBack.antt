@@ -1,5 +1,5 @@
 -- A claim that is written is parsed again.
-use Rattle.sd_claim.proofs.Cited.{All, All-from_recursion, AllByRecursion, AreUnits, ClaimValue, ClaimsComeBack, IsValue, List, Some, Value, ValueType, [], and_parts, ap, append_assoc, arith, claim_len, claim_of, claim_value, false, flat_map, from_le_bytes-to_le_bytes_4, header_len, is_text, is_value, is_value_of, le-ltb, length, length-append, list_all, nat_le, nat_lt, offsets_from, padding_len, part_len, refl, replicate, room_of, same_type, slice_range, subst, sym, terminated, to_le_bytes, true, type_number, type_of, type_read, u16_at, u32_at, u32s_at, value_at, value_bytes, values_place, values_read, w16, w32, words_again, ℕ, ◌&&◌, ◌*◌, ◌++◌, ◌+◌, ◌-◌, ◌<◌, ◌^◌, ◌∙◌, ◌∷◌, ◌≡◌, ◌≤◌}
+use Rattle.sd_claim.proofs.Cited.{All, All-from_recursion, AllByRecursion, AreUnits, ClaimValue, ClaimsComeBack, IsValue, List, Some, Value, ValueType, [], and_parts, ap, append_assoc, arith, claim_len, claim_of, claim_value, false, flat_map, from_le_bytes-to_le_bytes_4, header_len, has_no_zero, is_value, is_value_of, le-ltb, length, length-append, list_all, nat_le, nat_lt, offsets_from, padding_len, part_len, refl, replicate, room_of, same_type, slice_range, subst, sym, terminated, to_le_bytes, true, type_number, type_of, type_read, u16_at, u32_at, u32s_at, value_at, value_bytes, values_place, values_read, w16, w32, words_again, ℕ, ◌&&◌, ◌*◌, ◌++◌, ◌+◌, ◌-◌, ◌<◌, ◌^◌, ◌∙◌, ◌∷◌, ◌≡◌, ◌≤◌}
 use Rattle.sd_claim.proofs.Lengths.{claim_fits, length_of_offsets}
 use Rattle.sd_claim.proofs.ValuesComeBack.{part_again, part_is, part_text_again, text_len_again, value_again}
 use Rattle.sd_claim.specs.Reading.{claim_read, header_read, name_read}
@@ -126,7 +126,7 @@ header_again first value_type flags count rest first_fits flags_fit count_fits r
 
 -- ---- claims
 
-name_again : (front name rest bytes : List ℕ) → bytes ≡ front ++ (terminated name ++ rest) → AreUnits name → is_text name ≡ true → u32_at bytes 0 ≡ length front
+name_again : (front name rest bytes : List ℕ) → bytes ≡ front ++ (terminated name ++ rest) → AreUnits name → has_no_zero name ≡ true → u32_at bytes 0 ≡ length front
     → length (terminated name) ≤ room_of bytes → name_read bytes ≡ Some (name, length (terminated name))
 unfolding name_read
 name_again front name rest bytes is are sound place fits =
@@ -148,11 +148,11 @@ from_offsets : (h o n v p : List ℕ) → (h ++ (o ++ (n ++ v))) ++ p ≡ h ++ (
 from_offsets h o n v p = simp append_assoc refl
 
 -- what a claim's test says of its name and its values
-claim_parts : (c : ClaimValue) → is_claim c ≡ true → (is_text c.name ≡ true) × (list_all (is_value_of c.value_type) c.values ≡ true)
+claim_parts : (c : ClaimValue) → is_claim c ≡ true → (has_no_zero c.name ≡ true) × (list_all (is_value_of c.value_type) c.values ≡ true)
 unfolding is_claim
 claim_parts c is =
     let fits = nat_le (length (claim_data c)) 65535 in
-    let outer = and_parts (is_text c.name) (list_all (is_value_of c.value_type) c.values && fits) is in
+    let outer = and_parts (has_no_zero c.name) (list_all (is_value_of c.value_type) c.values && fits) is in
     (outer.0, (and_parts (list_all (is_value_of c.value_type) c.values) fits outer.1).0)
 
 claim_again : (c : ClaimValue) → is_claim c ≡ true → claim_of c ≡ Some c

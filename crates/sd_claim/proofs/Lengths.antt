@@ -1,5 +1,5 @@
 -- How many bytes each part takes.
-use Rattle.sd_claim.proofs.Cited.{ClaimValue, List, Option, Some, SomeIff, Value, [], and_parts, arith, claim_len, flat_map, is_text, is_value_of, leb-true, length, length-append, length-replicate, list_all, nat_le, offsets_from, padding_len, refl, replicate, subst, terminated, text_bytes, to_le_bytes, true, value_bytes, values_place, w32, ℕ, ◌&&◌, ◌*◌, ◌++◌, ◌+◌, ◌<◌, ◌^◌, ◌∙◌, ◌∷◌, ◌≡◌, ◌≤◌}
+use Rattle.sd_claim.proofs.Cited.{ClaimValue, List, Option, Some, SomeIff, Value, [], and_parts, arith, claim_len, flat_map, has_no_zero, is_value_of, leb-true, length, length-append, length-replicate, list_all, nat_le, offsets_from, padding_len, refl, replicate, subst, terminated, text_bytes, to_le_bytes, true, value_bytes, values_place, w32, ℕ, ◌&&◌, ◌*◌, ◌++◌, ◌+◌, ◌<◌, ◌^◌, ◌∙◌, ◌∷◌, ◌≡◌, ◌≤◌}
 use Rattle.sd_data.proofs.Lengths.{known_len, length_of_text}
 use Rattle.sd_claim.specs.Writing.{claim_bytes, claim_data, is_claim}
 
@@ -29,7 +29,7 @@ pub claim_fits : (c : ClaimValue) → is_claim c ≡ true → (length (claim_dat
 unfolding is_claim
 claim_fits c is =
     let later = list_all (is_value_of c.value_type) c.values && nat_le (length (claim_data c)) 65535 in
-    let parts = and_parts (list_all (is_value_of c.value_type) c.values) (nat_le (length (claim_data c)) 65535) (and_parts (is_text c.name) later is).1 in
+    let parts = and_parts (list_all (is_value_of c.value_type) c.values) (nat_le (length (claim_data c)) 65535) (and_parts (has_no_zero c.name) later is).1 in
     let fits : length (claim_data c) ≤ 65535 = leb-true _ _ parts.1 in
     (fits, omega (arith, length_of_data c))
 

@@ -1,5 +1,5 @@
 -- What is written of a name or a value is parsed again, whatever precedes and follows it.
-use Rattle.sd_claim.proofs.Cited.{AreUnits, IsValue, Layout, List, Option, Some, Value, [], and_parts, ap, arith, cast_unsigned, drop, drop_at, false, from_le_bytes, from_le_bytes-to_le_bytes_2, from_le_bytes-to_le_bytes_4, from_le_bytes-to_le_bytes_8, front_len, is_text, is_value, layout_of, le-ltb, length, length-append, nat_lt, not, not-true, number_len, octet_string, octet_string_len, refl, slice_range, sym, take, take_at, terminated, text_bytes, text_of_part, to_le_bytes, true, type_of, u32_at, w16, w32, w64, ℕ, ◌*◌, ◌++◌, ◌+◌, ◌-◌, ◌<◌, ◌==◌, ◌>>=◌, ◌^◌, ◌∙◌, ◌∷◌, ◌≡◌, ◌≤◌}
+use Rattle.sd_claim.proofs.Cited.{AreUnits, IsValue, Layout, List, Option, Some, Value, [], and_parts, ap, arith, cast_unsigned, drop, drop_at, false, from_le_bytes, from_le_bytes-to_le_bytes_2, from_le_bytes-to_le_bytes_4, from_le_bytes-to_le_bytes_8, front_len, has_no_zero, is_value, layout_of, le-ltb, length, length-append, nat_lt, not, not-true, number_len, octet_string, octet_string_len, refl, slice_range, sym, take, take_at, terminated, text_bytes, text_of_part, to_le_bytes, true, type_of, u32_at, w16, w32, w64, ℕ, ◌*◌, ◌++◌, ◌+◌, ◌-◌, ◌<◌, ◌==◌, ◌>>=◌, ◌^◌, ◌∙◌, ◌∷◌, ◌≡◌, ◌≤◌}
 use Rattle.sd_claim.proofs.Lengths.{length_of_terminated}
 use Rattle.sd_data.proofs.TextsComeBack.{after_part, signed_again, text_again}
 use Rattle.sd_data.proofs.Lengths.{length_of_text}
@@ -27,15 +27,15 @@ no_unit : (rest : List ℕ) → terminated_len (0 ∷ 0 ∷ rest) ≡ Some 2
 unfolding terminated_len
 no_unit rest = refl
 
-units_len : (units rest : List ℕ) → AreUnits units → is_text units ≡ true → terminated_len (terminated units ++ rest) ≡ Some (2 * length units + 2)
+units_len : (units rest : List ℕ) → AreUnits units → has_no_zero units ≡ true → terminated_len (terminated units ++ rest) ≡ Some (2 * length units + 2)
 units_len [] rest are is = no_unit rest
 units_len (unit ∷ units) rest are is =
-    let parts = and_parts (not (unit == 0)) (is_text units) is in
+    let parts = and_parts (not (unit == 0)) (has_no_zero units) is in
     unit_more unit (terminated units ++ rest) are.0 (not-true (unit == 0) parts.0)
     ∙ ap (λ (len : Option ℕ). len >>= λ n. Some (2 + n)) (units_len units rest are.1 parts.1)
     ∙ ap (λ n. Some n) (omega arith)
 
-pub text_len_again : (units rest : List ℕ) → AreUnits units → is_text units ≡ true → terminated_len (terminated units ++ rest) ≡ Some (length (terminated units))
+pub text_len_again : (units rest : List ℕ) → AreUnits units → has_no_zero units ≡ true → terminated_len (terminated units ++ rest) ≡ Some (length (terminated units))
 text_len_again units rest are is = units_len units rest are is ∙ ap (λ n. Some n) (sym (length_of_terminated units))
 
 -- ---- parts

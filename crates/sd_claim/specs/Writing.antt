@@ -1,10 +1,10 @@
 -- The one written form of a claim ([MS-DTYP] 2.4.10.1): the header, the offsets of the values, the name, the values,
 -- without gaps, and zero bytes up to the next multiple of four.
-use Rattle.std.specs.Prelude.{ℕ, ◌+◌, ◌*◌, Bool, true, not, ◌&&◌, ◌==◌, nat_le, List, [], ◌∷◌, ◌++◌, length}
+use Rattle.std.specs.Prelude.{ℕ, ◌+◌, ◌*◌, Bool, true, ◌&&◌, nat_le, List, [], ◌∷◌, ◌++◌, length}
 use Rattle.std.specs.Prelude.{replicate}
 use Rattle.std.specs.Int.{w16, w32, w64, cast_unsigned, to_le_bytes}
 use Rattle.std.specs.List.{flat_map, list_all}
-use Rattle.sd_data.specs.Writing.{padding_len, text_bytes}
+use Rattle.sd_data.specs.Writing.{has_no_zero, padding_len, text_bytes}
 use Rattle.sd_claim.specs.Claim.{ClaimValue}
 use Rattle.sd_claim.specs.Table.{same_type, type_number, type_of}
 use Rattle.sd_claim.specs.declared.value.Value.{Value}
@@ -64,14 +64,10 @@ claim_data c = claim_bytes c ++ replicate (padding_len (length (claim_bytes c)))
 
 -- ---- which values are a claim
 
--- no unit is zero, which would end the text
-abbrev pub is_text : List ℕ → Bool
-is_text units = list_all (λ unit. not (unit == 0)) units
-
 abbrev pub is_value : Value → Bool
 is_value (values.Integer number) = true
 is_value (values.Unsigned number) = true
-is_value (values.Text text) = is_text text
+is_value (values.Text text) = has_no_zero text
 is_value (values.Sid octets) = true
 is_value (values.Boolean number) = true
 is_value (values.Octets octets) = true
@@ -83,4 +79,5 @@ is_value_of value_type v = same_type (type_of v) value_type && is_value v
 -- each value is of the type, no text has a zero in it, and the data has at most 65,535 bytes: the size of an entry has
 -- 16 bits (2.4.4.1)
 unfoldable pub is_claim : ClaimValue → Bool
-is_claim c = is_text c.name && (list_all (is_value_of c.value_type) c.values && nat_le (length (claim_data c)) 65535)
+is_claim c =
+    has_no_zero c.name && (list_all (is_value_of c.value_type) c.values && nat_le (length (claim_data c)) 65535)

@@ -15,13 +15,15 @@ ghost use Rattle.sd_data.specs.Writing.{padding_len};
 ghost use Rattle.sd_data.specs.declared.refusal.Refusal.TheVariants.{Memory};
 
 use crate::part::read_part_len;
-use crate::text::{is_text, push_terminated, read_text_part, terminated_len};
+use crate::text::{push_terminated, read_text_part, terminated_len};
 use crate::value::Value;
 use crate::value_type::{Layout, ValueType};
 use crate::values::{
     HEADER_BYTES, OFFSET_BYTES, are_values_of, push_offsets, push_values, read_values, values_len,
 };
-use sd_data::{Refusal, Utf16, padding_len, push_padding, push_u16, push_u32, read_u16, read_u32};
+use sd_data::{
+    Refusal, Utf16, has_no_zero, padding_len, push_padding, push_u16, push_u32, read_u16, read_u32,
+};
 use std::alloc::{AllocError, Global};
 use std::marker::Model;
 
@@ -73,7 +75,10 @@ impl Claim {
     pub fn new(name: Utf16, flags: u32, value_type: ValueType, values: Vec<Value>) -> Option<Claim>
         ensures { result ≡ claim_of (claim_value name flags value_type values.items) }
     {
-        if is_text(&name) && are_values_of(value_type, &values) && fits_an_entry(&name, &values) {
+        if has_no_zero(name.units())
+            && are_values_of(value_type, &values)
+            && fits_an_entry(&name, &values)
+        {
             return Some(Claim {
                 name,
                 flags,

@@ -4,7 +4,7 @@ ghost use Rattle.std.specs.Prelude.{◌≡◌, ◌+◌, ◌*◌, ◌^◌, ◌<�
 ghost use Rattle.sd_data.specs.Outcome.{Gives};
 ghost use Rattle.sd_claim.specs.Reading.{text_of_part};
 ghost use Rattle.sd_data.specs.Reading.{text_read};
-ghost use Rattle.sd_claim.specs.Writing.{is_text, terminated};
+ghost use Rattle.sd_claim.specs.Writing.{terminated};
 ghost use Rattle.sd_data.specs.Writing.{text_bytes};
 
 use sd_data::{Refusal, Utf16, push_text, push_u16, read_text, text_len};
@@ -19,13 +19,6 @@ pub(crate) fn read_text_part(alloc: Global, part: &[u8]) -> Result<Utf16, Refusa
     ensures { Gives result (text_of_part part.now) }
 {
     read_text(alloc, &part[..part.len() - TERMINATOR_BYTES])
-}
-
-/// Whether no unit is zero.
-pub(crate) fn is_text(text: &Utf16) -> bool
-    ensures { result ≡ is_text text.now }
-{
-    text.units().iter().all(|unit| *unit != 0)
 }
 
 /// How many bytes a text takes, with the zero unit that ends it.

@@ -9,10 +9,11 @@ ghost use Rattle.sd_claim.specs.Table.{layout_of, least_len, type_of};
 ghost use Rattle.sd_claim.specs.Writing.{is_value, is_value_of, octet_string, value_bytes};
 
 use crate::part::{LENGTH_BYTES, NUMBER_BYTES, read_part_len};
-use crate::text::{is_text, push_terminated, read_text_part, terminated_len};
+use crate::text::{push_terminated, read_text_part, terminated_len};
 use crate::value_type::ValueType;
 use sd_data::{
-    Octets, Refusal, Utf16, push_i64, push_u32, push_u64, read_i64, read_octets, read_u64,
+    Octets, Refusal, Utf16, has_no_zero, push_i64, push_u32, push_u64, read_i64, read_octets,
+    read_u64,
 };
 use std::alloc::{AllocError, Global};
 
@@ -57,7 +58,7 @@ fn is_value(value: &Value) -> bool
     ensures { result ≡ is_value value.now }
 {
     match value {
-        Value::Text(text) => is_text(text),
+        Value::Text(text) => has_no_zero(text.units()),
         _ => true,
     }
 }

@@ -6,7 +6,8 @@ use Rattle.std.specs.List.{list_all}
 use Rattle.std.proofs.lemmas.Bool.{and_parts}
 use Rattle.sd_claim.specs.Claim.{ClaimValue}
 use Rattle.sd_claim.specs.Laws.{IsClaim}
-use Rattle.sd_claim.specs.Writing.{claim_data, is_claim, is_text, is_value_of}
+use Rattle.sd_claim.specs.Writing.{claim_data, is_claim, is_value_of}
+use Rattle.sd_data.specs.Writing.{has_no_zero}
 use Rattle.sd_claim.specs.declared.value_type.ValueType.{ValueType}
 use Rattle.sd_claim.specs.declared.value_type.ValueType.TheVariants as types
 use Rattle.std.specs.Prelude.{length}
@@ -43,7 +44,7 @@ pub record HasParts (c : ClaimValue) (text : List ℕ) : Type 0 where
 
 put_together : (a b c d e whole name last kind values_end text end : List ℕ) → codes "(" ≡ a → a ++ b ≡ whole → name ++ last ≡ b → kind ≡ c → c ++ d ≡ last → values_end ++ end ≡ d → codes ")" ≡ end → whole ≡ text
     → 40 ∷ (name ++ (kind ++ (values_end ++ 41 ∷ []))) ≡ text
-put_together a b c d e whole name last kind values_end text end is_a is_whole is_b is_c is_last is_d is_end is_text =
+put_together a b c d e whole name last kind values_end text end is_a is_whole is_b is_c is_last is_d is_end has_no_zero =
     ap (λ (l : List ℕ). 40 ∷ (name ++ (kind ++ (values_end ++ l)))) is_end
     ∙ ap (λ (l : List ℕ). 40 ∷ (name ++ (kind ++ l))) is_d
     ∙ ap (λ (l : List ℕ). 40 ∷ (name ++ (l ++ d))) is_c
@@ -51,7 +52,7 @@ put_together a b c d e whole name last kind values_end text end is_a is_whole is
     ∙ ap (λ (l : List ℕ). 40 ∷ l) is_b
     ∙ ap (λ (l : List ℕ). l ++ b) is_a
     ∙ is_whole
-    ∙ is_text
+    ∙ has_no_zero
 
 parts_of : (c : ClaimValue) (text : List ℕ) → claim_text c ≡ Some text → HasParts c text
 unfolding claim_text
@@ -82,7 +83,7 @@ claim_read : (known : Aliases) (c : ClaimValue) (name vs rest : List ℕ) → Is
     → claim_found known (40 ∷ (name ++ (44 ∷ (type_word c.value_type ++ (44 ∷ 48 ∷ 120 ∷ (hex c.flags ++ (vs ++ 41 ∷ rest))))))) ≡ Ok (c, rest)
 unfolding claim_found is_claim
 claim_read known c name vs rest is is_name are_values =
-    let tests = and_parts (is_text c.name) (list_all (is_value_of c.value_type) c.values && nat_le (length (claim_data c)) 65535) is.is in
+    let tests = and_parts (has_no_zero c.name) (list_all (is_value_of c.value_type) c.values && nat_le (length (claim_data c)) 65535) is.is in
     let inner = and_parts (list_all (is_value_of c.value_type) c.values) (nat_le (length (claim_data c)) 65535) tests.1 in
     let behind_flags = vs ++ 41 ∷ rest in
     let flags = 44 ∷ 48 ∷ 120 ∷ (hex c.flags ++ behind_flags) in

@@ -1,5 +1,4 @@
 pub mod Tried
-pub mod Units
 pub mod Quoted
 pub mod Closing
 pub mod Numbers

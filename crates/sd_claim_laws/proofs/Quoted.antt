@@ -11,10 +11,10 @@ use Rattle.sd_text.proofs.Parts.{chosen}
 use Rattle.std.proofs.lemmas.List.Sums.{position_or_len_is}
 use Rattle.std.proofs.lemmas.Str.{NoCharPasses-byte, chars-encodes, is_utf8-from_IsUtf8}
 use Rattle.sd_data.specs.Writing.{AreUnits}
-use Rattle.sd_condition_text.specs.Value.{is_unquotable}
+use Rattle.sd_condition_text.specs.Value.{is_unquotable, quoted_text}
 use Rattle.sd_claim_text.specs.Utf16.{utf16_found}
-use Rattle.sd_claim_text.specs.Value.{ends_text, quoted_found, quoted_text}
-use Rattle.sd_claim_laws.proofs.Units.{AreSpelled, spelled}
+use Rattle.sd_claim_text.specs.Value.{ends_text, quoted_found}
+use Rattle.sd_condition_text.proofs.Units.{AreSpelled, spelled}
 
 -- no byte of the characters ends the text
 no_end : (units cs : List ℕ) (i : ℕ) → AreSpelled units cs → i < length (encode_utf8_all cs) → ends_text (get_or (encode_utf8_all cs) i 0) ≡ false

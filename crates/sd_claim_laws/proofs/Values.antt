@@ -6,7 +6,7 @@ use Rattle.std.specs.Fmt.{decimal, signed_decimal, ◌++?◌}
 use Rattle.std.specs.Char.Utf16.{has_unpaired_surrogate, utf16_lossy_chars}
 use Rattle.std.specs.List.{AllByRecursion, list_all, list_any}
 use Rattle.std.specs.Str.{encode_utf8_all}
-use Rattle.sd_condition_text.specs.Value.{is_unquotable}
+use Rattle.sd_condition_text.specs.Value.{is_unquotable, quoted_text}
 use Rattle.std.specs.Option.{option_map}
 use Rattle.std.specs.Str.Parse.{IsNumeral}
 use Rattle.std.proofs.lemmas.Bool.{and_parts, eqb-true, leb-true}
@@ -33,7 +33,7 @@ use Rattle.sd_text.specs.Grammar.{Name, begins}
 use Rattle.sd_text.specs.declared.alias.Aliases.{Aliases}
 use Rattle.sd_claim_text.specs.Parser.{parts_found}
 use Rattle.sd_claim_text.specs.Text.{values_text}
-use Rattle.sd_claim_text.specs.Value.{after_space, further_found, is_space, octets_text, quoted_text, sid_of, value_found, value_text, values_found}
+use Rattle.sd_claim_text.specs.Value.{after_space, further_found, is_space, octets_text, sid_of, value_found, value_text, values_found}
 use Rattle.sd_claim_laws.proofs.Closing.{Closing, closed, comma, parenthesis}
 use Rattle.sd_claim_laws.proofs.Numbers.{integer_read, unsigned_read}
 use Rattle.sd_claim_laws.proofs.Octets.{is_digit, octets_read}

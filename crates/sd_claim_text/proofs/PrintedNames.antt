@@ -9,9 +9,10 @@ use Rattle.std.specs.Char.Escape.{hex_digit_at}
 use Rattle.std.specs.List.{flat_map}
 use Rattle.std.specs.Prelude.{Bool, not, ◌==◌}
 use Rattle.sd_data.specs.Writing.{AreUnits}
-use Rattle.sd_claim.specs.Writing.{is_text}
+use Rattle.sd_data.specs.Writing.{has_no_zero}
 use Rattle.sd_text.proofs.Parts.{found, went}
-use Rattle.sd_claim_text.specs.Name.{escaped_unit, hex_digit, is_literal, is_name, is_within, name_found, name_text, part_found, unit_text}
+use Rattle.sd_claim_text.specs.Name.{escaped_unit, hex_digit, is_name, is_within, name_found, name_text, part_found}
+use Rattle.sd_condition_text.specs.Attribute.{is_literal, unit_text}
 use Rattle.sd_claim_text.specs.Laws.{NamesComeBack}
 use Rattle.sd_claim_text.specs.Parser.{mapped, parts_found}
 
@@ -59,7 +60,7 @@ text_some unit = elim (went (is_literal unit)) [
   | inr h ↦ rw h (omega arith)
 ]
 
-units_read : (units done tail : List ℕ) (n : ℕ) → AreUnits units → is_text units ≡ true → length (flat_map unit_text units ++ 0x22 ∷ tail) ≤ n
+units_read : (units done tail : List ℕ) (n : ℕ) → AreUnits units → has_no_zero units ≡ true → length (flat_map unit_text units ++ 0x22 ∷ tail) ≤ n
     → parts_found is_within (λ before there. mapped (λ more. before ++ more) (part_found there)) n done (flat_map unit_text units ++ 0x22 ∷ tail) ≡ Ok (done ++ units, 0x22 ∷ tail)
 units_read [] done tail zero are text enough = absurd (omega arith)
 units_read [] done tail (suc n) are text enough = rw (append-nil done, ends_at tail) refl
@@ -71,7 +72,7 @@ units_read (unit ∷ units) done tail zero are text enough =
     omega (arith, some, both, whole, enough)
     )
 units_read (unit ∷ units) done tail (suc n) are text enough =
-    let parts = and_parts (not (unit == 0)) (is_text units) text in
+    let parts = and_parts (not (unit == 0)) (has_no_zero units) text in
     let reads = unit_reads unit are.0 (not_zero_unit unit parts.0) in
     let rest = flat_map unit_text units ++ 0x22 ∷ tail in
     let regroup = append_assoc (unit_text unit) (flat_map unit_text units) (0x22 ∷ tail) in
@@ -82,7 +83,7 @@ units_read (unit ∷ units) done tail (suc n) are text enough =
     rw (regroup, reads.within rest, reads.read rest)
     (units_read units (done ++ unit ∷ []) tail n are.1 parts.1 fewer ∙ ap (λ (xs : List ℕ). found xs (0x22 ∷ tail)) (append_assoc done (unit ∷ []) units))
 
-name_read : (name rest : List ℕ) → AreUnits name → is_text name ≡ true → is_name name ≡ true → name_found (0x22 ∷ (flat_map unit_text name ++ 0x22 ∷ []) ++ rest) ≡ Ok (name, rest)
+name_read : (name rest : List ℕ) → AreUnits name → has_no_zero name ≡ true → is_name name ≡ true → name_found (0x22 ∷ (flat_map unit_text name ++ 0x22 ∷ []) ++ rest) ≡ Ok (name, rest)
 unfolding name_found
 name_read name rest are text is =
     let regroup = append_assoc (flat_map unit_text name) (0x22 ∷ []) rest in

@@ -1,34 +1,17 @@
 -- The name in a claim's text ([MS-DTYP] 2.5.1.1, attribute-data).
-use Rattle.std.specs.Prelude.{ℕ, ◌+◌, ◌*◌, Bool, not, ◌&&◌, ◌==◌, nat_le, nat_lt, List, [], ◌∷◌, ◌++◌, length}
+use Rattle.std.specs.Prelude.{ℕ, ◌+◌, ◌*◌, Bool, not, ◌&&◌, ◌==◌, nat_lt, List, [], ◌∷◌, ◌++◌, length}
 use Rattle.std.specs.Prelude.{take, drop, Option, Some, None, Ok, Err, if◌then◌else◌}
 use Rattle.std.specs.Char.{digit_value}
-use Rattle.std.specs.Char.Escape.{hex_digit_at}
 use Rattle.std.specs.Char.Utf16.{has_unpaired_surrogate}
-use Rattle.std.specs.List.{flat_map, list_any}
+use Rattle.std.specs.List.{flat_map}
 use Rattle.sd_text.specs.Finding.{Found}
 use Rattle.sd_text.specs.Grammar.{begins}
 use Rattle.sd_text.specs.declared.fault.TextFault.TheVariants.{Syntax}
+use Rattle.sd_condition_text.specs.Attribute.{is_literal, unit_text}
 use Rattle.sd_claim_text.specs.Parser.{Reads, ◌>>=◌, gives, letters_found, mapped, parts_found}
 use Rattle.sd_claim_text.specs.Utf16.{utf16_found}
 
 -- ---- as it is printed
-
--- the marks that stand in a name only as an escape: `!"%&()<=>|`
-abbrev pub is_escaped_mark : ℕ → Bool
-is_escaped_mark unit = list_any (λ mark. mark == unit)
-    (0x21 ∷ 0x22 ∷ 0x25 ∷ 0x26 ∷ 0x28 ∷ 0x29 ∷ 0x3c ∷ 0x3d ∷ 0x3e ∷ 0x7c ∷ [])
-
--- a visible character of ASCII but those marks (attr-char2)
-abbrev pub is_literal : ℕ → Bool
-is_literal unit = nat_le 0x21 unit && nat_le unit 0x7e && not (is_escaped_mark unit)
-
--- a percent sign and four hexadecimal digits (lit-char)
-abbrev pub escape : ℕ → List ℕ
-escape unit = 0x25 ∷ hex_digit_at 0x1000 unit ∷ hex_digit_at 0x100 unit ∷ hex_digit_at 0x10 unit ∷ hex_digit_at 1 unit
-    ∷ []
-
-abbrev pub unit_text : ℕ → List ℕ
-unit_text unit = if is_literal unit then unit ∷ [] else escape unit
 
 -- a name isn't empty, and is UTF-16
 abbrev pub is_name : List ℕ → Bool

@@ -1,11 +1,9 @@
 -- Values in a claim's text ([MS-DTYP] 2.5.1.1, TI-attr to TB-attr).
-use Rattle.std.specs.Prelude.{ℕ, ◌^◌, ◌-◌, Bool, not, ◌&&◌, ◌||◌, ◌==◌, nat_le, List, [], ◌∷◌, ◌++◌, length, take}
+use Rattle.std.specs.Prelude.{ℕ, ◌^◌, ◌-◌, Bool, ◌&&◌, ◌||◌, ◌==◌, nat_le, List, [], ◌∷◌, ◌++◌, length, take}
 use Rattle.std.specs.Prelude.{drop, Option, Some, None, Result, Ok, Err, codes, if◌then◌else◌}
-use Rattle.std.specs.Char.Utf16.{has_unpaired_surrogate, utf16_lossy_chars}
 use Rattle.std.specs.Fmt.{decimal, signed_decimal}
-use Rattle.std.specs.List.{list_any}
 use Rattle.std.specs.Option.{option_map}
-use Rattle.std.specs.Str.{bytes_eq, encode_utf8_all}
+use Rattle.std.specs.Str.{bytes_eq}
 use Rattle.hex.specs.Hex.{decode_of, encode_upper}
 use Rattle.hex.specs.declared.error.FromHexError.{FromHexError}
 use Rattle.sd_sid.specs.Sid.{SidValue}
@@ -20,19 +18,14 @@ use Rattle.sd_text.specs.Grammar.{begins, begins_digit}
 use Rattle.sd_text.specs.Sid.{sid}
 use Rattle.sd_text.specs.declared.alias.Aliases.{Aliases}
 use Rattle.sd_text.specs.declared.fault.TextFault.TheVariants.{Syntax}
-use Rattle.sd_condition_text.specs.Value.{is_unquotable}
+use Rattle.sd_condition_text.specs.Value.{quoted_text}
 use Rattle.sd_claim_text.specs.Number.{integer_found, unsigned_found}
 use Rattle.sd_claim_text.specs.Parser.{Reads, ◌>>=◌, gives, letters_found, mapped, parts_found}
 use Rattle.sd_claim_text.specs.Utf16.{utf16_found}
 
--- ---- texts (char-string): between quotes, which therefore are no part of one; a printed one stays in a line
+-- ---- texts (char-string): between quotes, which therefore are no part of one; nor is a zero, which would end the text
+-- in the claim's data
 
-unfoldable pub quoted_text : List ℕ → Option (List ℕ)
-quoted_text units =
-    if not (has_unpaired_surrogate units) && not (list_any is_unquotable units)
-    then Some (0x22 ∷ (encode_utf8_all (utf16_lossy_chars units) ++ 0x22 ∷ [])) else None
-
--- nor is a zero, which would end the text in the claim's data
 abbrev pub ends_text : ℕ → Bool
 ends_text byte = byte == 0x22 || byte == 0
 

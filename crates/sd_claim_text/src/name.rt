@@ -2,24 +2,21 @@
 
 ghost use Rattle.std.specs.Prelude.{◌≡◌, ◌<◌, ◌≤◌, ◌/◌, ◌%◌, [], ◌∷◌, ◌++◌, Some, None, IfOk, IfSome, OnOk};
 ghost use Rattle.std.specs.Prelude.{length, nat_lt, string_bytes, if◌then◌else◌};
-ghost use Rattle.std.specs.Char.{digit_char};
 ghost use Rattle.std.specs.Char.Utf16.{has_unpaired_surrogate};
 ghost use Rattle.std.specs.Fmt.{◌++?◌};
-ghost use Rattle.std.specs.List.{flat_map, position_or_len};
+ghost use Rattle.std.specs.List.{position_or_len};
 ghost use Rattle.sd_text.specs.Finding.{Gives};
-ghost use Rattle.sd_claim_text.specs.Name.{escape, escape_found, escaped_unit, hex_digit, is_literal, is_name};
-ghost use Rattle.sd_claim_text.specs.Name.{is_within, name_found, name_text, part_found, unit_text, units_found};
+ghost use Rattle.sd_claim_text.specs.Name.{escape_found, escaped_unit, hex_digit, is_name};
+ghost use Rattle.sd_claim_text.specs.Name.{is_within, name_found, name_text, part_found, units_found};
 ghost use Rattle.sd_claim_text.specs.Outcome.{GivesOrMemory};
 ghost use Rattle.sd_claim_text.specs.Parser.{mapped};
 
 use crate::error::ClaimError;
 use crate::utf16::parse_utf16;
+use sd_condition_text::{is_literal, push_escaped};
 use sd_data::Utf16;
 use sd_text::{Cursor, TextFault};
 use std::alloc::{AllocError, Global};
-
-/// The marks that stand in a name only as an escape: `!"%&()<=>|` ([MS-DTYP] 2.5.1.1, attr-char2).
-const ESCAPED_MARKS: [u16; 10] = [0x21, 0x22, 0x25, 0x26, 0x28, 0x29, 0x3c, 0x3d, 0x3e, 0x7c];
 
 /// The length of an escape: a percent sign and four hexadecimal digits ([MS-DTYP] 2.5.1.1, lit-char).
 const ESCAPE_BYTES: usize = 5;
@@ -34,7 +31,7 @@ pub(crate) fn write_name(alloc: Global, out: &mut String, name: &[u16]) -> Resul
         return Ok(false);
     }
     out.push_str("\"")?;
-    push_units(out, name)?;
+    push_escaped(out, name)?;
     out.push_str("\"")?;
     Ok(true)
 }
@@ -48,52 +45,6 @@ fn is_name(alloc: Global, name: &[u16]) -> Result<bool, AllocError>
     }
     let read = String::from_utf16(alloc, name)?;
     Ok(read.is_ok())
-}
-
-/// Appends the units of a name.
-fn push_units(out: &mut String, name: &[u16]) -> Result<(), AllocError>
-    ensures { OnOk result (string_bytes out.new ≡ string_bytes out.old ++ flat_map unit_text name.now) }
-{
-    for unit in name {
-        push_unit(out, *unit)?;
-    }
-    Ok(())
-}
-
-/// Appends a unit, as it is or by its escape.
-fn push_unit(out: &mut String, unit: u16) -> Result<(), AllocError>
-    ensures { OnOk result (string_bytes out.new ≡ string_bytes out.old ++ unit_text unit) }
-{
-    if is_literal(unit) {
-        out.push(char::from(unit as u8))
-    } else {
-        push_escape(out, unit)
-    }
-}
-
-/// Whether it is a visible character of ASCII, and needs no escape.
-fn is_literal(unit: u16) -> bool
-    ensures { result ≡ is_literal unit }
-{
-    0x21 <= unit && unit <= 0x7e && !ESCAPED_MARKS.contains(&unit)
-}
-
-/// Appends a percent sign and four hexadecimal digits ([MS-DTYP] 2.5.1.1, lit-char).
-fn push_escape(out: &mut String, unit: u16) -> Result<(), AllocError>
-    ensures { OnOk result (string_bytes out.new ≡ string_bytes out.old ++ escape unit) }
-{
-    out.push('%')?;
-    push_hex_digit(out, unit / 0x1000 % 16)?;
-    push_hex_digit(out, unit / 0x100 % 16)?;
-    push_hex_digit(out, unit / 0x10 % 16)?;
-    push_hex_digit(out, unit % 16)
-}
-
-fn push_hex_digit(out: &mut String, digit: u16) -> Result<(), AllocError>
-    requires { digit < 16 }
-    ensures { OnOk result (string_bytes out.new ≡ string_bytes out.old ++ digit_char digit ∷ []) }
-{
-    out.push(char::from_digit(u32::from(digit), 16).unwrap())
 }
 
 /// A name between quotes.

@@ -1,17 +1,17 @@
 //! Texts in UTF-8 as units of UTF-16.
 
-ghost use Rattle.std.specs.Prelude.{◌≡◌, ◌+◌, ◌++◌, ◌≤◌, length, OnOk};
+ghost use Rattle.std.specs.Prelude.{◌+◌, ◌++◌, ◌≤◌, length, OnOk};
 ghost use Rattle.sd_claim_text.specs.Outcome.{GivesOrMemory};
 ghost use Rattle.sd_claim_text.specs.Parser.{mapped};
-ghost use Rattle.sd_claim_text.specs.Utf16.{utf16_front, utf16_of};
+ghost use Rattle.sd_claim_text.specs.Utf16.{utf16_front};
 
 use crate::error::ClaimError;
+use sd_data::push_utf16;
 use sd_text::{Cursor, TextFault};
-use std::alloc::AllocError;
 use std::str::from_utf8;
 
 /// Consumes so many bytes and appends their units. They are no text in UTF-8: a fault, and nothing is consumed.
-#[tactic(auto, using(crate::proofs::Utf8::is_text, crate::proofs::Utf8::is_no_text))]
+#[tactic(auto, using(sd_data::proofs::Utf8::is_utf8_text, sd_data::proofs::Utf8::is_no_utf8_text))]
 pub(crate) fn parse_utf16(
     cursor: &mut Cursor<'_>,
     len: usize,
@@ -29,15 +29,5 @@ pub(crate) fn parse_utf16(
     };
     push_utf16(units, text)?;
     cursor.rest = rest;
-    Ok(())
-}
-
-/// Appends the units of a text.
-fn push_utf16(units: &mut Vec<u16>, text: &str) -> Result<(), AllocError>
-    ensures { OnOk result (units.new.items ≡ units.old.items ++ utf16_of text.now) }
-{
-    for c in text.chars() {
-        units.extend_from_slice(c.encode_utf16(&mut [0; 2]))?;
-    }
     Ok(())
 }

@@ -9,10 +9,11 @@ ghost use Rattle.sd_claim_text.specs.Value.{further_found, value_found, value_te
 use crate::error::ClaimError;
 use crate::number::{parse_integer, parse_unsigned};
 use crate::octets::{parse_octets, write_octets};
-use crate::quoted::{parse_quoted, write_quoted};
+use crate::quoted::parse_quoted;
 use crate::sid::{parse_full_sid, write_sid_of};
 use crate::space::skip_space;
 use sd_claim::{Value, ValueType};
+use sd_condition_text::print_quoted;
 use sd_text::{Aliases, Cursor};
 use std::alloc::{AllocError, Global};
 
@@ -49,7 +50,13 @@ fn write_value(alloc: Global, out: &mut String, value: &Value) -> Result<bool, A
             write!(out, "{number}")?;
             Ok(true)
         }
-        Value::Text(text) => write_quoted(alloc, out, text.units()),
+        Value::Text(text) => {
+            let Some(quoted) = print_quoted(alloc, text.units())? else {
+                return Ok(false);
+            };
+            out.push_str(quoted.as_str())?;
+            Ok(true)
+        }
         Value::Sid(octets) => write_sid_of(alloc, out, octets.octets()),
         Value::Boolean(number) => {
             if *number > 1 {

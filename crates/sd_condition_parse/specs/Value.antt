@@ -1,8 +1,6 @@
 -- Values in a condition's text ([MS-DTYP] 2.5.1.1, value and value-array).
 use Rattle.std.specs.Prelude.{ℕ, Bool, true, false, List, [], ◌∷◌, ◌++◌, codes, Result, Ok, Err, if◌then◌else◌}
-use Rattle.std.specs.Char.Escape.{encode_utf16}
-use Rattle.std.specs.List.{flat_map}
-use Rattle.std.specs.Str.{chars, is_utf8}
+use Rattle.std.specs.Str.{is_utf8}
 use Rattle.hex.specs.Hex.{decode_of}
 use Rattle.hex.specs.declared.error.FromHexError.{FromHexError}
 use Rattle.sd_sid.specs.Sid.{SidValue}
@@ -11,6 +9,7 @@ use Rattle.sd_text.specs.Grammar.{begins, word}
 use Rattle.sd_text.specs.Sid.{sid}
 use Rattle.sd_text.specs.declared.alias.Aliases.{Aliases}
 use Rattle.sd_text.specs.declared.fault.TextFault.TheVariants.{Syntax}
+use Rattle.sd_data.specs.Reading.{utf16_of}
 use Rattle.sd_condition.specs.declared.value.Value.{Value}
 use Rattle.sd_condition.specs.declared.value.Value.TheVariants as values
 use Rattle.sd_condition_parse.specs.Integer.{integer}
@@ -22,12 +21,9 @@ use Rattle.sd_condition_parse.specs.declared.value.Item.TheVariants.{Any, OnlySi
 
 -- ---- texts (string-value): what is between quotes, which have no escape
 
-abbrev pub utf16_units : List ℕ → List ℕ
-utf16_units bytes = flat_map encode_utf16 (chars bytes)
-
 abbrev pub unquoted : Parser (List ℕ)
 unquoted text = behind_part (run Unquoted text)
-    (λ bytes rest. if is_utf8 bytes then Ok (utf16_units bytes, rest) else Err (Syntax, text))
+    (λ bytes rest. if is_utf8 bytes then Ok (utf16_of bytes, rest) else Err (Syntax, text))
 
 unfoldable pub quoted : Parser (List ℕ)
 quoted = do

@@ -11,6 +11,7 @@ ghost use Rattle.sd_condition_text.specs.Attribute.{is_literal, is_text};
 use crate::error::ConditionError;
 use crate::run::{Class, is_digit, run_len, take_run};
 use sd_condition::{Attribute, Scope};
+use sd_condition_text::{is_literal, is_text};
 use sd_data::Utf16;
 use sd_text::{Cursor, TextFault};
 use std::alloc::{AllocError, Global};
@@ -106,22 +107,6 @@ fn parse_name(alloc: Global, cursor: &mut Cursor<'_>) -> Result<Utf16, Condition
     Ok(Utf16::new(units))
 }
 
-/// Whether the units are UTF-16, of which none is zero.
-fn is_text(alloc: Global, units: &[u16]) -> Result<bool, AllocError>
-    ensures { IfOk result (λ is. is ≡ is_text units.now) }
-{
-    match String::from_utf16(alloc, units)? {
-        Ok(_) => Ok(has_no_zero(units)),
-        Err(_) => Ok(false),
-    }
-}
-
-fn has_no_zero(units: &[u16]) -> bool
-    ensures { result ≡ list_all (λ unit. not (unit == 0)) units.now }
-{
-    units.iter().all(|unit| *unit != 0)
-}
-
 /// The units of a name.
 fn parse_units(alloc: Global, cursor: &mut Cursor<'_>) -> Result<Vec<u16>, ConditionError>
     ensures units { GivesAs (λ units. units.items) result cursor.new.rest.now (units cursor.old.rest.now) }
@@ -140,7 +125,7 @@ fn push_unit(cursor: &mut Cursor<'_>, units: &mut Vec<u16>) -> Result<bool, Cond
     ensures within { OnOk result (length cursor.new.rest.now ≤ length cursor.old.rest.now) }
 {
     match cursor.rest {
-        [byte, rest @ ..] if is_literal(*byte) => {
+        [byte, rest @ ..] if is_literal(u16::from(*byte)) => {
             units.push(u16::from(*byte))?;
             cursor.rest = rest;
             Ok(true)
@@ -152,17 +137,6 @@ fn push_unit(cursor: &mut Cursor<'_>, units: &mut Vec<u16>) -> Result<bool, Cond
         }
         _ => Ok(false),
     }
-}
-
-/// Whether it is a visible character of ASCII, and needs no escape ([MS-DTYP] 2.5.1.1, attr-char2).
-fn is_literal(byte: u8) -> bool
-    ensures { result ≡ is_literal byte }
-{
-    matches!(byte, 0x21..=0x7e)
-        && !matches!(
-            byte,
-            b'!' | b'"' | b'%' | b'&' | b'(' | b')' | b'<' | b'=' | b'>' | b'|'
-        )
 }
 
 /// An escape: a percent sign and four hexadecimal digits ([MS-DTYP] 2.5.1.1, lit-char). There is none of zero.

@@ -3,14 +3,14 @@
 ghost use Rattle.std.specs.Prelude.{◌≡◌, ◌≤◌, ◌<◌, [], length, IfOk, OnOk};
 ghost use Rattle.sd_condition_parse.specs.Outcome.{Gives, GivesAs, steps};
 ghost use Rattle.sd_condition_parse.specs.Value.{item, item_end, item_step, list, literal_sid, octets, quoted};
-ghost use Rattle.sd_condition_parse.specs.Value.{unquoted, utf16_units, value};
+ghost use Rattle.sd_condition_parse.specs.Value.{unquoted, value};
 
 use crate::error::ConditionError;
 use crate::integer::parse_integer;
 use crate::run::{Class, run_len, skip_space, take_run};
 use hex::FromHexError;
 use sd_condition::{Value, ValueList};
-use sd_data::{Octets, Utf16};
+use sd_data::{Octets, Utf16, push_utf16};
 use sd_sid::Sid;
 use sd_text::{Aliases, Cursor, TextFault};
 use std::alloc::{AllocError, Global};
@@ -64,6 +64,7 @@ fn parse_quoted(alloc: Global, cursor: &mut Cursor<'_>) -> Result<Utf16, Conditi
 }
 
 /// What is between quotes.
+#[tactic(auto, using(sd_data::proofs::Utf8::is_utf8_text, sd_data::proofs::Utf8::is_no_utf8_text))]
 fn parse_unquoted(alloc: Global, cursor: &mut Cursor<'_>) -> Result<Utf16, ConditionError>
     ensures unquoted { Gives result cursor.new.rest.now (unquoted cursor.old.rest.now) }
     ensures within { OnOk result (length cursor.new.rest.now ≤ length cursor.old.rest.now) }
@@ -72,7 +73,8 @@ fn parse_unquoted(alloc: Global, cursor: &mut Cursor<'_>) -> Result<Utf16, Condi
     let bytes = take_run(cursor, Class::Unquoted);
     match from_utf8(bytes) {
         Ok(text) => {
-            let units = utf16_units(alloc, text)?;
+            let mut units = Vec::new(alloc);
+            push_utf16(&mut units, text)?;
             Ok(Utf16::new(units))
         }
         Err(_) => {
@@ -80,18 +82,6 @@ fn parse_unquoted(alloc: Global, cursor: &mut Cursor<'_>) -> Result<Utf16, Condi
             Err(ConditionError::Fault(TextFault::Syntax))
         }
     }
-}
-
-/// A text's units in UTF-16.
-fn utf16_units(alloc: Global, text: &str) -> Result<Vec<u16>, AllocError>
-    ensures { IfOk result (λ units. units.items ≡ utf16_units text.now) }
-{
-    let mut units = Vec::new(alloc);
-    for c in text.chars() {
-        let mut pair = [0; 2];
-        units.extend_from_slice(c.encode_utf16(&mut pair))?;
-    }
-    Ok(units)
 }
 
 /// Octets in hexadecimal digits ([MS-DTYP] 2.5.1.1, octet-string-value).

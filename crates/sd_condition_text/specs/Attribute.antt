@@ -1,17 +1,18 @@
 -- The names of attributes in a condition's text ([MS-DTYP] 2.5.1.1, attr-name).
-use Rattle.std.specs.Prelude.{ℕ, ◌-◌, Bool, false, not, ◌&&◌, ◌||◌, ◌==◌, nat_le, List, [], ◌∷◌, ◌++◌, length}
-use Rattle.std.specs.Prelude.{replicate, Option, Some, None, codes, if◌then◌else◌}
+use Rattle.std.specs.Prelude.{ℕ, Bool, not, ◌&&◌, ◌||◌, ◌==◌, nat_le, List, [], ◌∷◌, ◌++◌, length, Option, Some, None}
+use Rattle.std.specs.Prelude.{codes, if◌then◌else◌}
+use Rattle.std.specs.Char.Escape.{hex_digit_at}
 use Rattle.std.specs.Char.Utf16.{has_unpaired_surrogate}
-use Rattle.std.specs.Fmt.{digits}
 use Rattle.std.specs.List.{flat_map, list_all, list_any}
 use Rattle.std.specs.Str.{str_eq_ignore_ascii_case}
+use Rattle.sd_data.specs.Writing.{has_no_zero}
 use Rattle.sd_condition.specs.declared.attribute.Attribute.{Attribute}
 use Rattle.sd_condition.specs.declared.attribute.Scope.{Scope}
 use Rattle.sd_condition.specs.declared.attribute.Scope.TheVariants.{Local, User, Resource, Device}
 
 -- whether units are UTF-16, of which none is zero
 abbrev pub is_text : List ℕ → Bool
-is_text units = not (has_unpaired_surrogate units) && list_all (λ unit. not (unit == 0)) units
+is_text units = not (has_unpaired_surrogate units) && has_no_zero units
 
 -- ---- a name without a prefix (attr-name1)
 
@@ -52,7 +53,8 @@ is_literal unit = is_between 0x21 0x7e unit && not (is_escaped_mark unit)
 
 -- a percent sign and four hexadecimal digits (lit-char)
 abbrev pub escape : ℕ → List ℕ
-escape unit = codes "%" ++ replicate (4 - length (digits 16 false unit)) 48 ++ digits 16 false unit
+escape unit = 0x25 ∷ hex_digit_at 0x1000 unit ∷ hex_digit_at 0x100 unit ∷ hex_digit_at 0x10 unit ∷ hex_digit_at 1 unit
+    ∷ []
 
 abbrev pub unit_text : ℕ → List ℕ
 unit_text unit = if is_literal unit then unit ∷ [] else escape unit

@@ -1,7 +1,7 @@
 -- Values in a condition's text ([MS-DTYP] 2.5.1.1, value and value-array).
 use Rattle.std.specs.Prelude.{ℕ, ℤ, pos, ◌-◌, Bool, true, false, not, ◌&&◌, ◌||◌, ◌==◌, nat_lt, List, [], ◌∷◌, ◌++◌}
 use Rattle.std.specs.Prelude.{length, replicate, unsigned_abs, int_le, Option, Some, None, codes, if◌then◌else◌}
-use Rattle.std.specs.Char.Utf16.{utf16_lossy_chars}
+use Rattle.std.specs.Char.Utf16.{has_unpaired_surrogate, utf16_lossy_chars}
 use Rattle.std.specs.Fmt.{digits, ◌++?◌}
 use Rattle.std.specs.List.{flat_map, list_any}
 use Rattle.std.specs.Str.{encode_utf8_all}
@@ -16,7 +16,7 @@ use Rattle.sd_condition.specs.declared.integer.Width.{Width}
 use Rattle.sd_condition.specs.declared.integer.Width.TheVariants.{Int8, Int16, Int32, Int64}
 use Rattle.sd_condition.specs.declared.value.Value.{Value}
 use Rattle.sd_condition.specs.declared.value.Value.TheVariants as values
-use Rattle.sd_condition_text.specs.Attribute.{is_between, is_text}
+use Rattle.sd_condition_text.specs.Attribute.{is_between}
 
 -- ---- integers (integer-value)
 
@@ -59,7 +59,7 @@ is_unquotable unit = unit == 0x22 || is_control unit
 
 unfoldable pub quoted_text : List ℕ → Option (List ℕ)
 quoted_text units =
-    if is_text units && not (list_any is_unquotable units)
+    if not (has_unpaired_surrogate units) && not (list_any is_unquotable units)
     then Some (0x22 ∷ (encode_utf8_all (utf16_lossy_chars units) ++ 0x22 ∷ [])) else None
 
 -- ---- octets (octet-string-value): two hexadecimal digits each

@@ -2,14 +2,16 @@
 
 ghost use Rattle.std.specs.Prelude.{◌≡◌, ◌<◌, [], ◌∷◌, ◌++◌, true, not, ◌==◌, IfOk, OnOk};
 ghost use Rattle.std.specs.Prelude.{string_bytes};
+ghost use Rattle.std.specs.Char.{digit_char};
 ghost use Rattle.std.specs.List.{flat_map, list_all};
 ghost use Rattle.std.specs.Option.{option_map};
 ghost use Rattle.std.specs.Str.{str_eq_ignore_ascii_case};
-ghost use Rattle.sd_condition_text.specs.Attribute.{attribute_text, is_between, is_literal};
+ghost use Rattle.sd_condition_text.specs.Attribute.{attribute_text, escape, is_between, is_literal};
 ghost use Rattle.sd_condition_text.specs.Attribute.{is_opening_word, is_plain, is_text, plain_name, prefixed_name};
 ghost use Rattle.sd_condition_text.specs.Attribute.{unit_text};
 
 use sd_condition::{Attribute, Scope};
+use sd_data::has_no_zero;
 use std::alloc::{AllocError, Global};
 
 /// The marks that may stand in a name without a prefix: `:./_` ([MS-DTYP] 2.5.1.1, attr-char1).
@@ -59,24 +61,18 @@ fn print_prefixed(alloc: Global, prefix: &str, name: &[u16]) -> Result<Option<St
         return Ok(None);
     }
     let mut text = String::from_str(alloc, prefix)?;
-    push_units(&mut text, name)?;
+    push_escaped(&mut text, name)?;
     Ok(Some(text))
 }
 
-/// Whether the units are UTF-16, of which none is zero.
-pub(crate) fn is_text(alloc: Global, units: &[u16]) -> Result<bool, AllocError>
+/// Whether the units are UTF-16, of which none is zero ([MS-DTYP] 2.5.1.1, attr-char2).
+pub fn is_text(alloc: Global, units: &[u16]) -> Result<bool, AllocError>
     ensures { IfOk result (λ is. is ≡ is_text units.now) }
 {
     match String::from_utf16(alloc, units)? {
         Ok(_) => Ok(has_no_zero(units)),
         Err(_) => Ok(false),
     }
-}
-
-fn has_no_zero(units: &[u16]) -> bool
-    ensures { result ≡ list_all (λ unit. not (unit == 0)) units.now }
-{
-    units.iter().all(|unit| *unit != 0)
 }
 
 fn are_plain(name: &[u16]) -> bool
@@ -95,8 +91,8 @@ fn is_plain(unit: u16) -> bool
         || PLAIN_MARKS.contains(&unit)
 }
 
-/// Whether it is a visible character of ASCII, and needs no escape.
-fn is_literal(unit: u16) -> bool
+/// Whether it is a visible character of ASCII, and needs no escape ([MS-DTYP] 2.5.1.1, attr-char2).
+pub fn is_literal(unit: u16) -> bool
     ensures { result ≡ is_literal unit }
 {
     is_between(0x21, 0x7e, unit) && !ESCAPED_MARKS.contains(&unit)
@@ -149,8 +145,9 @@ fn push_ascii(out: &mut String, unit: u16) -> Result<(), AllocError>
     out.push(char::from(unit as u8))
 }
 
-/// Appends the units of a name after a prefix.
-fn push_units(out: &mut String, name: &[u16]) -> Result<(), AllocError>
+/// Appends the units of a name of an attribute or a claim, each as it is or by its escape ([MS-DTYP] 2.5.1.1,
+/// attr-char2, lit-char).
+pub fn push_escaped(out: &mut String, name: &[u16]) -> Result<(), AllocError>
     ensures { OnOk result (string_bytes out.new ≡ string_bytes out.old ++ flat_map unit_text name.now) }
 {
     for unit in name {
@@ -160,13 +157,30 @@ fn push_units(out: &mut String, name: &[u16]) -> Result<(), AllocError>
 }
 
 /// Appends a unit, as it is or by its escape.
-#[tactic(auto, using(crate::proofs::Digits::four_digits))]
 fn push_unit(out: &mut String, unit: u16) -> Result<(), AllocError>
     ensures { OnOk result (string_bytes out.new ≡ string_bytes out.old ++ unit_text unit) }
 {
     if is_literal(unit) {
         push_ascii(out, unit)
     } else {
-        write!(out, "%{unit:04x}")
+        push_escape(out, unit)
     }
+}
+
+/// Appends a percent sign and four hexadecimal digits ([MS-DTYP] 2.5.1.1, lit-char).
+fn push_escape(out: &mut String, unit: u16) -> Result<(), AllocError>
+    ensures { OnOk result (string_bytes out.new ≡ string_bytes out.old ++ escape unit) }
+{
+    out.push('%')?;
+    push_hex_digit(out, unit / 0x1000 % 16)?;
+    push_hex_digit(out, unit / 0x100 % 16)?;
+    push_hex_digit(out, unit / 0x10 % 16)?;
+    push_hex_digit(out, unit % 16)
+}
+
+fn push_hex_digit(out: &mut String, digit: u16) -> Result<(), AllocError>
+    requires { digit < 16 }
+    ensures { OnOk result (string_bytes out.new ≡ string_bytes out.old ++ digit_char digit ∷ []) }
+{
+    out.push(char::from_digit(u32::from(digit), 16).unwrap())
 }

@@ -19,6 +19,7 @@ mod operator;
 mod part;
 mod value;
 
+pub use attribute::{is_literal, is_text, push_escaped};
 pub use condition::print_condition;
 pub use laws::{conditions_have_a_tree, trees_say_the_tokens};
-pub use value::has_unquotable;
+pub use value::print_quoted;

@@ -9,7 +9,6 @@ ghost use Rattle.sd_condition_text.specs.Value.{list_text, number_text};
 ghost use Rattle.sd_condition_text.specs.Value.{octet_text, octets_text, quoted_text, sid_text, sign_fits, sign_text};
 ghost use Rattle.sd_condition_text.specs.Value.{value_text, values_text};
 
-use crate::attribute::is_text;
 use sd_condition::{Base, Integer, Sign, Value, Width};
 use sd_sid::Sid;
 use sd_text::print_sid;
@@ -89,24 +88,26 @@ fn push_number(out: &mut String, base: Base, number: u64) -> Result<(), AllocErr
     }
 }
 
-/// A text between quotes.
+/// A text of a condition or a claim between quotes ([MS-DTYP] 2.5.1.1, string-value, char-string). `None`: it isn't
+/// UTF-16, or has what can't stand there.
 #[tactic(auto, unfolding(crate::specs::Value::quoted_text))]
-fn print_quoted(alloc: Global, units: &[u16]) -> Result<Option<String>, AllocError>
+pub fn print_quoted(alloc: Global, units: &[u16]) -> Result<Option<String>, AllocError>
     ensures { IfOk result (λ text. option_map string_bytes text ≡ quoted_text units.now) }
 {
-    if !is_text(alloc, units)? || has_unquotable(units) {
+    if has_unquotable(units) {
         return Ok(None);
     }
-    let decoded = String::from_utf16_lossy(alloc, units)?;
+    let Ok(decoded) = String::from_utf16(alloc, units)? else {
+        return Ok(None);
+    };
     let mut text = String::from_str(alloc, "\"")?;
     text.push_str(decoded.as_str())?;
     text.push_str("\"")?;
     Ok(Some(text))
 }
 
-/// Whether one of the units can't stand in a printed text between quotes ([MS-DTYP] 2.5.1.1, string-value): it is a
-/// quote, or what doesn't stay in a line. Claims have such texts too.
-pub fn has_unquotable(units: &[u16]) -> bool
+/// Whether one of the units can't stand in a printed text between quotes.
+fn has_unquotable(units: &[u16]) -> bool
     ensures { result ≡ list_any is_unquotable units.now }
 {
     units.iter().any(|unit| is_unquotable(*unit))

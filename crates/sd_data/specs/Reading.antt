@@ -1,8 +1,10 @@
 -- What bytes hold: numbers, and the units of a text ([MS-DTYP] 2.4.4.17.5, 2.4.10.1).
 use Rattle.std.specs.Prelude.{ℕ, ℤ, ◌+◌, ◌*◌, ◌/◌, ◌%◌, ◌==◌, List, [], ◌∷◌, length, map, slice_index, slice_range}
 use Rattle.std.specs.Prelude.{Option, Some, None, if◌then◌else◌}
+use Rattle.std.specs.Char.Escape.{encode_utf16}
 use Rattle.std.specs.Int.{w16, w64, from_le_bytes, cast_signed}
-use Rattle.std.specs.List.{range_with_len}
+use Rattle.std.specs.List.{flat_map, range_with_len}
+use Rattle.std.specs.Str.{chars}
 
 -- the bytes after so many
 abbrev pub after : ℕ → List ℕ → List ℕ
@@ -25,6 +27,10 @@ i64_at bytes o = cast_signed w64 (u64_at bytes o)
 -- UTF-16 units, two bytes each
 abbrev pub units_in : List ℕ → List ℕ
 units_in bytes = map (λ k. u16_at bytes (2 * k)) (range_with_len 0 (length bytes / 2))
+
+-- the units of a text in UTF-8
+abbrev pub utf16_of : List ℕ → List ℕ
+utf16_of bytes = flat_map encode_utf16 (chars bytes)
 
 -- a text: all of the bytes are units
 unfoldable pub text_read : List ℕ → Option (List ℕ)

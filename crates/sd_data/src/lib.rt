@@ -15,4 +15,6 @@ mod text;
 pub use number::{push_i64, push_u16, push_u32, push_u64, read_i64, read_u16, read_u32, read_u64};
 pub use padding::{padding_len, push_padding};
 pub use refusal::Refusal;
-pub use text::{Octets, Utf16, push_text, read_octets, read_text, text_len};
+pub use text::{
+    Octets, Utf16, has_no_zero, push_text, push_utf16, read_octets, read_text, text_len,
+};

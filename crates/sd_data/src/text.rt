@@ -2,8 +2,8 @@
 
 ghost use Rattle.std.specs.Prelude.{◌≡◌, ◌*◌, ◌/◌, ◌^◌, ◌<◌, ◌++◌, length, vec_capacity, IfOk, OnOk};
 ghost use Rattle.sd_data.specs.Outcome.{Gives};
-ghost use Rattle.sd_data.specs.Reading.{text_read, units_in};
-ghost use Rattle.sd_data.specs.Writing.{text_bytes};
+ghost use Rattle.sd_data.specs.Reading.{text_read, units_in, utf16_of};
+ghost use Rattle.sd_data.specs.Writing.{has_no_zero, text_bytes};
 
 use crate::number::read_u16;
 use crate::refusal::Refusal;
@@ -101,6 +101,23 @@ pub fn read_octets(alloc: Global, bytes: &[u8]) -> Result<Octets, AllocError>
 {
     let octets = Vec::from_slice(alloc, bytes)?;
     Ok(Octets { octets })
+}
+
+/// Appends the units of a text in UTF-8.
+pub fn push_utf16(units: &mut Vec<u16>, text: &str) -> Result<(), AllocError>
+    ensures { OnOk result (units.new.items ≡ units.old.items ++ utf16_of text.now) }
+{
+    for c in text.chars() {
+        units.extend_from_slice(c.encode_utf16(&mut [0; 2]))?;
+    }
+    Ok(())
+}
+
+/// Whether no unit is zero, which would end a text in a claim ([MS-DTYP] 2.4.10.1).
+pub fn has_no_zero(units: &[u16]) -> bool
+    ensures { result ≡ has_no_zero units.now }
+{
+    units.iter().all(|unit| *unit != 0)
 }
 
 /// How many bytes a text takes.

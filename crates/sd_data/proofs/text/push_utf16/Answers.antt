@@ -4,7 +4,7 @@ use Rattle.std.proofs.lemmas.Iterator.Consumers.{YieldsList-end}
 use Rattle.std.proofs.Common.{map-id}
 use Rattle.std.specs.Char.Escape.{encode_utf16}
 use Rattle.std.specs.List.{flat_map}
-use Rattle.sd_claim_text.proofs.utf16.push_utf16.Goals as goal
+use Rattle.sd_data.proofs.text.push_utf16.Goals as goal
 
 pub returns : goal.returns
 returns c =

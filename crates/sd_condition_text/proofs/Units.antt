@@ -7,6 +7,7 @@ use Rattle.std.specs.List.{AllByRecursion, flat_map, list_any}
 use Rattle.std.specs.Str.{NonePass, all_scalars}
 use Rattle.std.proofs.lemmas.Bool.{and_parts, le-leb, le-ltb, lt-ltb, leb-false, leb-true, ltb-false, ltb-true, ne_eqb}
 use Rattle.sd_text.proofs.Parts.{went}
+use Rattle.sd_condition_text.specs.Value.{is_unquotable}
 
 -- ---- tests
 
@@ -18,7 +19,7 @@ or_false false b e = (refl, e)
 large_plain : (c : ℕ) → 0x1_0000 ≤ c → (c == 0x22 || c == 0) ≡ false
 large_plain c large = rw (ne_eqb c 0x22 (omega arith), ne_eqb c 0 (omega arith)) refl
 
-small_plain : (u : ℕ) → (u == 0x22 || (nat_lt u 0x20 || (nat_le 0x7f u && nat_le u 0x9f) || (nat_le 0x2028 u && nat_le u 0x2029))) ≡ false → (u == 0x22 || u == 0) ≡ false
+small_plain : (u : ℕ) → is_unquotable u ≡ false → (u == 0x22 || u == 0) ≡ false
 small_plain u e =
     let first = or_false (u == 0x22) (nat_lt u 0x20 || (nat_le 0x7f u && nat_le u 0x9f) || (nat_le 0x2028 u && nat_le u 0x2029)) e in
     let low = by_cases (nat_lt u 0x20) (nat_le 0x7f u && nat_le u 0x9f) (nat_le 0x2028 u && nat_le u 0x2029) first.1 in
@@ -82,26 +83,23 @@ pub record AreSpelled (units cs : List ℕ) : Type 0 where
   pub scalars : all_scalars cs ≡ true
   pub plain : NonePass (λ c. c == 0x22 || c == 0) cs
 
-abbrev IsPlain : ℕ → Bool
-IsPlain u = u == 0x22 || (nat_lt u 0x20 || (nat_le 0x7f u && nat_le u 0x9f) || (nat_le 0x2028 u && nat_le u 0x2029))
-
 one_more : (u : ℕ) (units cs : List ℕ) → encode_utf16 u ≡ u ∷ [] → ((more : List ℕ) → all_scalars (u ∷ more) ≡ all_scalars more) → (u == 0x22 || u == 0) ≡ false → AreSpelled units cs → AreSpelled (u ∷ units) (u ∷ cs)
 one_more u units cs unit scalar plain are = record { same = rw (unit, are.same) refl; scalars = scalar cs ∙ are.scalars; plain = (plain, are.plain) }
 
 two_more : (u v c : ℕ) (units cs : List ℕ) → IsOfPair u v c → AreSpelled units cs → AreSpelled (u ∷ v ∷ units) (c ∷ cs)
 two_more u v c units cs is are = record { same = rw (is.units, are.same) refl; scalars = is.scalar cs ∙ are.scalars; plain = (large_plain c is.large, are.plain) }
 
-pub spelled : (units : List ℕ) → AllByRecursion (λ unit. unit < 2 ^ 16) units → has_unpaired_surrogate units ≡ false → list_any IsPlain units ≡ false → AreSpelled units (utf16_lossy_chars units)
+pub spelled : (units : List ℕ) → AllByRecursion (λ unit. unit < 2 ^ 16) units → has_unpaired_surrogate units ≡ false → list_any is_unquotable units ≡ false → AreSpelled units (utf16_lossy_chars units)
 unfolding utf16_chars
 spelled [] are paired plain = record { same = refl; scalars = refl; plain = tt }
 spelled (u ∷ []) are paired plain =
     let alone = lone u are.0 (or_false (not (is_some (lone_unit_char u))) false paired).0 in
-    rw (alone.0) (one_more u [] [] (one_unit u are.0) alone.1 (small_plain u (or_false (IsPlain u) false plain).0) (record { same = refl; scalars = refl; plain = tt }))
+    rw (alone.0) (one_more u [] [] (one_unit u are.0) alone.1 (small_plain u (or_false (is_unquotable u) false plain).0) (record { same = refl; scalars = refl; plain = tt }))
 spelled (u ∷ v ∷ units) are paired plain =
-    let here = or_false (IsPlain u) (list_any IsPlain (v ∷ units)) plain in
+    let here = or_false (is_unquotable u) (list_any is_unquotable (v ∷ units)) plain in
     elim (went (is_high_surrogate u && is_low_surrogate v)) [
       | inl h ↦
-          let later = or_false (IsPlain v) (list_any IsPlain units) here.1 in
+          let later = or_false (is_unquotable v) (list_any is_unquotable units) here.1 in
           rw h (two_more u v (surrogate_pair_char u v) units (utf16_lossy_chars units) (pair u v h) (spelled units are.1.1 (rw h at paired) later.1))
       | inr h ↦
           let both = or_false (not (is_some (lone_unit_char u))) (has_unpaired_surrogate (v ∷ units)) (rw h at paired) in
