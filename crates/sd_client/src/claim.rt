@@ -10,7 +10,7 @@ use crate::word::Holder;
 use sd_claim::{Claim, Value as InClaim};
 use sd_condition::{Attribute, Condition, Operator, Scope, Token, Value};
 use sd_condition_parse::{ConditionError, parse_condition};
-use sd_data::{Octets, Utf16};
+use sd_data::{Octets, Utf16, read_octets};
 use sd_sid::sid_bytes;
 use sd_text::{Aliases, Cursor};
 use std::alloc::{AllocError, Global};
@@ -158,10 +158,7 @@ fn in_claim(alloc: Global, literal: &Value) -> Result<InClaim, AllocError>
     match literal {
         Value::Integer(integer) => Ok(InClaim::Integer(integer.value)),
         Value::Text(text) => Ok(InClaim::Text(Utf16::new(Vec::from_slice(alloc, text.units())?))),
-        Value::Octets(octets) => Ok(InClaim::Octets(Octets::new(Vec::from_slice(
-            alloc,
-            octets.octets(),
-        )?))),
+        Value::Octets(octets) => Ok(InClaim::Octets(read_octets(alloc, octets.octets())?)),
         Value::Sid(sid) => Ok(InClaim::Sid(Octets::new(sid_bytes(alloc, sid)?))),
     }
 }
