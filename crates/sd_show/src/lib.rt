@@ -25,5 +25,5 @@ pub use data::condition_text;
 pub use diff::diff_lines;
 pub use forms::SACL_LEFT_OUT;
 pub use laws::{alike_has_no_line, no_line_means_alike};
-pub use same::same_acl;
+pub use same::{same_acl, same_entry};
 pub use show::show_lines;

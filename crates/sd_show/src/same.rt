@@ -41,8 +41,8 @@ fn is_one(entry: &WholeAce, other: &WholeAce) -> bool
     same_entry(entry, other)
 }
 
-/// Whether both have the same type, flags, mask, object types, SID and data.
-pub(crate) fn same_entry(one: &WholeAce, other: &WholeAce) -> bool
+/// Whether both entries have the same type, flags, mask, object types, SID and data ([MS-DTYP] 2.4.4).
+pub fn same_entry(one: &WholeAce, other: &WholeAce) -> bool
     ensures { result ≡ same_entry one.now other.now }
 {
     match (one, other) {
