@@ -1,6 +1,6 @@
 -- What a command about a descriptor answers, and whether it did what was asked for. The arguments are read from left to
 -- right, and the answer is the fault of the first that is invalid.
-use Rattle.std.specs.Prelude.{◌≡◌, ◌⊎◌, ℕ, Bool, false, not, ◌&&◌, ◌||◌, MatchBool, List, [], ◌∷◌, ◌++◌, codes}
+use Rattle.std.specs.Prelude.{◌≡◌, ◌⊎◌, ℕ, Bool, not, ◌&&◌, ◌||◌, MatchBool, List, [], ◌∷◌, ◌++◌, codes}
 use Rattle.std.specs.Prelude.{Option, Some, None, drop, option_map}
 use Rattle.std.specs.Prelude.{slice_get}
 use Rattle.std.specs.Option.{option_map_or}
@@ -19,7 +19,7 @@ use Rattle.sd_check.specs.Token.{TokenValue}
 use Rattle.sd_line.specs.Line.{LineOf, form, line_of, text_line}
 use Rattle.sd_line.specs.declared.line.Value.TheVariants as values
 use Rattle.sd_answer.specs.VerdictLines.{verdict_line, fault_line, sddl_fault_line}
-use Rattle.sd_answer.specs.declared.forms.TheConstants.{CLEAN, SAME}
+use Rattle.sd_answer.specs.declared.forms.TheConstants.{SAME}
 use Rattle.sd_client.specs.Client.{ClientValue}
 use Rattle.sd_client.specs.Word.{IsClient, IsFirstNoClientWord}
 use Rattle.sd_analysis.specs.Compare.{AreGains}
@@ -29,7 +29,6 @@ use Rattle.sd_analysis.specs.declared.compare_report.Change.{Change}
 use Rattle.sd_check.specs.declared.token.GroupState.{GroupState}
 use Rattle.sd_answer.specs.Compare.{gains_and_losses}
 use Rattle.sd_answer.specs.Descendants.{descendants_lines, inheritance_lines}
-use Rattle.sd_answer.specs.Lint.{AreFindings}
 use Rattle.sd_line.specs.Mask.{IsMaskErrorIn, IsMaskIn}
 use Rattle.sd_answer.specs.Parts.{entries_in, parts_in}
 use Rattle.sd_line.specs.Rights.{rights_line}
@@ -44,7 +43,7 @@ use Rattle.sd_commands.specs.ObjectTypes.{ChangeHasTypes, NotingTypes, has_types
 use Rattle.sd_commands.specs.Required.{missing_dacl}
 use Rattle.sd_usage.specs.declared.row.TextCommand.{TextCommand}
 use Rattle.sd_usage.specs.declared.row.TextCommand.TheVariants as questions
-use Rattle.sd_commands.specs.Risks.{risk_lines}
+use Rattle.sd_commands.specs.Findings.{AnswersFindings}
 use Rattle.sd_commands.specs.Nodes.{tree_in}
 use Rattle.sd_commands.specs.Sort.{move_notes, sorted_descriptor}
 use Rattle.sd_commands.specs.Types.{AnswersOfTree, AreNodeVerdicts, NodesValue}
@@ -74,6 +73,7 @@ use Rattle.sd_specialize.specs.Marked.{conditionals, unmarked_place}
 use Rattle.sd_whole.specs.declared.ace.TypedAce.{TypedAce}
 use Rattle.sd_commands.specs.FromBinary.{AnswersFromBinary}
 use Rattle.sd_commands.specs.Whole.{IsEntryFault, is_compare, takes_whole}
+use Rattle.sd_commands.specs.WholeLint.{AnswersWholeFindings}
 use Rattle.sd_commands.specs.WholeText.{AnswersOfWhole, AnswersWholeText}
 use Rattle.sd_commands.specs.WholeVerdict.{IsUndecided, IsWholeVerdict, everyone_context, verdict_outcome}
 use Rattle.sd_whole.specs.declared.descriptor.WholeDescriptor.{WholeDescriptor}
@@ -320,18 +320,6 @@ AnswersComparison settings marks last old new base = AnswersUnhidden marks base
     (Telling (object_note (leaves_out settings.object old || leaves_out settings.object new))
     (PrintsComparison settings marks last (looked_at settings.object old) (looked_at settings.object new) base))
 
--- ---- findings
-
--- the findings, or that there are none
-abbrev pub PrintsFindings : Settings → DescriptorValue → List (SidValue × GroupState) → AnswerValue → Type 0
-PrintsFindings settings d base answer = (lines : List LineOf) × AreFindings settings.mapping base d lines
-    × IsFound (line_of (form CLEAN) []) (lines ++ risk_lines settings d base) answer
-
--- the findings in the descriptor as it is looked at, and whether something was left out of it
-abbrev pub AnswersFindings : Settings → DescriptorValue → List (SidValue × GroupState) → AnswerValue → Type 0
-AnswersFindings settings d base =
-    Telling (object_note (leaves_out settings.object d)) (PrintsFindings settings (looked_at settings.object d) base)
-
 -- ---- whole descriptors in words
 
 -- all that the descriptor has
@@ -391,6 +379,13 @@ AnswersWhoOfWhole settings text arguments = AnswersOfEveryone (codes "SDDL") all
     (λ whole d. NotingTypes settings (has_types whole.dacl && is_of_whole (types_of settings.chain))
     (λ left_out. AnswersWho settings (conditionals whole.dacl) left_out arguments d))
 
+-- what `lint` answers of the object itself, for the object types asked about: of the whole object alone types are left
+-- out
+abbrev pub AnswersLintOfWhole : Settings → List ℕ → List (Bor (List ℕ)) → AnswerValue → Type 0
+AnswersLintOfWhole settings text words = AnswersOfEveryone (codes "SDDL") all_left_out Marked Absent settings text
+    (λ whole d. NotingTypes settings (has_types whole.dacl) (λ left_out. AnswersOfBase settings words (λ base.
+    AnswersUnhidden (conditionals whole.dacl) base (AnswersWholeFindings settings whole left_out d base))))
+
 -- what is answered where each condition of this argument can have a marker; or the first that can't is refused
 abbrev pub AnswersUnlessUnmarked : List ℕ → Option ℕ → (AnswerValue → Type 0) → AnswerValue → Type 0
 AnswersUnlessUnmarked argument None Answers = Answers
@@ -426,11 +421,12 @@ AnswersCompareOfWhole settings text arguments =
     AnswersOfEveryone (codes "OLD") all_but_label (view_of settings.object) Absent settings text
     (λ old plain_old. AnswersCompareTo settings old plain_old arguments)
 
--- what a command answers of all that the text is: a verdict, whom rights are granted to, who gains and loses some, or
--- what is printed, sorted or written
+-- what a command answers of all that the text is: a verdict, whom rights are granted to, who gains and loses some, what
+-- is doubtful, or what is printed, sorted or written
 abbrev pub AnswersWholly : Settings → DescriptorCommand → List ℕ → List (Bor (List ℕ)) → AnswerValue → Type 0
 AnswersWholly settings about.Who text arguments = AnswersWhoOfWhole settings text arguments
 AnswersWholly settings about.Compare text arguments = AnswersCompareOfWhole settings text arguments
+AnswersWholly settings about.Lint text arguments = AnswersLintOfWhole settings text arguments
 AnswersWholly settings about.Verdict text arguments = AnswersWholeUser settings Short text arguments
 AnswersWholly settings about.Why text arguments = AnswersWholeUser settings Explained text arguments
 AnswersWholly settings question text arguments = AnswersWholeText settings question text

@@ -7,6 +7,7 @@ pub mod Concern
 pub mod Conditions
 pub mod Diagnostic
 pub mod Escaped
+pub mod Findings
 pub mod ForEveryone
 pub mod FromBinary
 pub mod Kinds
@@ -25,6 +26,8 @@ pub mod Sort
 pub mod Types
 pub mod Value
 pub mod Whole
+pub mod WholeLint
+pub mod WholeRisks
 pub mod WholeSort
 pub mod WholeText
 pub mod WholeVerdict

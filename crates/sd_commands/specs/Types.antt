@@ -20,7 +20,7 @@ use Rattle.sd_whole_text.specs.Guid.{guid_text}
 use Rattle.sd_commands.specs.Answer.{AnswerValue, IsAnswer, IsFault}
 use Rattle.sd_commands.specs.Diagnostic.{told_line}
 use Rattle.sd_commands.specs.Limits.{sacl_left_out}
-use Rattle.sd_commands.specs.Nodes.{nodes_name, nodes_number, told_nodes, tree_in}
+use Rattle.sd_commands.specs.Nodes.{nodes_name, nodes_number, told_nodes}
 use Rattle.sd_commands.specs.WholeVerdict.{IsUndecided}
 use Rattle.sd_commands.specs.declared.command_answer.Outcome.{Outcome}
 use Rattle.sd_commands.specs.declared.command_answer.Outcome.TheVariants.{Done, Refused}

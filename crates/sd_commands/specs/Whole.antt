@@ -95,14 +95,14 @@ abbrev pub WritesWhole : List ℕ → Settings → WholeDescriptor → AnswerVal
 WritesWhole argument settings d = AnswersFit argument (missing_dacl settings.require_dacl d.dacl)
     (IsDone (text_line (encode_lower (whole_wire_of d))))
 
--- the command looks at all that a whole descriptor has: it gives a verdict, prints to whom rights are granted, or who
--- gains and loses some, of the object alone, or prints, sorts or writes the descriptor
+-- the command looks at all that a whole descriptor has: it gives a verdict, prints of the object alone to whom rights
+-- are granted, who gains and loses some, or what is doubtful, or prints, sorts or writes the descriptor
 abbrev pub takes_whole : (below : Bool) → (object : Bool) → DescriptorCommand → Bool
 takes_whole below object about.Verdict = true
 takes_whole below object about.Why = true
 takes_whole below object about.Who = not below
 takes_whole below object about.Compare = object
-takes_whole below object about.Lint = false
+takes_whole below object about.Lint = object
 takes_whole below object about.Print = true
 takes_whole below object about.Sort = true
 takes_whole below object about.ToBinary = true

@@ -75,7 +75,7 @@ impl CommandContext<'_> {
     }
 
     /// The answer to a base of which a SID is a marker.
-    fn hidden(&self) -> Answered
+    pub(crate) fn hidden(&self) -> Answered
         ensures { IfOk result (λ answer. IsHidden (answer_of answer)) }
     {
         self.fault("token", "GROUP", "its authority is that of conditions")

@@ -218,6 +218,7 @@ impl CommandContext<'_> {
             DescriptorCommand::Why => self.whole_verdict(Form::Explained, sddl, arguments),
             DescriptorCommand::Who => self.whole_who(sddl, arguments),
             DescriptorCommand::Compare => self.whole_compare(sddl, arguments),
+            DescriptorCommand::Lint => self.whole_lint(sddl, arguments),
             _ => self.answer_whole_text(question, sddl),
         }
     }

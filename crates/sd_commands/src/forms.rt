@@ -1,4 +1,12 @@
 //! The forms of lines that this crate adds, as forms.rt of `sd_answer` has the others.
 
+use sd_line::LineForm;
+
 // Before the end of a verdict on a node of a tree of object types.
 pub const AT_NODE: &str = " at {level}:{object_type}";
+
+// A risk of a whole descriptor, if conditions allow it.
+pub const MAY_BE_GRANTED: LineForm = (
+    "risky grant by conditions",
+    "{sid} may be granted {right}, by conditions",
+);

@@ -47,6 +47,8 @@ mod value;
 mod verdict;
 mod whole;
 mod whole_analysis;
+mod whole_lint;
+mod whole_risks;
 mod whole_sort;
 mod whole_verdict;
 mod words;

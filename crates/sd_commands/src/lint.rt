@@ -2,7 +2,8 @@
 ghost use Rattle.std.specs.Prelude.{IfOk};
 ghost use Rattle.sd_acl.specs.Descriptor.{descriptor_of};
 ghost use Rattle.sd_commands.specs.Answer.{answer_of};
-ghost use Rattle.sd_commands.specs.CommandAnswer.{AnswersFindings, AnswersOfBase, PrintsFindings};
+ghost use Rattle.sd_commands.specs.CommandAnswer.{AnswersOfBase};
+ghost use Rattle.sd_commands.specs.Findings.{AnswersFindings, PrintsFindings};
 
 use crate::command_answer::{Answered, found};
 use crate::descriptor::note_object;

@@ -19,7 +19,7 @@ use sd_whole::{WholeAce, WholeAcl, WholeDescriptor, for_children_alone};
 use std::alloc::{AllocError, Global};
 
 /// Whether an effective entry has an ObjectType ([MS-DTYP] 2.4.4.3): its part depends on the object types asked about.
-fn has_types(acl: &WholeAcl) -> bool
+pub(crate) fn has_types(acl: &WholeAcl) -> bool
     ensures { result ≡ has_types acl.now }
 {
     match acl {

@@ -44,7 +44,7 @@ fn push_lines(alloc: Global, out: &mut Vec<Line>, risks: &[Risk]) -> Result<(), 
     Ok(())
 }
 
-fn risk_line(alloc: Global, risk: &Risk) -> Result<Line, AllocError>
+pub(crate) fn risk_line(alloc: Global, risk: &Risk) -> Result<Line, AllocError>
     ensures { IfOk result (λ line. line ≡ risk_line risk.now) }
 {
     match risk {
@@ -90,7 +90,7 @@ fn grant_form(whose: Option<Descendant>) -> LineForm
     }
 }
 
-fn right_name(right: Right) -> &'static str
+pub(crate) fn right_name(right: Right) -> &'static str
     ensures { result.now ≡ right_name right }
 {
     match right {

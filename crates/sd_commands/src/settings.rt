@@ -33,8 +33,8 @@ pub struct Settings {
     /// How the user logged on, if that is said.
     pub logon: Option<Logon>,
     /// Whether descriptors may have a SACL and entries of every type: `verdict` and `why` look at both, `who` without
-    /// `below` and `compare` with `object` at entries of every type, `compare` at the label too, and other questions at
-    /// neither.
+    /// `below` and `compare` and `lint` with `object` at entries of every type, `compare` at the label too, and other
+    /// questions at neither.
     pub whole: bool,
     /// Under `whole`, the object types that those are asked about.
     pub chain: Chain,

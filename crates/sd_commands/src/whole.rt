@@ -157,15 +157,15 @@ pub(crate) fn told_before(mut note: String, mut answer: Answer) -> Answered
 }
 
 /// Whether the command looks at all that a whole descriptor has ([MS-DTYP] 2.5.1.1): it gives a verdict, prints to whom
-/// rights are granted, but not of what is made below the object, compares those of an object and no container, or
-/// prints, sorts or writes the descriptor.
+/// rights are granted, but not of what is made below the object, compares those of an object and no container or prints
+/// what is doubtful in that, or prints, sorts or writes the descriptor.
 pub fn takes_whole(below: bool, object: bool, question: DescriptorCommand) -> bool
     ensures { result ≡ takes_whole below object question }
 {
     match question {
         DescriptorCommand::Who => !below,
         DescriptorCommand::Compare => object,
-        DescriptorCommand::Lint => false,
+        DescriptorCommand::Lint => object,
         _ => true,
     }
 }

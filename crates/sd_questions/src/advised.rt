@@ -134,7 +134,9 @@ fn push_types(
         TextCommand::Descriptor(DescriptorCommand::Who) => {
             is_of_whole && !options.has(OptionName::Below)
         }
-        TextCommand::Descriptor(DescriptorCommand::Compare) => options.has(OptionName::Object),
+        TextCommand::Descriptor(DescriptorCommand::Compare | DescriptorCommand::Lint) => {
+            options.has(OptionName::Object)
+        }
         _ => false,
     };
     if depends {
@@ -289,7 +291,10 @@ fn part_row(
 /// The row of advice for an entry that is no allow and no deny.
 fn odd_row(question: DescriptorCommand, odd: OddEntry) -> RemedyRow {
     match (question, odd.kind) {
-        (DescriptorCommand::Compare, OddKind::ObjectAce | OddKind::ConditionalAce) => OBJECT_ENTRY,
+        (
+            DescriptorCommand::Compare | DescriptorCommand::Lint,
+            OddKind::ObjectAce | OddKind::ConditionalAce,
+        ) => OBJECT_ENTRY,
         _ => ODD_ENTRY,
     }
 }
@@ -298,7 +303,9 @@ fn odd_row(question: DescriptorCommand, odd: OddEntry) -> RemedyRow {
 fn undecided_row(question: DescriptorCommand, answer: &Answer) -> Option<RemedyRow> {
     answer.lines.first()?.value(b"entry")?;
     match question {
-        DescriptorCommand::Who | DescriptorCommand::Compare => Some(ODD_ENTRY),
+        DescriptorCommand::Who | DescriptorCommand::Compare | DescriptorCommand::Lint => {
+            Some(ODD_ENTRY)
+        }
         _ => None,
     }
 }

@@ -239,7 +239,7 @@ pub(crate) const ODD_ENTRY: RemedyRow = (
 pub(crate) const OBJECT_ENTRY: RemedyRow = (
     "an entry for object types or with a condition",
     "an allow or a deny",
-    "write --object before the command: compare takes it then, but leaves out what is made in a container",
+    "write --object before the command, which takes it then, but leaves out what is made in a container",
 );
 
 pub(crate) const EACH: RemedyRow = (

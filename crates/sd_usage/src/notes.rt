@@ -202,11 +202,15 @@ After '--risks', or '--concern', also:
   the owner SID is of no known kind
   the group SID is of no known kind
 Without all entries that have no effect, each check has the same verdict, of what is made in it too.
-With '--object' nothing is made in it: entries are printed without OI and CI.
+With '--object' nothing is made in it: entries are printed without OI and CI. With '--whole' too the
+findings are of entries of every type, printed as they stand, for the object types of '--type', or
+without one for the whole object, and other lines may be:
+  SID may be granted full-control, by conditions
+  of the whole object alone: object types are left out
 
 Statuses:
   0  clean
-  1  a finding, or an invalid argument
+  1  a finding, object types that were left out, or an invalid argument
   2  the arguments aren't a valid command line
   3  out of memory, or an output error";
 

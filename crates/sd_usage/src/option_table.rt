@@ -36,10 +36,10 @@ MASK, and prints entries with names of that kind alone",
         "\
 takes descriptors with a SACL and with entries of every type. What prints a descriptor prints all of
 it, and what has no text is a fault; 'verdict', 'why' and 'types' look at the label, the claims, the
-object types and the conditions, 'compare' at the label, and 'who' without '--below' and 'compare' with
-'--object' at the object types and the conditions; other questions and a script leave the SACL out,
-which is reported on standard error, of a script by the answer 'ok differs', and an object or a
-conditional entry in a DACL is a fault there",
+object types and the conditions, 'compare' at the label, and 'who' without '--below' and 'compare' and
+'lint' with '--object' at the object types and the conditions; other questions and a script leave the
+SACL out, which is reported on standard error, of a script by the answer 'ok differs', and an object
+or a conditional entry in a DACL is a fault there",
     ),
     (
         "--without-bits",
@@ -79,8 +79,8 @@ byte, and reports it on standard error",
         },
         "\
 the descriptor is that of an object and of no container, as of a file: the flags OI and CI of its
-entries say nothing, and are left out, also where entries are printed; 'compare' takes object
-entries then under '--whole'",
+entries say nothing, and are left out, also where plain entries are printed; 'compare' and 'lint'
+take object and conditional entries then under '--whole'",
     ),
     (
         "--risks",
@@ -233,7 +233,7 @@ Everyone and Authenticated Users",
         "\
 the object type that is asked about, as bf9679c0-0de6-11d0-a285-00aa003049e2, up to five times: the
 class, the property set, the property or the extended right; without it the whole object is asked
-about. Before 'compare' it goes beside '--object'",
+about. Before 'compare' and 'lint' it goes beside '--object'",
     ),
     (
         "--self",
@@ -244,7 +244,7 @@ about. Before 'compare' it goes beside '--object'",
         },
         "\
 the SID of the object itself, for which PRINCIPAL SELF (PS) stands in its entries; before 'compare'
-it goes beside '--object'",
+and 'lint' it goes beside '--object'",
     ),
     (
         "--json",

@@ -139,6 +139,8 @@ pub(crate) const LINT_OPTIONS: &[OptionName] = &[
     OptionName::Object,
     OptionName::Risks,
     OptionName::Concern,
+    OptionName::Type,
+    OptionName::PrincipalSelf,
     OptionName::Domain,
     OptionName::Aliases,
     OptionName::Mapping,

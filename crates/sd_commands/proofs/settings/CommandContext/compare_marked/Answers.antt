@@ -6,7 +6,6 @@ use Rattle.sd_commands.specs.Answer.{AnswerValue}
 use Rattle.sd_commands.specs.declared.settings.Settings.{Settings}
 use Rattle.sd_commands.proofs.Cited.{IfOk-weaker, List, answer_of, ap, ap₂, subst, ℕ, ◌++◌, ◌∙◌, ◌≡◌}
 use Rattle.sd_commands.specs.CommandAnswer.{AnswersComparison, AnswersOfBase}
-use Rattle.sd_commands.specs.ForEveryone.{marks_of}
 use Rattle.sd_specialize.specs.Marked.{lent_marks}
 use Rattle.sd_commands.proofs.settings.CommandContext.compare_marked.Goals as goal
 

@@ -2,7 +2,6 @@
 use Rattle.sd_commands.proofs.Cited.{answer_of, subst, sym}
 use Rattle.std.specs.Prelude.{IfOk}
 use Rattle.sd_access.specs.Access.{whole_reasons, whole_verdict}
-use Rattle.sd_access.specs.Question.{QuestionValue}
 use Rattle.sd_commands.specs.WholeVerdict.{AnswersShortly, AnswersWhy, IsWholeVerdict, question_of}
 use Rattle.sd_commands.proofs.settings.CommandContext.verdict_for_client.Goals as goal
 
