@@ -324,9 +324,9 @@ def one_exception() -> None:
     for group in groups:
         raises(f"the group {group}", TypeError, lambda: Token(USER, [group]))
     places: List[Tuple[Any, Any]] = [(-1, ValueError), (1 << 64, ValueError), ("0", TypeError), (True, TypeError)]
-    for place, kind in places:
-        raises(f"the place {place!r}", kind, lambda: WholeDescriptor.from_blob(written, place))
-        raises(f"the parts {place!r}", kind, lambda: WHOLE.with_parts(READERS, place))
+    for place, wanted in places:
+        raises(f"the place {place!r}", wanted, lambda: WholeDescriptor.from_blob(written, place))
+        raises(f"the parts {place!r}", wanted, lambda: WHOLE.with_parts(READERS, place))
     with Token(USER, [USERS]) as token, Store(ROOT) as store, store.publish() as view:
         finds: List[Tuple[str, Callable[[Any], Any]]] = [
             ("check", lambda path: view.check(path, token, "FR")),
