@@ -44,14 +44,14 @@ class Modules(WorkerPlugin):
     name = "fleet-modules"
 
     def __init__(self, texts: dict[str, str]) -> None:
-        """The texts by the names of their files. A plugin is sent by value, so it refers to none of the modules."""
+        """The texts by the paths of their files. A plugin is sent by value, so it refers to none of the modules."""
         self._texts = texts
 
     def setup(self, worker) -> None:
         folder = pathlib.Path(worker.local_directory, self.name)
-        folder.mkdir(exist_ok=True)
-        for name, text in self._texts.items():
-            (folder / name).write_text(text)
+        for path, text in self._texts.items():
+            (folder / path).parent.mkdir(parents=True, exist_ok=True)
+            (folder / path).write_text(text)
         sys.path.insert(0, str(folder))
 
 
@@ -69,8 +69,9 @@ def local_client(workers: int) -> Iterator[Client]:
 def by_cluster(client: Client, ranges: Sequence[range]) -> list[Share]:
     """The shares of the ranges, each by whichever worker is free."""
     client.wait_for_workers(1)
-    files = [pathlib.Path(module.__file__) for module in (hudarin, cases, auditing)]
-    client.register_worker_plugin(Modules({file.name: file.read_text() for file in files}))
+    texts = {module.__name__ + ".py": pathlib.Path(module.__file__).read_text() for module in (cases, auditing)}
+    texts |= {f"hudarin/{file.name}": file.read_text() for file in pathlib.Path(hudarin.__file__).parent.glob("*.py")}
+    client.register_worker_plugin(Modules(texts))
     return client.gather([client.submit(auditing.share, each.start, each.stop) for each in ranges])
 
 

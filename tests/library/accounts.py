@@ -1,4 +1,4 @@
-"""Accounts in hudarin.py: the SIDs of a user's token and the users that may log on, worked by hand, and refusals. The
+"""Accounts in Python: the SIDs of a user's token and the users that may log on, worked by hand, and refusals. The
 last line is 'N passed, M failed'."""
 
 import sys

@@ -1,4 +1,4 @@
-"""Uses of hudarin.py for mypy alone: it reports a fault on just the lines that ignore one. Nothing here is run."""
+"""Uses of hudarin for mypy alone: it reports a fault on just the lines that ignore one. Nothing here is run."""
 
 from pathlib import PurePosixPath
 from typing import Iterator, List, Optional, Tuple

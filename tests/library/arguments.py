@@ -1,4 +1,4 @@
-"""What hudarin.py passes to the library: numbers of 32 bits, four masks, SIDs, texts and bytes, and nothing else; and
+"""What Python passes to the library: numbers of 32 bits, four masks, SIDs, texts and bytes, and nothing else; and
 the results of checks, explanations, stores and views. The last line is 'N passed, M failed'."""
 
 import sys

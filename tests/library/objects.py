@@ -1,4 +1,4 @@
-"""How the objects of hudarin.py behave in Python: truth, copies, pickles and a second __init__; the parts of a
+"""How the objects of hudarin behave in Python: truth, copies, pickles and a second __init__; the parts of a
 descriptor, masks by names, which mistake raises what, whole descriptors, and who is granted what. The last line is
 'N passed, M failed'.
 

@@ -1,4 +1,4 @@
-"""What hudarin.py returns of edits, of pending ones and of the published nodes, beside `review`, `list` and `dump` of the
+"""What Python returns of edits, of pending ones and of the published nodes, beside `review`, `list` and `dump` of the
 program: over each script of the files of rows whose commands are edits, and over random scripts.
 
     reviews.py PROGRAM SCRIPTS SEED FILE ..

@@ -32,6 +32,7 @@ from hudarin import (  # noqa: E402
     check_all,
     who_all,
 )
+from hudarin._library import _library  # noqa: E402
 from tally import close, gives, holds, raises  # noqa: E402
 
 USER = Sid.from_text("S-1-5-21-1-2-3-1001")
@@ -75,13 +76,13 @@ class _Entry(ctypes.Structure):
 
 
 class Library:
-    """What the library reads of a kept descriptor, which hudarin.py reads from the bytes."""
+    """What the library reads of a kept descriptor, which the package reads from the bytes."""
 
     def __init__(self, kept: KeptDescriptor) -> None:
         self._kept, self._room = ctypes.byref(kept._kept), ctypes.create_string_buffer(256)
 
     def _call(self, name: str, answers: Any, *index: int) -> Any:
-        call = getattr(ctypes.CDLL(hudarin._library._name), "hudarin_descriptor_" + name)
+        call = getattr(ctypes.CDLL(_library._name), "hudarin_descriptor_" + name)
         call.restype = answers
         if answers is _Dacl:
             return call(self._kept)
