@@ -95,6 +95,16 @@ def _add_read(read: argparse.ArgumentParser) -> None:
     read.add_argument(
         "--folders", action="store_true", help="leave out files that have just what their folder passes down"
     )
+    read.add_argument(
+        "--exclude",
+        action="append",
+        default=[],
+        metavar="PATTERN",
+        help="leave out nodes whose paths below the root match, as '*.tmp', with all below them; may be repeated",
+    )
+    read.add_argument(
+        "--progress", action="store_true", help="print how many nodes are read also where there is no terminal"
+    )
     read.add_argument("--root", metavar="SDDL", help="the descriptor of the folder itself, where the source has none")
     _add_attribute(read)
     read.add_argument("--form", choices=("csv", "icacls"), help="of a text file; by its first line unless given")

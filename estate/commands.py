@@ -14,6 +14,7 @@ import questions
 from answers import LEFT_OUT, answered, counts_of, of_users, people_in
 from asking import asking_as
 from errors import Invalid, Stopped
+from exclusion import Exclusion
 from forms import Attribute
 from gaps import Coverage
 from journal import Journal, Step, locked_journal, write_journal
@@ -38,17 +39,20 @@ ATTRIBUTES = {"ntfs": Attribute.NTFS, "samba": Attribute.SAMBA}
 
 def read(arguments: argparse.Namespace, table: Table) -> int:
     """The nodes of a source as a script."""
-    root = _descriptor("--root", arguments.root)
+    root, exclusion = _descriptor("--root", arguments.root), Exclusion(arguments.exclude)
     with atomic_file(arguments.script) as script:
         reading = Reading(script, table, arguments.folders)
         if os.path.isdir(arguments.source):
-            with _volume(arguments.source, arguments) as volume, Progress(volume.node_count) as progress:
-                counts = reading.run(volume.walk(root), progress)
+            with _volume(arguments.source, arguments) as volume:
+                with Progress(volume.node_count, is_of_all=True, is_asked=arguments.progress) as progress:
+                    counts = reading.run(volume.walk(exclusion, root), progress)
         else:
             source = TextFile(arguments.source, arguments.form, _assumed(arguments, root))
-            with Progress(source.node_count) as progress:
-                counts = reading.run(source.walk(), progress)
+            with Progress(source.node_count, is_asked=arguments.progress) as progress:
+                counts = reading.run(source.walk(exclusion), progress)
     _sum_up(arguments, counts, table)
+    for pattern in exclusion.unmatched:
+        say(f"--exclude {pattern}: no node that was reached matches")
     return 1 if counts.skipped or counts.unlisted else 0
 
 
@@ -61,6 +65,8 @@ def _sum_up(arguments: argparse.Namespace, counts: Counts, table: Table) -> None
         f"{counts.differing:,} differing",
         f"{plural(counts.sacls, 'SACL')} kept",
     ]
+    if counts.excluded:
+        said.append(f"{counts.excluded:,} excluded")
     if counts.stored:
         said.append(f"{plural(counts.stored, 'node')} with what was inherited elsewhere")
     if counts.linked:

@@ -20,3 +20,5 @@ class Found:
     unlisted: str | None = None
     #: Of a file that was found by another path before: that path.
     first_name: Path | None = None
+    #: Whether it has no descriptor here since --exclude leaves it out, with all below it.
+    is_excluded: bool = False

@@ -7,13 +7,22 @@ from paths import Path, names_in, spelled
 from table import Cell, plural, safe
 
 #: The columns of each row after its path, as docs/ESTATES.md has them.
-_COLUMNS = {"differs": ("why",), "skipped": ("why", "below"), "unlisted": ("why",), "files": ("count",)}
+_COLUMNS = {
+    "differs": ("why",),
+    "skipped": ("why", "below"),
+    "excluded": ("why", "below"),
+    "unlisted": ("why",),
+    "files": ("count",),
+}
 #: Those of a row of which no comment is.
 _OTHERS = {"unknown": ("why",), "cut": ("why", "count")}
+#: The rows of a node that has no line, and below which none has one.
+HIDDEN = ("skipped", "excluded")
 #: What a node of the source is that an answer isn't about.
 _KINDS = {
     "differs": "another list",
     "skipped": "not read",
+    "excluded": "excluded",
     "unlisted": "not listed",
     "unknown": "not known",
 }
@@ -24,8 +33,8 @@ _END = "# rows\t"
 @dataclass(frozen=True, slots=True)
 class Gap:
     """A node that the source has otherwise than the tree ("differs"), or has and the tree hasn't: one without a line
-    ("skipped"), what is in a folder ("unlisted"), files of a folder ("files"). No comment is of "unknown", and of nodes
-    for which an answer has no room ("cut")."""
+    ("skipped", or by the user's wish "excluded"), what is in a folder ("unlisted"), files of a folder ("files"). No
+    comment is of "unknown", and of nodes for which an answer has no room ("cut")."""
 
     what: str
     path: Path
@@ -59,7 +68,7 @@ class Gap:
 
     @property
     def nodes(self) -> int:
-        return 1 + self.count if self.what == "skipped" else self.count or 1
+        return 1 + self.count if self.what in HIDDEN else self.count or 1
 
 
 #: What is said where a script doesn't say it.
@@ -101,7 +110,7 @@ class Coverage:
     @property
     def of(self) -> int:
         """How many nodes the source has there, as far as that is known."""
-        return self.nodes + self._count("skipped") + self._count("files")
+        return self.nodes + sum(map(self._count, (*HIDDEN, "files")))
 
     @property
     def answered(self) -> int:
@@ -130,6 +139,7 @@ class Coverage:
         texts = {
             "differs": "{count:,} that the source has otherwise",
             "skipped": "{count:,} that couldn't be read",
+            "excluded": "{count:,} excluded with what is in them",
             "files": "{files} without a line",
             "cut": "{count:,} of the table of users",
             "unlisted": "what is in {folders}",

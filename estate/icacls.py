@@ -4,7 +4,7 @@ import re
 
 from errors import Stopped
 from others import put_back, whole_of
-from paths import spelled
+from paths import Path, spelled
 from script import Change, Script
 from sddl import parts_of
 from table import Table, plural
@@ -19,9 +19,9 @@ def write_icacls(script: Script, name: str, folder: str, is_old: bool, table: Ta
     mark; if `is_old` the DACLs that were read. `folder` is the root's path in the file. Stopped if a change can't be
     said so; otherwise returns how many nodes change."""
     changes = list(script.changes())
-    stops = 0
+    stops, with_excluded = 0, {path[:-1] for path in script.excluded}
     for change in changes:
-        why = _why_not(script, change)
+        why = _why_not(script, change, with_excluded)
         if why is not None:
             stops += 1
             table.row("stop", {"path": spelled(change.path), "why": why})
@@ -43,7 +43,7 @@ def _dacl(change: Change, is_old: bool) -> str:
     return text[text.index("D:") :]
 
 
-def _why_not(script: Script, change: Change) -> str | None:
+def _why_not(script: Script, change: Change, with_excluded: set[Path]) -> str | None:
     before, after = parts_of(change.before), parts_of(change.after)
     if (before.owner, before.group) != (after.owner, after.group):
         return "its owner or group changes, which icacls /restore doesn't set"
@@ -51,6 +51,8 @@ def _why_not(script: Script, change: Change) -> str | None:
         return "its path has a character that no name has on Windows"
     if change.is_passed_down and script.nodes[change.path].left_out:
         return "its files have no lines, and would keep their entries: read without --folders"
+    if change.is_passed_down and change.path in with_excluded:
+        return "what --exclude left out of it has no lines, and would keep its entries: read without --exclude"
     if change.dropped:
         return "it would lose entries of other types that it inherited"
     try:

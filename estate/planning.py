@@ -39,6 +39,10 @@ class Plan:
     _inodes: dict[int, Step] = field(default_factory=dict)
     #: Folders that lose entries of other types which are for children too.
     _closed: set[Path] = field(default_factory=set)
+    _excluded: set[Path] = field(init=False)
+
+    def __post_init__(self) -> None:
+        self._excluded = self.script.excluded
 
     def make(self) -> None:
         for change in self.script.changes():
@@ -130,7 +134,9 @@ class Plan:
             path = (*change.path, name)
             if path in self.script.nodes:
                 continue
-            if kind == "file":
+            if path in self._excluded:
+                self._leave(path, "--exclude left it out of the script", True)
+            elif kind == "file":
                 chains = chains or self._chains_of(change.path)
                 self._plan_file(path, change, chains)
             else:

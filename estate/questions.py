@@ -14,6 +14,7 @@ from hudarin import Refused, Sid
 
 from errors import Failed, Invalid
 from forms import whole_in
+from gaps import HIDDEN
 from paths import Path, parsed, spelled
 from script import Script
 from table import Table, plural
@@ -237,7 +238,7 @@ def node_of(script: Script, path_text: str) -> Path:
     """The path that the text spells, of a node of the script."""
     path = _path_of(path_text)
     if path not in script.nodes:
-        whys = [gap.why for gap in script.gaps if gap.what == "skipped" and path[: len(gap.path)] == gap.path]
+        whys = [gap.why for gap in script.gaps if gap.what in HIDDEN and path[: len(gap.path)] == gap.path]
         raise Invalid(f"{path_text}: the script has no such node{''.join(f': {why}' for why in whys)}")
     return path
 

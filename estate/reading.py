@@ -24,6 +24,7 @@ class Counts:
 
     nodes: int = 0
     skipped: int = 0
+    excluded: int = 0
     differing: int = 0
     #: Nodes that keep what they had inherited elsewhere.
     stored: int = 0
@@ -175,7 +176,7 @@ class Reading:
         if found.is_container:
             self._hidden = _Hidden(found, why)
         else:
-            self._row_of_skipped(found, why, 0)
+            self._row_of_hidden(_Hidden(found, why))
 
     def _is_hidden(self, path: Path) -> bool:
         hidden = self._hidden
@@ -187,12 +188,16 @@ class Reading:
 
     def _end_hidden(self) -> None:
         if self._hidden is not None:
-            self._row_of_skipped(self._hidden.found, self._hidden.why, self._hidden.below)
+            self._row_of_hidden(self._hidden)
             self._hidden = None
 
-    def _row_of_skipped(self, found: Found, why: str, below: int) -> None:
-        self.counts.skipped += 1 + below
-        self._say(Gap("skipped", found.path, why, below))
+    def _row_of_hidden(self, hidden: _Hidden) -> None:
+        gap = Gap("excluded" if hidden.found.is_excluded else "skipped", hidden.found.path, hidden.why, hidden.below)
+        if hidden.found.is_excluded:
+            self.counts.excluded += gap.nodes
+        else:
+            self.counts.skipped += gap.nodes
+        self._say(gap)
 
     # The script
 

@@ -6,7 +6,7 @@ from dataclasses import dataclass, field
 from hudarin import Descriptor, Refused, Sid, Store, View, WholeEntry
 
 from errors import Failed, Invalid
-from gaps import UNKNOWN, Coverage, Gap, count_in, gap_of
+from gaps import HIDDEN, UNKNOWN, Coverage, Gap, count_in, gap_of
 from inheritance import Chain, Given, add, given_to
 from others import FOR_CHILDREN, INHERITED, others_of, whole_of
 from paths import Path, parsed, spelled
@@ -120,6 +120,11 @@ class Script:
         """What the source has otherwise at and below a path."""
         return [gap for gap in self.gaps if gap == UNKNOWN or gap.path[: len(top)] == top]
 
+    @property
+    def excluded(self) -> set[Path]:
+        """The nodes that --exclude left out, but not those below them."""
+        return {gap.path for gap in self.gaps if gap.what == "excluded"}
+
     def gaps_of_changes(self, top: Path) -> list[Gap]:
         """What the source has otherwise of nodes at and below a path that change, or whose folder passes down other
         entries."""
@@ -132,7 +137,7 @@ class Script:
         def is_reached(gap: Gap) -> bool:
             if gap.what == "differs":
                 return gap.path in changed
-            return gap == UNKNOWN or (gap.path[:-1] if gap.what == "skipped" else gap.path) in passing
+            return gap == UNKNOWN or (gap.path[:-1] if gap.what in HIDDEN else gap.path) in passing
 
         return list(filter(is_reached, self.gaps_below(top)))
 

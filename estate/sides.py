@@ -5,13 +5,13 @@ from collections import Counter
 from collections.abc import Iterator
 from dataclasses import dataclass, field
 
-from gaps import Coverage, Gap
+from gaps import HIDDEN, Coverage, Gap
 from paths import Path
 from script import Script
 from sddl import parts_of
 
 #: The kinds of gaps whose nodes a coverage counts.
-_COUNTED = ("skipped", "files")
+_COUNTED = (*HIDDEN, "files")
 
 #: The kind of a gap, and its path.
 Place = tuple[str, Path]
@@ -61,10 +61,10 @@ class Side:
     def hiding(self, path: Path, is_container: bool) -> Place | None:
         """The gap by which the script doesn't say whether there is such a node, of which it has no line."""
         for length in range(len(path) + 1):
-            if ("skipped", path[:length]) in self.gaps:
-                return "skipped", path[:length]
-            if length < len(path) and ("unlisted", path[:length]) in self.gaps:
-                return "unlisted", path[:length]
+            kinds = HIDDEN if length == len(path) else (*HIDDEN, "unlisted")
+            for what in kinds:
+                if (what, path[:length]) in self.gaps:
+                    return what, path[:length]
         files = "files", path[:-1]
         return files if path and not is_container and files in self.gaps else None
 
@@ -129,7 +129,7 @@ class Compared:
             for place, gap in self._gaps(side):
                 count = gap.count
                 if gap.what in _COUNTED:
-                    count = max(count, hidden[place] - (gap.what == "skipped"))
+                    count = max(count, hidden[place] - (gap.what in HIDDEN))
                 if place not in counted or counted[place].count < count:
                     counted[place] = dataclasses.replace(gap, count=count)
         return Coverage(len(self.pairs), list(counted.values()))

@@ -10,6 +10,7 @@ from dataclasses import dataclass
 
 import attributes
 from errors import Failed, Invalid
+from exclusion import Exclusion
 from forms import Attribute, kept_in
 from found import Found
 from others import Kept
@@ -87,9 +88,9 @@ class Volume:
         names = " nor ".join(attribute.value for attribute in Attribute)
         raise Invalid(f"{self.name}: it has neither {names}; if folders in it have one, name it by --attribute")
 
-    def walk(self, root: str | None = None) -> Iterator[Found]:
-        """Each node, as Found says. A volume that disappears is Failed. `root` is the descriptor of the folder itself
-        in canonical SDDL, unless its own counts."""
+    def walk(self, exclusion: Exclusion, root: str | None = None) -> Iterator[Found]:
+        """Each node, as Found says; a folder that is excluded isn't opened. A volume that disappears is Failed. `root`
+        is the descriptor of the folder itself in canonical SDDL, unless its own counts."""
         levels = [self._level(os.dup(self._root), ())]
         unlisted = levels[0].unlisted
         try:
@@ -102,6 +103,8 @@ class Volume:
                 name, kind = next(level.names, (b"", ""))
                 if not name:
                     os.close(levels.pop().folder)
+                elif (why := exclusion.why((*level.path, name))) is not None:
+                    yield Found((*level.path, name), kind in FOLDERS, None, why, is_excluded=True)
                 elif kind == _IS_FOLDER:
                     found, below = self._folder_in(level, name)
                     levels += [] if below is None else [below]

@@ -6,9 +6,13 @@ import os
 import pty
 import subprocess
 import sys
+from contextlib import redirect_stderr
+from unittest.mock import patch
 
 import rig
 from rig import TOOL, Case
+
+from progress import Progress
 
 HEADER = '"Path","Sddl"\r\n'
 PREFIX = "Microsoft.PowerShell.Core\\FileSystem::"
@@ -185,8 +189,8 @@ class Texts(Case):
         self.runs(0, "read", "--", "--folders", "--json")
         self.assertIn("open 1", (self.room / "--json").read_text())
 
-    def test_the_progress_bar(self) -> None:
-        """On a terminal a bar is drawn, and wiped out at the end; elsewhere there is none."""
+    def test_the_progress(self) -> None:
+        """On a terminal a line is replaced, and wiped out at the end; elsewhere --progress prints lines."""
         self.write("source", THREE)
         ours, theirs = pty.openpty()
         command = [sys.executable, str(TOOL), "read", "source", "script"]
@@ -194,16 +198,23 @@ class Texts(Case):
             subprocess.run(command, cwd=self.room, stderr=theirs, check=True)
             os.close(theirs)
             said = b"".join(iter(lambda: all_of(terminal), b""))
-        self.assertTrue(said.startswith(b"\r[##########                    ] 1 of 3 nodes\x1b[K"), said)
+        self.assertTrue(said.startswith(b"\r1 of 3 nodes\x1b[K"), said)
         self.assertIn(b"\r\x1b[Kestate: source: 3 nodes", said)
-        self.assertNotIn("[#", rig.estate("read", "source", "script", room=self.room).stderr)
+        lines = rig.estate("read", "source", "script", room=self.room).stderr
+        asked = rig.estate("read", "--progress", "source", "script", room=self.room).stderr
+        self.assertEqual(asked, f"estate: 1 of 3 nodes\n{lines}")
 
-    def test_too_many_and_too_deep(self) -> None:
-        rows = [("C:\\s", ROOT), *((f"C:\\s\\f{number}", FILE) for number in range(65_536))]
-        self.refuses(csv_of(*rows), "65,537 nodes, and 65,536 fit: read its folders alone by --folders")
-        self.write("source", csv_of(*rows))
-        self.script("--folders", says="1 line of nodes, 65,536 files left out")
-        self.assertEqual(self.rows, ["files\t/\t65536"])
+    def test_the_progress_on_a_volume(self) -> None:
+        """How many nodes a second, and how many the file system has, unless that can't be."""
+        speed = "100 nodes, 50 a second"
+        for total, said in ((500, f"{speed}; the whole file system has 500"), (9, speed)):
+            with redirect_stderr(io.StringIO()) as lines, patch("progress.time.monotonic", side_effect=(0, 2, 2, 2)):
+                progress = Progress(total, is_of_all=True, is_asked=True)
+                progress.count = 99
+                progress.step()
+            self.assertEqual(lines.getvalue(), f"estate: {said}\n")
+
+    def test_too_deep(self) -> None:
         deep = [("C:\\s" + "\\d" * count, ROOT) for count in range(67)]
         self.write("source", csv_of(*deep))
         self.script(status=1, says="2 skipped")
