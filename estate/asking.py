@@ -62,7 +62,7 @@ class Asked:
         path = questions.node_of(self._script, path_text)
         about = self._script.covered(path)
         asked = asking_as(user, mask, words, self._people, self._only_given, self._table)
-        self._served = self._served or Served(self._script.remade())
+        self._served = self._served or Served(len(self._script.nodes), self._script.remade())
         count = questions.find(self._served.answer, path, asked, self._table)
         return answered(self._table, "found", plural(count, "node"), {"nodes": count}, about)
 

@@ -17,6 +17,7 @@ from errors import Invalid, Stopped
 from exclusion import Exclusion
 from forms import Attribute
 from gaps import Coverage
+from limits import requirement_of
 from journal import Journal, Step, locked_journal, write_journal
 from matrix import Matrix
 from names import read_names
@@ -25,7 +26,7 @@ from people import require_own_groups
 from planning import Leave, Plan
 from progress import Progress
 from report import Report
-from reading import MAX_SCRIPT_BYTES, Counts, Reading
+from reading import Counts, Reading
 from script import Script, read_script
 from table import Table, plural, say
 from texts import Assumed, TextFile
@@ -74,8 +75,9 @@ def _sum_up(arguments: argparse.Namespace, counts: Counts, table: Table) -> None
     if counts.unlisted:
         said.append(f"{plural(counts.unlisted, 'folder')} not listed")
     table.end("read", ", ".join(said), {"source": arguments.source, **dataclasses.asdict(counts)})
-    if counts.bytes > MAX_SCRIPT_BYTES:
-        say(f"the script has {counts.bytes:,} bytes, and sdstore script takes {MAX_SCRIPT_BYTES:,}: use sdstore serve")
+    required = requirement_of(counts.lines, counts.bytes)
+    if required is not None:
+        say(required)
 
 
 def _volume(folder: str, arguments: argparse.Namespace) -> Volume:

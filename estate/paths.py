@@ -6,10 +6,9 @@ import urllib.parse
 #: The names of a path, from the root down. The root has none.
 Path = tuple[bytes, ...]
 
-#: The limits of a tree, by docs/TREE.md.
+#: The limits of a path, by docs/TREE.md.
 MAX_NAME_BYTES = 255
 MAX_NAMES = 64
-MAX_NODES = 65_536
 
 _ENCODED = re.compile(rb"[^!-$&-~]")
 

@@ -8,14 +8,12 @@ from errors import Invalid
 from found import Found
 from gaps import Gap, end_of
 from inheritance import Chain, Given, Inheritance, TooMuch
+from limits import BY_HAND, MAX_NODES
 from others import Kept
-from paths import MAX_NODES, Path, fault_of, spelled
+from paths import Path, fault_of, spelled
 from progress import Progress
 from sddl import Parts, parts_of
 from table import Cell, Table
-
-#: So many bytes has a script at most (docs/SCRIPT.md).
-MAX_SCRIPT_BYTES = 16_777_216
 
 
 @dataclass(slots=True)
@@ -74,6 +72,7 @@ class Reading:
     def run(self, source: Iterable[Found], progress: Progress) -> Counts:
         """Writes the script: the root first, and each node after its folder. Invalid if no tree has the nodes."""
         self._write("# Read by estate. Nodes: open, import, addc and addo; changes of descriptors may follow the last line.")
+        self._write(f"# {BY_HAND}")
         for found in source:
             progress.step()
             self.counts.nodes += 1
@@ -85,11 +84,6 @@ class Reading:
         self._leave(None)
         self._write(end_of(self._gap_count))
         self._write("publish")
-        if self.counts.lines > MAX_NODES:
-            raise Invalid(
-                f"{self.counts.lines:,} nodes, and {MAX_NODES:,} fit: read its folders alone by --folders, "
-                "or each part of it by itself; nothing is written"
-            )
         return self.counts
 
     # Each node
@@ -216,6 +210,11 @@ class Reading:
 
     def _write_node(self, line: str) -> None:
         self.counts.lines += 1
+        if self.counts.lines > MAX_NODES:
+            raise Invalid(
+                f"more than {MAX_NODES:,} nodes, which is what fits: read its folders alone by --folders, "
+                "each part of it by itself, or without some of it by --exclude; nothing is written"
+            )
         self._write(line)
 
     def _write(self, line: str) -> None:

@@ -8,6 +8,7 @@ from hudarin import Descriptor, Refused, Sid, Store, View, WholeEntry
 from errors import Failed, Invalid
 from gaps import HIDDEN, UNKNOWN, Coverage, Gap, count_in, gap_of
 from inheritance import Chain, Given, add, given_to
+from limits import MAX_EDITS, MAX_NODES
 from others import FOR_CHILDREN, INHERITED, others_of, whole_of
 from paths import Path, parsed, spelled
 from sddl import parts_of
@@ -187,7 +188,7 @@ class Script:
         if command != "open" or len(words) != 2:
             raise ValueError("'open 1 SDDL' is expected, as estate read writes it")
         descriptor = Descriptor.from_sddl(words[1])
-        self._store = Store(descriptor)
+        self._store = Store(descriptor, nodes=MAX_NODES, edits=MAX_EDITS)
         self.nodes[()] = Node(True, str(descriptor))
 
     def _import(self, command: str, words: list[str]) -> None:

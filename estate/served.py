@@ -6,6 +6,7 @@ from collections.abc import Iterable, Iterator
 from itertools import islice
 
 from errors import Failed
+from limits import options_for
 from questions import program
 
 #: So many lines are written before their answers are read: these are short, and fit into a pipe.
@@ -15,12 +16,12 @@ _MADE = ("opened ", "ok", "published ")
 
 
 class Served:
-    """A process with the tree that these lines make, until `close`."""
+    """A process with the tree of so many nodes that these lines make, until `close`."""
 
-    def __init__(self, lines: Iterable[str]) -> None:
+    def __init__(self, nodes: int, lines: Iterable[str]) -> None:
         # (a pipe that nobody reads would fill up)
         self._errors = tempfile.TemporaryFile()
-        words = [program(), "--percent", "serve"]
+        words = [program(), "--percent", *options_for(nodes), "serve"]
         try:
             self._process = subprocess.Popen(
                 words, stdin=subprocess.PIPE, stdout=subprocess.PIPE, stderr=self._errors, encoding="utf-8"

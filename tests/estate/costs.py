@@ -76,14 +76,12 @@ def main(files: int, users: int) -> None:
         run(room, "write", "folders", "mount")
         run(room, "undo", "folders.journal")
         (room / "accounts").write_text(accounts_of(users))
-        # (a volume of more than 65,536 nodes has no whole script)
-        script = "whole" if (room / "whole").exists() else "folders"
-        run(room, "report", script, "page.html", "--accounts", "accounts", "--matrix", "sheet.csv")
+        run(room, "report", "whole", "page.html", "--accounts", "accounts", "--matrix", "sheet.csv")
         (room / "questions").write_text("".join(f"find / {sid_text(user)} 0x2\n" for user in USERS * 8))
-        run(room, "ask", script, given="questions")
-        changed = (room / script).read_text() + "dacl / D:(A;OICI;FA;;;BA)(A;OICI;FX;;;AU)\npublish\n"
+        run(room, "ask", "whole", given="questions")
+        changed = (room / "whole").read_text() + "dacl / D:(A;OICI;FA;;;BA)(A;OICI;FX;;;AU)\npublish\n"
         (room / "changed").write_text(changed)
-        run(room, "diff", "--totals", script, "changed")
+        run(room, "diff", "--totals", "whole", "changed")
         for made in ("page.html", "sheet.csv"):
             print(f"{made}: {(room / made).stat().st_size:,} bytes", flush=True)
 

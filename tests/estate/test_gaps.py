@@ -65,7 +65,7 @@ class Elsewhere(Sources):
 
     def test_lines(self) -> None:
         script = self.read(*self.ROWS)
-        self.assertEqual(script.splitlines()[1:], self.LINES)
+        self.assertEqual(script.splitlines()[2:], self.LINES)
         last = self.runs(0, "read", "--json", "source", "script", says="2 nodes with what was inherited elsewhere")[-1]
         self.assertEqual([json.loads(last)[name] for name in ("differing", "stored")], [0, 2])
 
@@ -87,8 +87,8 @@ class Elsewhere(Sources):
         for wrong, says in (
             (line.rpartition(" ")[0], "'addc PATH SDDL KEPT OFFER' is expected"),
             (line.replace("(A;OICIID;FA;;;WD)", own), "not just inherited entries"),
-            (line.replace("D:(A;OICIID;FA;;;WD)", "D:P(A;OICIID;FA;;;WD)"), "line 3"),
-            (line.replace("D:(A;OICIID;FA;;;WD)", "D:NO_ACCESS_CONTROL"), "line 3"),
+            (line.replace("D:(A;OICIID;FA;;;WD)", "D:P(A;OICIID;FA;;;WD)"), "line 4"),
+            (line.replace("D:(A;OICIID;FA;;;WD)", "D:NO_ACCESS_CONTROL"), "line 4"),
         ):
             self.write("wrong", script.replace(line, wrong))
             self.runs(2, "plan", "wrong", says=says)

@@ -255,7 +255,7 @@ class Stopped(Others):
         (self.room / "changed.journal").unlink()
         self.assertIn(f"stop\t/f\t{READ_AGAIN}", self.writes(1, "--replace-differing"))
         self.write("changed", script.replace(f"# differs\t/f\t{WHY}\t0x", f"# differs\t/f\t{WHY}\tx") + CHANGE)
-        self.runs(2, "plan", "changed", says="line 4: refused: sddl")
+        self.runs(2, "plan", "changed", says="line 5: refused: sddl")
 
     def test_folders_alone(self) -> None:
         """A file that inherited such entries has a line."""
