@@ -213,10 +213,14 @@ def _who(change: Change) -> dict[str, Cell]:
     return {"by": _by(change), **({"of": change.of} if change.of else {})}
 
 
+def _side(name: str) -> Side:
+    with read_script(name) as script:
+        return Side(script)
+
+
 def diff(arguments: argparse.Namespace, table: Table) -> int:
     """What changed between two scripts. The status is 1 if somebody gained rights."""
-    with read_script(arguments.before) as before, read_script(arguments.after) as after:
-        compared = Compared(Side(before), Side(after))
+    compared = Compared(_side(arguments.before), _side(arguments.after))
     with people_in(arguments.accounts) as people:
         made = Diff(compared, people, table)
         made.run(arguments.totals)

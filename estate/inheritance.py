@@ -1,6 +1,7 @@
 """What a child has of its folder, by the library: no rule of inheritance is written here."""
 
 from dataclasses import dataclass
+from functools import lru_cache
 
 from hudarin import Descriptor, Node, Refused, Store
 
@@ -107,9 +108,14 @@ class Inheritance:
 
 def add(store: Store, path: str, given: Given, is_container: bool) -> None:
     """Adds a node to which `given` was given."""
-    lists = [Descriptor.from_sddl(text) if text else None for text in (given.kept, given.offer)]
+    lists = [_descriptor(text) if text else None for text in (given.kept, given.offer)]
     adds = store.add_container if is_container else store.add_object
-    adds(path, Descriptor.from_sddl(given.own), kept=lists[0], offer=lists[1])
+    adds(path, _descriptor(given.own), kept=lists[0], offer=lists[1])
+
+
+@lru_cache(_KEPT)
+def _descriptor(text: str) -> Descriptor:
+    return Descriptor.from_sddl(text)
 
 
 def given_to(node: Node) -> Given:

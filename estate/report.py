@@ -7,10 +7,10 @@ import html
 import json
 import os
 import time
-from collections.abc import Iterable
+from collections.abc import Iterable, Iterator
 from dataclasses import dataclass, field
 from pathlib import Path as File
-from typing import Any
+from typing import Any, BinaryIO
 
 from hudarin import Sid, mask
 
@@ -34,6 +34,7 @@ _KINDS = {"no DACL": "null", "null DACL": "null", "risky grant": "risk", "risky 
 _KINDS |= dict.fromkeys(("no right", "not inherited", "repeated", "no effect"), "tidy")
 #: The parts of the page's script, in their order.
 _SCRIPT = ("report", "changes", "start")
+_JSON = json.JSONEncoder(separators=(",", ":"))
 
 
 @dataclass(slots=True)
@@ -51,10 +52,23 @@ class Report:
 
     def write(self, name: str, title: str, source: str) -> int:
         """Writes the report on the source, and returns how many nodes it has."""
+        before, after = self._page(title)
+        with atomic_file(name) as file:
+            file.write(before)
+            self._write_data(file, source)
+            file.write(after)
+        return len(self.script.nodes)
+
+    def _write_data(self, file: BinaryIO, source: str) -> None:
+        """The nodes come first, each as it is made, and then what they name by numbers."""
         numbers = {path: number for number, path in enumerate(sorted(self.script.nodes))}
-        nodes = self._nodes(list(numbers))
+        for number, node in enumerate(self._nodes(list(numbers))):
+            file.write((b"," if number else b'{"nodes":[') + _inside(node))
+        file.write(b"]," + _inside(self._others(numbers, source))[1:])
+
+    def _others(self, numbers: dict[Path, int], source: str) -> dict[str, Any]:
         folders = sum(node.is_container for node in self.script.nodes.values())
-        counts = {"folder": folders, "file": len(nodes) - folders}
+        counts = {"folder": folders, "file": len(numbers) - folders}
         said = [plural(count, what) for what, count in counts.items()]
         about = self.script.covered(())
         changes = self._changes(numbers)
@@ -62,7 +76,6 @@ class Report:
             "made": f"Made {_now()} of {safe(source)}",
             "named": bool(self.names),
             "sum": f"{', '.join(said)}: {about.text}",
-            "nodes": nodes,
             "lists": self._made,
             "accesses": list(self._accesses.numbers),
             "changed": sum(1 for _ in self.script.changes()),
@@ -72,24 +85,30 @@ class Report:
         }
         if self.matrix is not None:
             data["people"] = self.matrix.page(numbers)
-        self._put(name, title, data)
-        return len(nodes)
+        return data
 
-    def _nodes(self, paths: list[Path]) -> list[list[Any]]:
-        texts = {path: self.script.descriptor(path) for path in paths}
-        findings = _findings(texts.values())
-        grants = [grants_of(texts.values(), rights) for rights in _ASKED]
+    def _nodes(self, paths: list[Path]) -> Iterator[list[Any]]:
+        texts = list(map(self.script.descriptor, paths))
+        findings = _findings(texts)
+        grants = [grants_of(texts, rights) for rights in _ASKED]
         differing = {gap.path: gap.why for gap in self.script.gaps if gap.what == "differs"}
-        nodes: list[list[Any]] = []
-        for path, text in texts.items():
-            node, parts = self.script.nodes[path], parts_of(text)
-            label = safe(path[-1].decode()) if path else ""
-            owners = self._sid(parts.owner), self._sid(parts.group)
-            access = self._accesses.of(tuple(tuple(map(self._grant, each[text])) for each in grants))
-            number = self._list(text, parts, findings[text])
+        known: dict[str, tuple[int, int, int, int]] = {}
+        for path, text in zip(paths, texts):
+            if text not in known:
+                known[text] = self._numbered(text, [each[text] for each in grants], findings[text])
+            *shown, access = known[text]
+            node, label = self.script.nodes[path], safe(path[-1].decode()) if path else ""
             shape = [len(path), label, int(node.is_container)]
-            nodes.append([*shape, *owners, number, node.left_out, access, differing.get(path, "")])
-        return nodes
+            yield [*shape, *shown, node.left_out, access, differing.get(path, "")]
+
+    def _numbered(
+        self, text: str, grants: list[list[Grant]], findings: list[tuple[str, str]]
+    ) -> tuple[int, int, int, int]:
+        """The numbers of a descriptor's owner, group and list, and of what it grants."""
+        parts = parts_of(text)
+        owners = self._sid(parts.owner), self._sid(parts.group)
+        access = self._accesses.of(tuple(tuple(map(self._grant, each)) for each in grants))
+        return *owners, self._list(text, parts, findings), access
 
     def _grant(self, grant: Grant) -> tuple[Any, ...]:
         return self._subject(grant.to), int(grant.is_owner), tuple(map(self._subject, grant.unless))
@@ -127,19 +146,22 @@ class Report:
         named = NAMED.get(bits, f"{rights} ({bits:#x})" if not rights.startswith("0x") else rights)
         return [int(entry.kind == "D"), named, _applies(entry), int(entry.is_inherited), self._sid(sid)]
 
-    def _put(self, name: str, title: str, data: dict[str, Any]) -> None:
+    def _page(self, title: str) -> tuple[bytes, bytes]:
+        """The page before its data and after it."""
         more = () if self.matrix is None else ("matrix",)
         style, script = _joined(("report", *more), "css"), _joined((*_SCRIPT, *more), "js")
         page = (_HERE / "report.html").read_text("utf-8")
         digest = base64.b64encode(hashlib.sha256(script.encode()).digest()).decode()
-        # ('<' ends the element that has the data, wherever it is)
-        inside = json.dumps(data, separators=(",", ":")).replace("<", "\\u003c")
         values = {"hash": f"sha256-{digest}", "title": html.escape(safe(title)), "style": style, "script": script}
         before, after = page.split("@data@")
         for key, value in values.items():
             before, after = before.replace(f"@{key}@", value), after.replace(f"@{key}@", value)
-        with atomic_file(name) as file:
-            file.write((before + inside + after).encode())
+        return before.encode(), after.encode()
+
+
+def _inside(data: Any) -> bytes:
+    """The data for an element of the page, which '<' would end wherever it is."""
+    return _JSON.encode(data).replace("<", "\\u003c").encode()
 
 
 def _joined(parts: tuple[str, ...], kind: str) -> str:

@@ -2,6 +2,8 @@
 
 from collections.abc import Callable, Iterator
 from dataclasses import dataclass, field
+from functools import lru_cache
+from sys import intern
 
 from hudarin import Descriptor, Refused, Sid, Store, View, WholeEntry
 
@@ -72,6 +74,8 @@ class Script:
     #: Where the source has more or other nodes, by the comments of `estate read`.
     gaps: list[Gap] = field(default_factory=list)
     _gap_count: int | None = None
+    #: The paths of containers by their texts, while the lines of nodes are read.
+    _folders: dict[str, Path] = field(default_factory=dict)
     _store: Store | None = None
     _before: View | None = None
     _after: View | None = None
@@ -95,12 +99,12 @@ class Script:
         return self._after
 
     def descriptor(self, path: Path) -> str:
-        """The node's descriptor in the tree after the changes, in canonical SDDL."""
-        return str(self.after.descriptor(plain(path)))
+        """The node's descriptor in the tree after the changes, in canonical SDDL: equal ones are one text."""
+        return intern(str(self.after.descriptor(plain(path))))
 
     def changes(self) -> Iterator[Change]:
         """The nodes that change, in the order of the paths."""
-        for path in sorted(self.nodes):
+        for path in sorted(self.nodes) if self.before.edits != self.after.edits else ():
             at = plain(path)
             before, after = self.before.descriptor(at), self.after.descriptor(at)
             if before != after:
@@ -144,8 +148,8 @@ class Script:
 
     def remade(self) -> Iterator[str]:
         """The lines of a script that makes the tree after the changes."""
-        for path in sorted(self.nodes):
-            made = self.after.own(plain(path))
+        for made in self.after.nodes():
+            path = tuple(filter(None, made.path.encode().split(b"/")))
             command = f"{'addc' if made.is_container else 'addo'} {spelled(path)}" if path else "open 1"
             yield f"{command} {given_to(made).words}"
         yield "publish"
@@ -194,29 +198,38 @@ class Script:
     def _import(self, command: str, words: list[str]) -> None:
         if command != "import" or len(words) != 3 or words[0] not in ("container", "object"):
             raise ValueError("'import KIND PATH SDDL' is expected, as estate read writes it, or 'publish'")
-        text = str(Descriptor.from_sddl(words[2]))
-        self._add(words[0] == "container", parsed(words[1]), Given(parts_of(text).own), text)
+        self._add(words[0] == "container", words[1], *_imported(words[2]))
 
     def _add_stored(self, is_container: bool, words: list[str]) -> None:
         if len(words) != 4:
             raise ValueError("'addc PATH SDDL KEPT OFFER' is expected, as estate read writes it, or 'addo'")
         given = Given(*words[1:])
         # (what it had: its own entries, and then those that it had inherited)
-        text = str(Descriptor.from_sddl(given.own + given.kept.removeprefix("D:")))
-        if parts_of(text).own != parts_of(given.own).own:
+        given_own, text = _imported(given.own + given.kept.removeprefix("D:"))
+        if given_own.own != parts_of(given.own).own:
             raise ValueError(f"{given.kept}: not just inherited entries, as estate read writes them")
-        self._add(is_container, parsed(words[0]), given, text)
+        self._add(is_container, words[0], given, text)
 
-    def _add(self, is_container: bool, path: Path, given: Given, text: str) -> None:
+    def _add(self, is_container: bool, path_text: str, given: Given, text: str) -> None:
         assert self._store is not None
+        path = self._path_of(path_text)
         add(self._store, plain(path), given, is_container)
         self.nodes[path] = Node(is_container, text)
+        if is_container:
+            self._folders[path_text] = path
+
+    def _path_of(self, text: str) -> Path:
+        """The path that a text spells: names of its folder are those that the folder has, in memory once."""
+        above, _, name = text.rpartition("/")
+        folder = self._folders.get(above) if name else None
+        return parsed(text) if folder is None else (*folder, *parsed(f"/{name}"))
 
     def _publish(self) -> None:
         assert self._store is not None
         view = self._store.publish()
         if self._before is None:
             self._before, self._after = view, view.share()
+            self._folders.clear()
         else:
             self.after.close()
             self._after = view
@@ -255,6 +268,13 @@ class Script:
             raise ValueError(f"{spelled(change.path)}: it has entries of other types, and a null DACL has none")
         if after.inherits and not before.inherits and any(each.flags & FOR_CHILDREN for each in others_of(above)):
             raise ValueError(f"{spelled(change.path)}: it would inherit entries of other types, and no write adds some")
+
+
+@lru_cache(65_536)
+def _imported(text: str) -> tuple[Given, str]:
+    """What an import of a descriptor gives a node, and the descriptor in canonical SDDL: equal ones are one text."""
+    canonical = intern(str(Descriptor.from_sddl(text)))
+    return Given(parts_of(canonical).own), canonical
 
 
 def plain(path: Path) -> str:

@@ -4,6 +4,7 @@ import dataclasses
 from collections import Counter
 from collections.abc import Iterator
 from dataclasses import dataclass, field
+from functools import lru_cache
 
 from gaps import HIDDEN, Coverage, Gap
 from paths import Path
@@ -34,6 +35,12 @@ class State:
         return "folder" if self.is_container else "file"
 
 
+@lru_cache(65_536)
+def _state(is_container: bool, text: str, whole: str, is_unsure: bool) -> State:
+    """Nodes with the same descriptor share one."""
+    return State(is_container, text, whole, is_unsure)
+
+
 #: The states of a node in two scripts: None where it isn't there.
 Pair = tuple[State | None, State | None]
 
@@ -44,19 +51,16 @@ class Side:
     def __init__(self, script: Script) -> None:
         #: Where the source has more or other nodes than the script.
         self.gaps: dict[Place, Gap] = {(gap.what, gap.path): gap for gap in script.gaps}
-        self.states = {path: self._state(script, path) for path in script.nodes}
+        self.states = {path: self._read(script, path) for path in script.nodes}
         for change in script.changes():
-            self.states[change.path] = dataclasses.replace(
-                self.states[change.path],
-                text=parts_of(change.after).text,
-                is_unsure=("differs", change.path) in self.gaps,
-            )
+            read, is_unsure = self.states[change.path], ("differs", change.path) in self.gaps
+            self.states[change.path] = _state(read.is_container, parts_of(change.after).text, read.whole, is_unsure)
 
-    def _state(self, script: Script, path: Path) -> State:
+    def _read(self, script: Script, path: Path) -> State:
         """As it was read: of the root a script has the entries in the order of a tree alone."""
         node = script.nodes[path]
         is_unsure = not path and ("differs", path) in self.gaps
-        return State(node.is_container, node.text, node.whole, is_unsure)
+        return _state(node.is_container, node.text, node.whole, is_unsure)
 
     def hiding(self, path: Path, is_container: bool) -> Place | None:
         """The gap by which the script doesn't say whether there is such a node, of which it has no line."""
