@@ -18,7 +18,7 @@ def write_icacls(script: Script, name: str, folder: str, is_old: bool, table: Ta
     """Writes a line with the path and one with the DACL for each node that changes, in UTF-16 without a byte order
     mark; if `is_old` the DACLs that were read. `folder` is the root's path in the file. Stopped if a change can't be
     said so; otherwise returns how many nodes change."""
-    changes = list(script.changes())
+    changes = script.changes()
     stops, with_excluded = 0, {path[:-1] for path in script.excluded}
     for change in changes:
         why = _why_not(script, change, with_excluded)

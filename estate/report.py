@@ -78,7 +78,7 @@ class Report:
             "sum": f"{', '.join(said)}: {about.text}",
             "lists": self._made,
             "accesses": list(self._accesses.numbers),
-            "changed": sum(1 for _ in self.script.changes()),
+            "changed": len(self.script.changes()),
             "changes": changes,
             "gaps": [_gap(gap, numbers) for gap in about.gaps if gap.what != "files"],
             "sids": self._named(),

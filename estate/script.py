@@ -76,6 +76,8 @@ class Script:
     _gap_count: int | None = None
     #: The paths of containers by their texts, while the lines of nodes are read.
     _folders: dict[str, Path] = field(default_factory=dict)
+    #: Once they are asked for, after the last line.
+    _changes: list[Change] | None = None
     _store: Store | None = None
     _before: View | None = None
     _after: View | None = None
@@ -102,14 +104,20 @@ class Script:
         """The node's descriptor in the tree after the changes, in canonical SDDL: equal ones are one text."""
         return intern(str(self.after.descriptor(plain(path))))
 
-    def changes(self) -> Iterator[Change]:
+    def changes(self) -> list[Change]:
         """The nodes that change, in the order of the paths."""
-        for path in sorted(self.nodes) if self.before.edits != self.after.edits else ():
+        if self._changes is None:
+            self._changes = list(self._compared()) if self.before.edits != self.after.edits else []
+        return self._changes
+
+    def _compared(self) -> Iterator[Change]:
+        for path in sorted(self.nodes):
             at = plain(path)
             before, after = self.before.descriptor(at), self.after.descriptor(at)
             if before != after:
                 node = self.nodes[path]
-                yield Change(path, node.is_container, node.text, node.whole, str(before), str(after))
+                texts = intern(str(before)), intern(str(after))
+                yield Change(path, node.is_container, node.text, node.whole, *texts)
 
     # What the source has otherwise
 
