@@ -95,7 +95,7 @@ class Samba(Case):
         self.runs(2, "read", "--attribute", "samba", self.share, "script", says="--root gives it a descriptor")
         self.runs(0, "read", "--attribute", "samba", "--root", "O:BAG:SYD:P", self.share, "script")
         lines = (self.room / "script").read_text().splitlines()
-        self.assertEqual(lines[1:3], ["open 1 O:BAG:SYD:P", f"import object /file {read_form(root)[0]}"])
+        self.assertEqual(lines[2:4], ["open 1 O:BAG:SYD:P", f"import object /file {read_form(root)[0]}"])
 
     def test_attributes_that_are_invalid(self) -> None:
         """Each cut, and each change of the first bytes, is read or named; none ends the run."""
