@@ -165,17 +165,17 @@ impl Asker<'_> {
     fn of_user(
         &self,
         each: OfEach<'_>,
-        starts: &[Sid],
+        own: &[Sid],
         user: &Sid,
         name: &str,
     ) -> Result<People, AllocError>
-        requires starts { starts.now
+        requires own { own.now
             ≡ starts (is_some self.now.settings.now.logon) user.now self.now.words.now }
         requires ready { AreReady self.now.settings.now self.now.words.now (each_of each) self.now.readings.now }
         ensures { IfOk result (λ people. IsOfUser (rows_of self.now.naming.accounts.now) self.now.settings.now
             self.now.words.now (each_of each.entry) (user.now, name.now) (people_of people)) }
     {
-        let member = self.naming.accounts.membership(self.naming.alloc, starts)?;
+        let member = self.naming.accounts.membership(self.naming.alloc, own)?;
         match each {
             OfEach::Granted { text, mask } => self.granted(text, mask, &member, user, name),
             OfEach::Changed { old, new } => self.changed(old, new, &member, user, name),
@@ -286,9 +286,9 @@ impl Asker<'_> {
 }
 
 /// Whether nothing is granted to who has these SIDs, as the search says without asking `why`.
-fn passes_over(search: &mut Option<Search<'_>>, starts: &[Sid]) -> Result<bool, AllocError>
+fn passes_over(search: &mut Option<Search<'_>>, own: &[Sid]) -> Result<bool, AllocError>
     ensures passed { (rows : List AccountRow) (settings : Settings) (words : List NamedWord) (each : EachAsked)
-        (user : SidValue) → starts.now ≡ starts (is_some settings.logon) user words
+        (user : SidValue) → own.now ≡ starts (is_some settings.logon) user words
         → IsFit rows settings words each search.old → IfOk result (λ passed. passed ≡ true
         → IsGrantedNothing rows settings words each user) }
     ensures fit { (rows : List AccountRow) (settings : Settings) (words : List NamedWord) (each : EachAsked)
@@ -297,7 +297,7 @@ fn passes_over(search: &mut Option<Search<'_>>, starts: &[Sid]) -> Result<bool, 
     let Some(search) = search else {
         return Ok(false);
     };
-    Ok(!search.finds(starts)?)
+    Ok(!search.finds(own)?)
 }
 
 fn after_first(sids: &[Sid]) -> &[Sid]

@@ -1,7 +1,8 @@
 -- One user more; and a fault.
-use Rattle.std.proofs.Common.{subst}
+use Rattle.std.proofs.Common.{ap, subst, ◌∙◌}
 use Rattle.sd_accounts.specs.Accounts.{rows_of}
 use Rattle.sd_accounts.specs.Users.{named_user}
+use Rattle.sd_named.specs.Arguments.{starts}
 use Rattle.sd_people.specs.Asked.{each_of}
 use Rattle.sd_people.specs.People.{IsGrantedNothing, IsOfUser, Said, nobody, people_of}
 use Rattle.sd_people.proofs.Turns.{at_place, one_more, one_passed}
@@ -9,6 +10,11 @@ use Rattle.sd_people.proofs.people.Asker.of_all.Goals as goal
 
 pub loop-user-init : goal.loop-user-init
 loop-user-init c = record { told = rw c.new-told.ensures.items nobody; fit = c.requires.fit }
+
+pub of_user-requires-clause-own : goal.of_user-requires-clause-own
+of_user-requires-clause-own c =
+    let asker = c.args.self.now in
+    c.deref-in-loop-user.ensures.value ∙ c.in_ok-starts.ensures ∙ ap (λ b. starts b c.user-item.result.0 asker.words.now) c.is_some-has_logon.ensures
 
 pub returns-in-Fault : goal.returns-in-Fault
 returns-in-Fault c =
@@ -39,7 +45,8 @@ loop-user-preserved-then-passed c =
     let rows = rows_of asker.naming.accounts.now in
     let each = each_of c.args.each in
     let user = c.user-item.result in
-    let nothing = c.in_ok-passed.ensures.passed rows asker.settings.now asker.words.now each user.0 (started c) c.loop-user.invariant.fit c.if-passed.true in
+    let nothing = c.in_ok-passed.ensures.passed rows asker.settings.now asker.words.now each user.0
+    (c.deref.ensures.value ∙ c.in_ok-starts.ensures ∙ ap (λ b. starts b user.0 asker.words.now) c.is_some-has_logon.ensures) c.loop-user.invariant.fit c.if-passed.true in
     record {
       told = one_passed rows asker.settings.now asker.words.now each c.args.users.now c.loop-user.user-index user c.loop-user.told.items c.loop-user.left
           c.loop-user-test.true c.loop-user.invariant.told (subst (λ u. IsGrantedNothing rows asker.settings.now asker.words.now each u.0) c.user-item.is nothing);
