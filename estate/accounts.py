@@ -1,12 +1,11 @@
 """`estate accounts`: which names SIDs have, and which groups users are in, as a file for `sdstore --accounts`."""
 
-import os
 from collections.abc import Iterator
 
 from account_sources import read_sources
-from atomic_file import atomic_file
+from atomic_file import atomic_file, check_replaced
 from directory import fault_of_name
-from errors import Failed, Invalid, Stopped
+from errors import Invalid
 from joining import Joined, Joining
 from sids import order_of
 from table import Table, plural
@@ -19,24 +18,11 @@ def write_accounts(sources: list[str], file_name: str, domain: str | None, table
     fault = None if domain is None else fault_of_name(domain)
     if fault is not None or "\\" in (domain or ""):
         raise Invalid(f"--domain {domain!a}: {fault or 'a name without a backslash is expected'}")
-    _check_replaced(file_name)
+    check_replaced(file_name, _HEAD, "file of accounts")
     with atomic_file(file_name) as file:
         joined = Joining(read_sources(sources), domain, table).run()
         file.writelines(f"{line}\n".encode() for line in _lines(joined))
     return joined
-
-
-def _check_replaced(name: str) -> None:
-    """Stops before another file than one of accounts is replaced: the last argument may be a source by mistake."""
-    if not os.path.isfile(name):
-        return
-    try:
-        with open(name, "rb") as file:
-            start = file.read(len(_HEAD))
-    except OSError as error:
-        raise Failed(f"{name}: {error.strerror}") from error
-    if start and start != _HEAD.encode():
-        raise Stopped(f"{name}: it is no file of accounts, and isn't replaced")
 
 
 def _lines(joined: Joined) -> Iterator[str]:

@@ -7,7 +7,7 @@ from collections.abc import Iterator
 from contextlib import contextmanager
 from typing import BinaryIO
 
-from errors import Failed
+from errors import Failed, Stopped
 
 
 @contextmanager
@@ -31,6 +31,19 @@ def atomic_file(name: str) -> Iterator[BinaryIO]:
     finally:
         if made:
             os.unlink(made)
+
+
+def check_replaced(name: str, head: str, what: str) -> None:
+    """Stops before another file than one with this head is replaced: the last argument may be a source by mistake."""
+    if not os.path.isfile(name):
+        return
+    try:
+        with open(name, "rb") as file:
+            start = file.read(len(head))
+    except OSError as error:
+        raise Failed(f"{name}: {error.strerror}") from error
+    if start and start != head.encode():
+        raise Stopped(f"{name}: it is no {what}, and isn't replaced")
 
 
 def sync_folder(folder: str) -> None:

@@ -84,6 +84,7 @@ def _parser() -> argparse.ArgumentParser:
         "--matrix", metavar="FILE", help="write a line for each user and node where its rights change: CSV, or .xlsx"
     )
     _add_accounts(command("accounts", commands.accounts, "write which groups users are in, for sdstore --accounts"))
+    _add_schema(command("schema", commands.schema, "write which names object types have"))
     return parser
 
 
@@ -231,3 +232,8 @@ def _add_accounts(accounts: argparse.ArgumentParser) -> None:
     )
     accounts.add_argument("file", metavar="FILE", help="the file to write")
     accounts.add_argument("--domain", metavar="NAME", help="the domain's NetBIOS name: that of the LDIF unless given")
+
+
+def _add_schema(schema: argparse.ArgumentParser) -> None:
+    schema.add_argument("sources", metavar="SOURCE", nargs="+", help="LDIF of a directory's schema and its rights")
+    schema.add_argument("file", metavar="FILE", help="the file to write")

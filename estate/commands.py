@@ -11,6 +11,7 @@ import accounts as accounts_file
 import icacls as icacls_file
 import people as people_of
 import questions
+import schema as schema_file
 from answers import LEFT_OUT, answered, counts_of, of_users, people_in
 from asking import asking_as
 from errors import Invalid, Stopped
@@ -249,3 +250,9 @@ def accounts(arguments: argparse.Namespace, table: Table) -> int:
     joined = accounts_file.write_accounts(arguments.sources, arguments.file, arguments.domain, table)
     table.end("written", accounts_file.summed_up(joined), joined.counts())
     return 1 if joined.skipped or joined.unknown else 0
+
+
+def schema(arguments: argparse.Namespace, table: Table) -> int:
+    """The names of object types of directories as a file."""
+    table.end("written", schema_file.write_schema(arguments.sources, arguments.file), {})
+    return 0

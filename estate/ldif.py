@@ -88,7 +88,7 @@ class Ldif:
             raise self.invalid(first.number, f"'dn: ..' is expected, and not {first.name[:40]!a}")
         for each in block:
             if first.name != "dn" and each.name == "result" and each.raw.split(" ")[0] != "0":
-                raise self.invalid(each.number, f"the search ended early, so accounts are missing: {each.raw[:80]!a}")
+                raise self.invalid(each.number, f"the search ended early, so entries are missing: {each.raw[:80]!a}")
 
     def _is_content(self, value: Value) -> bool:
         """Whether it is a value of the entry, and no line about a change."""

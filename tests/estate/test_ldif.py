@@ -185,7 +185,7 @@ class Ldif(Accounts):
             (good.rstrip() + "\n-\n", "line 5: 'attribute: value' is expected, and not '-'"),
             (good + " x\n", "line 6: it continues no line"),
             (good + "dn: x\nchangetype: delete\n", "line 7: changes aren't supported: changetype 'delete'"),
-            (good + "result: 4 Size limit exceeded\n", "line 6: the search ended early, so accounts are missing: '4 "),
+            (good + "result: 4 Size limit exceeded\n", "line 6: the search ended early, so entries are missing: '4 "),
             (user("u", "S-1-5"), "line 3: objectsid isn't a SID: 'S-1-5'"),
             (user("u", "BA"), "line 3: objectsid isn't a SID: 'BA'"),
             (user("u", "S-1-5-4294967296"), "line 3: objectsid isn't a SID"),
