@@ -84,7 +84,7 @@ def _parser() -> argparse.ArgumentParser:
         "--matrix", metavar="FILE", help="write a line for each user and node where its rights change: CSV, or .xlsx"
     )
     _add_accounts(command("accounts", commands.accounts, "write which groups users are in, for sdstore --accounts"))
-    _add_schema(command("schema", commands.schema, "write which names object types have"))
+    _add_schema(command("schema", commands.schema, "write which names object types have, for sdstore --schema"))
     return parser
 
 

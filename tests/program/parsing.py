@@ -338,6 +338,9 @@ REJECTED = r"""
 1 LacksWhole | --type 1 verdict D: SY 0x1
 1 LacksWhole | --type 1 --object compare D: D:
 2 LacksObject | --whole --type 1 compare D: D:
+1 LacksWhole | --schema f --type 1 who D: 0x1
+2 LacksObject | --whole --schema f compare D: D:
+2 MisplacedOption | --whole --schema f lint D:
 1 LacksObject | --self PS --whole compare D: D:
 1 LacksObject | --self PS --whole each compare D:
 3 LacksWhole | --stdin --names --self PS why SY 0x1

@@ -82,8 +82,8 @@ impl<'a> Options<'a> {
         }
     }
 
-    /// The value of an option, if it is given.
-    fn given(self, option: OptionName) -> Option<&'a str>
+    /// The value of an option, if it is given: empty for one without a value, and of `--type` the last.
+    pub fn given(self, option: OptionName) -> Option<&'a str>
         ensures { option_map (λ text. text.now) result ≡ given (options_of self.entry) option }
     {
         self.values[option.place()]
@@ -93,13 +93,6 @@ impl<'a> Options<'a> {
         ensures { result ≡ has (options_of self.entry) option }
     {
         self.given(option).is_some()
-    }
-
-    /// The name of the accounts file, if one is given.
-    pub fn accounts(self) -> Option<&'a str>
-        ensures { option_map (λ text. text.now) result ≡ given (options_of self.entry) OptionName.Accounts }
-    {
-        self.given(OptionName::Accounts)
     }
 
     /// The values of `--type`, in order.

@@ -3,3 +3,4 @@ pub mod Output
 pub mod ByName
 pub mod Names
 pub mod Scripts
+pub mod Types

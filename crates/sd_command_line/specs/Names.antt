@@ -1,11 +1,11 @@
--- A command line that names a file of accounts.
+-- A command line that names a file of accounts or a schema file.
 use Rattle.std.specs.Prelude.{ℕ, ◌+◌, Bool, List, ◌++◌, take, drop, Option, Some, None, bytes_eq, codes}
 use Rattle.std.specs.List.{position_or_len}
 use Rattle.std.specs.Option.{option_and_then}
 use Rattle.std.specs.Borrow.{Bor}
 use Rattle.sd_arguments.specs.CommandLine.{Ask, CommandLineValue, Each, RequestValue, Runs, reading}
 use Rattle.sd_arguments.specs.Options.{OptionsValue, given}
-use Rattle.sd_usage.specs.declared.row.OptionName.TheVariants.{Accounts}
+use Rattle.sd_usage.specs.declared.row.OptionName.{OptionName}
 
 -- what is asked of a text or of each line, and under which options
 abbrev pub request_in : CommandLineValue → Option (OptionsValue × RequestValue)
@@ -13,9 +13,9 @@ request_in (Runs options (Ask text request)) = Some (options, request)
 request_in (Runs options (Each given request)) = Some (options, request)
 request_in line = None
 
--- the name of the accounts file, if the words are a command line about a text that gives one
-abbrev pub accounts_file : List (Bor (List ℕ)) → Option (List ℕ)
-accounts_file words = option_and_then (λ asked. given asked.0 Accounts) (option_and_then request_in (reading words))
+-- the value of the option, as the name of a file, if the words are a command line about a text that gives one
+abbrev pub file_given : OptionName → List (Bor (List ℕ)) → Option (List ℕ)
+file_given option words = option_and_then (λ asked. given asked.0 option) (option_and_then request_in (reading words))
 
 -- the place of the option, or the end
 unfoldable pub is_accounts : List ℕ → Bool

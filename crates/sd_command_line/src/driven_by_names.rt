@@ -195,15 +195,14 @@ fn accounts_in(alloc: Global, text: &[u8]) -> Result<Accounts, NamesFault>
 }
 
 /// The status after an error, which standard error is told.
-fn failed<E: Write>(errors: &mut Watched<E>, error: RunError) -> u8
+pub(crate) fn failed<E: Write>(errors: &mut Watched<E>, error: RunError) -> u8
     ensures { result ≡ 3 }
 {
     tell(errors, error_line(error));
     3
 }
 
-/// Prints a fault in the style, and what standard error says of it; the status is that of one, which is one of its own
-/// where that is asked for.
+/// Prints why words that name accounts aren't answered; the status is that of a fault.
 fn tell_fault<W: Write, E: Write>(
     alloc: Global,
     asked: (Style, bool),
@@ -216,12 +215,29 @@ fn tell_fault<W: Write, E: Write>(
         result × ((told : List ℕ)
         × AppendsBeginning (E.contents (inner_of errors.old)) (E.contents (inner_of errors.new)) told) }
 {
+    match fault_answer(alloc, names_fault) {
+        Ok(answer) => print_fault(alloc, asked, answer, writer, errors),
+        Err(_) => failed(errors, RunError::Memory),
+    }
+}
+
+/// Prints a fault in the style, and what standard error says of it; the status is that of one, which is one of its own
+/// where that is asked for.
+pub(crate) fn print_fault<W: Write, E: Write>(
+    alloc: Global,
+    asked: (Style, bool),
+    answer: Answer,
+    writer: &mut Watched<W>,
+    errors: &mut Watched<E>,
+) -> u8
+    requires { IsFaultAlone (answer_of answer) }
+    ensures within { result ≤ 4 }
+    ensures fault { result ≢ 3 → AppendsFault (W.contents (inner_of writer.old)) (W.contents (inner_of writer.new))
+        result × ((told : List ℕ)
+        × AppendsBeginning (E.contents (inner_of errors.old)) (E.contents (inner_of errors.new)) told) }
+{
     let (style, is_strict) = asked;
-    let printed = match fault_answer(alloc, names_fault) {
-        Ok(answer) => print(alloc, style, answer, writer),
-        Err(_) => return failed(errors, RunError::Memory),
-    };
-    match printed {
+    match print(alloc, style, answer, writer) {
         Ok(Ended { told, .. }) => {
             tell(errors, told.as_str());
             if is_strict { 4 } else { 1 }

@@ -16,9 +16,10 @@ mod names;
 mod perform;
 mod program;
 mod scripts;
+mod types_by_name;
 
 pub use driven_by_names::drive_named;
-pub use names::accounts_file;
+pub use names::{accounts_file, schema_file};
 pub use program::drive;
 pub use sd_arguments::{asks_help, is_command_line, reads_input};
 pub use sd_lines::{RunError, Watched};
@@ -26,3 +27,4 @@ pub use sd_script::{Notation, PathSpelling, ScriptCounts, ScriptOptions, run};
 pub use sd_script_audit::run_audit;
 pub use sd_sid::GenericMapping;
 pub use sd_store::{Gate, OpenGate};
+pub use types_by_name::{TypesFault, tell_types_fault, with_guids};

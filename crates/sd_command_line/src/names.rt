@@ -1,8 +1,9 @@
-//! A command line that names a file of accounts.
+//! A command line that names a file of accounts or a schema file.
 ghost use Rattle.std.specs.Prelude.{◌≡◌, ◌≤◌, IfOk, length, option_map};
 ghost use Rattle.sd_arguments.specs.CommandLine.{command_line_of, request_of};
 ghost use Rattle.sd_arguments.specs.Options.{options_of};
-ghost use Rattle.sd_command_line.specs.Names.{accounts_file, accounts_place, is_accounts, request_in, without_accounts};
+ghost use Rattle.sd_usage.specs.declared.row.OptionName.TheVariants.{Accounts, Schema};
+ghost use Rattle.sd_command_line.specs.Names.{accounts_place, file_given, is_accounts, request_in, without_accounts};
 
 use sd_arguments::{
     CommandLine, Invocation, Options, ProgramRequest, TextRequest, read_command_line,
@@ -13,11 +14,25 @@ use std::alloc::{AllocError, Global};
 
 /// The name of the accounts file, if the words are a command line about a text that gives one.
 pub fn accounts_file<'a>(words: &'a [&'a str]) -> Option<&'a str>
-    ensures { option_map (λ file. file.now) result ≡ accounts_file words.entry.now }
+    ensures { option_map (λ file. file.now) result ≡ file_given Accounts words.entry.now }
+{
+    file_given(OptionName::Accounts, words)
+}
+
+/// The name of the schema file, if the words are a command line about a text that gives one.
+pub fn schema_file<'a>(words: &'a [&'a str]) -> Option<&'a str>
+    ensures { option_map (λ file. file.now) result ≡ file_given Schema words.entry.now }
+{
+    file_given(OptionName::Schema, words)
+}
+
+/// The value of the option, if the words are a command line about a text that gives one.
+fn file_given<'a>(option: OptionName, words: &'a [&'a str]) -> Option<&'a str>
+    ensures { option_map (λ file. file.now) result ≡ file_given option words.entry.now }
 {
     match read_command_line(words) {
         Ok(line) => match request_in(line) {
-            Some((options, _)) => options.accounts(),
+            Some((options, _)) => options.given(option),
             None => None,
         },
         Err(_) => None,
@@ -75,7 +90,7 @@ fn is_accounts(word: &str) -> bool
 }
 
 /// What is asked of a text or of each line.
-fn request_in(line: CommandLine<'_>) -> Option<(Options<'_>, TextRequest<'_>)>
+pub(crate) fn request_in(line: CommandLine<'_>) -> Option<(Options<'_>, TextRequest<'_>)>
     ensures { option_map (λ asked. (options_of asked.0, request_of asked.1)) result
         ≡ request_in (command_line_of line.entry) }
 {

@@ -236,6 +236,18 @@ class, the property set, the property or the extended right; without it the whol
 about. Before 'compare' and 'lint' it goes beside '--object'",
     ),
     (
+        "--schema",
+        ProgramOption {
+            name: OptionName::Schema,
+            value: Some(Value::File),
+            beside: Beside::With(OptionName::Whole, OptionName::Below, OptionName::Object),
+        },
+        "\
+the values of '--type' and the types of TREE may also be names, as member, which the file gives by
+lines 'class GUID NAME', 'attribute GUID NAME', 'set GUID NAME' and 'right GUID NAME'; before
+'compare' it goes beside '--object'",
+    ),
+    (
         "--self",
         ProgramOption {
             name: OptionName::PrincipalSelf,

@@ -133,10 +133,12 @@ pub enum OptionName {
     PrincipalSelf,
     /// `--accounts`.
     Accounts,
+    /// `--schema`.
+    Schema,
 }
 
 /// How many options there are.
-pub const OPTION_COUNT: usize = 26;
+pub const OPTION_COUNT: usize = 27;
 
 /// A command, and what follows it.
 #[derive(Clone, Copy)]
