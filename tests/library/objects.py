@@ -126,6 +126,8 @@ def copies() -> None:
         gives(f"{name}, deeply", [value], lambda: copy.deepcopy([value]))
         for protocol in range(pickle.HIGHEST_PROTOCOL + 1):
             gives(f"{name}, pickled by {protocol}", value, lambda: pickle.loads(pickle.dumps(value, protocol)))
+    classes: List[type] = [Sid, Refused, Verdict, Descriptor, Store]
+    gives("where classes are from", {"hudarin"}, lambda: {one.__module__ for one in classes})
     gives("a Sid, hashed", hash(USER), lambda: hash(pickle.loads(pickle.dumps(USER))))
     # The library tests the bytes of a pickle again.
     broken = pickle.dumps(USER, 4).replace(bytes(USER)[:2], b"\x01\x0f")

@@ -112,3 +112,7 @@ __all__ = [
     "mask_names",
     "who_all",
 ]
+
+# Messages and pickles name a class by where it is imported from, whatever file it stands in.
+for _class in [value for name, value in globals().items() if name in __all__ and isinstance(value, type)]:
+    _class.__module__ = __name__
