@@ -245,7 +245,7 @@ static void names(void)
             HOLDS(earlier.length != answer.length || memcmp(one, other, (size_t)answer.length) != 0);
         }
     }
-    HOLDS(is_unwritten(hudarin_status_text(HUDARIN_ACCOUNT + 1, one, sizeof one), HUDARIN_OK));
+    HOLDS(is_unwritten(hudarin_status_text(HUDARIN_KIND + 1, one, sizeof one), HUDARIN_OK));
     HOLDS(is_unwritten(hudarin_status_text(UINT32_MAX, one, sizeof one), HUDARIN_OK));
 }
 

@@ -70,11 +70,16 @@ def token_words(words):
     return (groups, restricting, privileges), None
 
 
+def rights(asked):
+    """The mask of a rights field of SDDL, which is all that the program takes without --names."""
+    return hudarin.Descriptor.from_sddl(f"D:(A;;{asked};;;WD)").entries[0].mask
+
+
 def question(sddl, user, asked, *words):
     """The question, or the line that refuses it."""
     descriptor, refused = fault(lambda: hudarin.Descriptor.from_sddl(sddl), "sddl")
     sid, refused = (None, refused) if refused else fault(lambda: hudarin.Sid.from_text(user), "sid")
-    mask, refused = (None, refused) if refused else fault(lambda: hudarin.mask(asked), "mask")
+    mask, refused = (None, refused) if refused else fault(lambda: rights(asked), "mask")
     token, refused = (None, refused) if refused else token_words(words)
     return (None, refused) if refused else (Question(descriptor, sid, mask, *token), None)
 
@@ -112,7 +117,7 @@ def base_words(words):
 
 def who(sddl, asked, *words):
     descriptor, refused = fault(lambda: hudarin.Descriptor.from_sddl(sddl), "sddl")
-    mask, refused = (None, refused) if refused else fault(lambda: hudarin.mask(asked), "mask")
+    mask, refused = (None, refused) if refused else fault(lambda: rights(asked), "mask")
     base, refused = (None, refused) if refused else base_words(words)
     return refused or (str(descriptor.who(mask, base)) if mask else "fault mask")
 

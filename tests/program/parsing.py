@@ -339,6 +339,8 @@ REJECTED = r"""
 1 LacksWhole | --type 1 --object compare D: D:
 2 LacksObject | --whole --type 1 compare D: D:
 1 LacksWhole | --schema f --type 1 who D: 0x1
+1 LacksWhole | --type 1 lint D:
+2 LacksObject | --whole --type 1 lint D:
 2 LacksObject | --whole --schema f compare D: D:
 2 MisplacedOption | --whole --schema f lint D:
 1 LacksObject | --self PS --whole compare D: D:
@@ -347,7 +349,7 @@ REJECTED = r"""
 2 ExcludedOption | --whole --self PS --below who D: 0x1
 11 TooManyTypes | --type 1 --type 2 --type 3 --type 4 --type 5 --type 6 --whole why D: SY 0x1
 4 RepeatedOption | --whole --self PS --self PS why D: SY 0x1
-1 MisplacedOption | --type 1 lint D:
+1 MisplacedOption | --type 1 sort D:
 2 MisplacedOption | --whole --self PS print D:
 1 MisplacedOption | --domain x frombin 00
 1 MisplacedOption | --domain x rights FR
