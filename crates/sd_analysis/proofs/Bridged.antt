@@ -1,5 +1,5 @@
 -- What a token is granted, pass by pass; and which demands on its passes make a gain.
-use Rattle.sd_analysis.proofs.Cited.{AceKind, Allow, Bool, Demand, First, GroupState, List, MappingValue, None, Option, Parts, PassSids, Second, SidValue, Some, TokenValue, about, acl_grants, and_from, and_left, and_parts, ap, applies, applies_again, arith, cases_Bool, cond, false, false≢true, gains, has_sid, inl, inr, is_given, is_granted, is_restricted, is_restricting_subject, limits_owner, list_any, lists, meets, not, not-true, option_to_list, or_assoc, or_cases, owns, refl, same_sid, sids_stand, stands_for_subject, stands_in, subject, sym, token_of, true, ℕ, ◌&&◌, ◌==◌, ◌||◌, ◌∙◌, ◌∷◌, ◌≡◌, ◌⊎◌}
+use Rattle.sd_analysis.proofs.Cited.{AceKind, Allow, Bool, Demand, First, GroupState, List, MappingValue, None, Option, Parts, PassSids, Second, SidValue, Some, TokenValue, about, Deny, Enabled, a_group_stands_for, acl_grants, and-true, and_from, and_left, and_parts, ap, applies, applies_again, arith, cases_Bool, cond, counts, false, false≢true, gains, has_sid, inl, inr, is_given, is_granted, is_restricted, is_restricting_subject, limits_owner, list_any, lists, meets, not, not-true, option_to_list, or_assoc, or_cases, owns, refl, same_sid, sids_stand, stands_for_subject, stands_in, subject, sym, token_of, true, with_denied, ℕ, ◌&&◌, ◌==◌, ◌||◌, ◌∙◌, ◌∷◌, ◌≡◌, ◌⊎◌}
 
 -- ---- a token in its passes
 
@@ -123,6 +123,15 @@ restricting_is : (allowed : SidValue) (denied : Option SidValue) (s : SidValue)
     → list_any (λ one. same_sid one s) (allowed ∷ option_to_list denied) ≡ (same_sid allowed s || has_sid denied s)
 restricting_is allowed denied s = grind arith
 
+-- the user of a witness counts for both kinds
+user_is : (s user : SidValue) (others : Bool) (kind : AceKind) → ((same_sid user s && counts kind Enabled) || others) ≡ (same_sid user s || others)
+user_is s user others Allow = ap (λ x. x || others) (and-true (same_sid user s))
+user_is s user others Deny = ap (λ x. x || others) (and-true (same_sid user s))
+
+pub first_is : (base : List (SidValue × GroupState)) (sids : PassSids) (second : Option PassSids)
+    → stands_in First (token_of base (record { first = sids; second = second })) ≡ sids_stand First base sids
+first_is base sids second = λ i kind s. user_is s sids.allowed (a_group_stands_for (with_denied base sids.denied) kind s) kind i
+
 module _ (g : MappingValue) (old new : Parts) (base : List (SidValue × GroupState)) (b : ℕ) where
   gain_of : (t : TokenValue) (by_owner : Bool) → privileged t b ≡ false
       → in_passes (is_restricted t)
@@ -138,10 +147,13 @@ module _ (g : MappingValue) (old new : Parts) (base : List (SidValue × GroupSta
       → meets g old new (record { by_owner = by_owner; unlisted = true; unowned = true }) (sids_stand First base sids) b ≡ true
       → gains g old new (token_of base (record { first = sids; second = None })) b ≡ true
   unrestricted_gains by_owner sids h =
-      let stands = sids_stand First base sids in
-      let outer = and_parts (cond by_owner (owns new stands b) (lists g new stands b)) _ h in
+      let t = token_of base (record { first = sids; second = None }) in
+      let stands = stands_in First t in
+      let met : meets g old new (record { by_owner = by_owner; unlisted = true; unowned = true }) stands b ≡ true =
+      ap (λ who. meets g old new (record { by_owner = by_owner; unlisted = true; unowned = true }) who b) (first_is base sids None) ∙ h in
+      let outer = and_parts (cond by_owner (owns new stands b) (lists g new stands b)) _ met in
       let inner = and_parts (not (lists g old stands b)) (not (owns old stands b)) outer.1 in
-      gain_of (token_of base (record { first = sids; second = None })) by_owner refl
+      gain_of t by_owner refl
       (and_from _ _ outer.0 refl) (and_left _ _ (not-true _ inner.0)) (and_left _ _ (not-true _ inner.1))
 
   again_is : (sids more : PassSids) → stands_in Second (token_of base (record { first = sids; second = Some more })) ≡ sids_stand Second base more
@@ -156,12 +168,14 @@ module _ (g : MappingValue) (old new : Parts) (base : List (SidValue × GroupSta
       → meets g old new (record { by_owner = by_owner; unlisted = not unlisted; unowned = not unowned }) (sids_stand Second base more) b ≡ true
       → gains g old new (token_of base (record { first = sids; second = Some more })) b ≡ true
   restricted_gains by_owner unlisted unowned sids more h k =
-      let stands = sids_stand First base sids in
       let t = token_of base (record { first = sids; second = Some more }) in
+      let stands = stands_in First t in
+      let met : meets g old new (record { by_owner = by_owner; unlisted = unlisted; unowned = unowned }) stands b ≡ true =
+      ap (λ who. meets g old new (record { by_owner = by_owner; unlisted = unlisted; unowned = unowned }) who b) (first_is base sids (Some more)) ∙ h in
       let again : meets g old new (record { by_owner = by_owner; unlisted = not unlisted; unowned = not unowned }) (stands_in Second t) b ≡ true =
       ap (λ who. meets g old new (record { by_owner = by_owner; unlisted = not unlisted; unowned = not unowned }) who b) (again_is sids more) ∙ k in
       let now = stands_in Second t in
-      let outer = and_parts (cond by_owner (owns new stands b) (lists g new stands b)) _ h in
+      let outer = and_parts (cond by_owner (owns new stands b) (lists g new stands b)) _ met in
       let inner = and_parts (not (unlisted && lists g old stands b)) (not (unowned && owns old stands b)) outer.1 in
       let outer_again = and_parts (cond by_owner (owns new now b) (lists g new now b)) _ again in
       let inner_again = and_parts (not (not unlisted && lists g old now b)) (not (not unowned && owns old now b)) outer_again.1 in

@@ -45,7 +45,7 @@ pub use Rattle.sd_check.proofs.LowMasks.{judged_low, no_places}
 pub use Rattle.sd_check.proofs.RestrictionProofs.{restriction_grants_no_bit}
 pub use Rattle.sd_check.specs.Check.{DaclRef, acl_grants, applies, applies_again, decides, entries_of, first, is_allowed_by, is_given, is_granted, is_implied, is_limit, is_owner, is_restricting_subject, judged, limits_owner, missing_of, most, stands_for_subject, subject, verdict}
 pub use Rattle.sd_check.specs.Laws.{restricted_to}
-pub use Rattle.sd_check.specs.Token.{TokenValue, a_group_stands_for, counts, is_restricted, is_restricting, no_privileges, stands_for}
+pub use Rattle.sd_check.specs.Token.{TokenValue, a_group_stands_for, counts, is_restricted, is_restricting, no_privileges, plain_token, stands_for}
 pub use Rattle.sd_check.specs.declared.grounds.Pass.{Pass}
 pub use Rattle.sd_check.specs.declared.grounds.Pass.TheVariants.{First, Second}
 pub use Rattle.sd_check.specs.declared.token.GroupState.{GroupState}

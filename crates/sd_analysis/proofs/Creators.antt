@@ -1,6 +1,7 @@
 -- Lists that decide alike for two tokens.
-use Rattle.sd_analysis.proofs.Cited.{Ace, AceKind, Allow, Bool, CreatorsStandForAll, Deny, DenyOnly, Disabled, EachHasAStandIn, Enabled, GroupState, HasNoCreator, List, MappingValue, NodeKind, None, Option, Parts, SidValue, Some, StandsIn, TokenValue, UnnamedUsersAreAlike, [], a_group_stands_for, acl_grants, and-false, and-true, ap, applies, ap₂, arith, cases_Bool, cond, container_inherit, created_by, creator_group, creator_owner, decides, effective_copy, entries_or_none, eqb-suc-zero, false, false_from_ne_true, false≢true, find, first, flag_of, flat_map, gains, handed_to, has_sid, holds, in_its_state, inherited_entries, inl, inr, is_allow, is_allowed_by, is_granted, is_implied, is_inherit_only, is_limit, is_named, is_restricted, is_restricting, is_restricting_subject, is_split, length, list_any, list_any-append, mapped, nat_lt, no_propagate, not, object_inherit, option_map, option_or, or-false, or-true, or_parts, owner_rights, pass_on, refl, same_sid, same_sid-itself, same_sid-true, stand_in, stands_for, stands_for_subject, subject, sym, true, waiting_copy, where_restricting, whole_copy, with_user, ℕ, ◌&&◌, ◌++◌, ◌==◌, ◌||◌, ◌∙◌, ◌∷◌, ◌≡◌}
+use Rattle.sd_analysis.proofs.Cited.{Ace, AceKind, Allow, Bool, CreatorsStandForAll, Deny, DenyOnly, Disabled, EachHasAStandIn, Enabled, GroupState, HasNoCreator, List, MappingValue, NodeKind, None, Option, Parts, SidValue, Some, StandsIn, TokenValue, UnnamedUsersAreAlike, [], a_group_stands_for, acl_grants, and-false, and-true, ap, applies, ap₂, arith, cases_Bool, cond, container_inherit, counts, created_by, creator_group, creator_owner, decides, effective_copy, entries_or_none, eqb-suc-zero, false, false_from_ne_true, false≢true, find, first, flag_of, flat_map, gains, handed_to, has_sid, holds, in_its_state, inherited_entries, inl, inr, is_allow, is_allowed_by, is_granted, is_implied, is_inherit_only, is_limit, is_named, is_restricted, is_restricting, is_restricting_subject, is_split, length, list_any, list_any-append, mapped, nat_lt, no_propagate, not, object_inherit, option_map, option_or, or-false, or-true, or_parts, owner_rights, pass_on, refl, same_sid, same_sid-itself, same_sid-true, stand_in, stands_for, stands_for_subject, subject, sym, true, waiting_copy, where_restricting, whole_copy, with_user, ℕ, ◌&&◌, ◌++◌, ◌==◌, ◌||◌, ◌∙◌, ◌∷◌, ◌≡◌}
 use Rattle.sd_inheritance.specs.declared.kind.NodeKind.TheVariants.{Container, Object}
+use Rattle.sd_analysis.proofs.Walks.{stands_for_deny}
 
 apart : (a b : SidValue) → same_sid a b ≡ false → same_sid b a ≡ false
 apart a b h = false_from_ne_true _ (λ there. false≢true (sym h ∙ ap (same_sid a) (same_sid-true b a there) ∙ same_sid-itself a))
@@ -231,15 +232,6 @@ creators_stand_for_all g kind es owner group t other b not_owner not_group stand
 
 -- ---- each token's stand-in
 
-more_counts : (groups : List (SidValue × GroupState)) (s : SidValue) → a_group_stands_for groups Allow s ≡ true → a_group_stands_for groups Deny s ≡ true
-more_counts [] s h = h
-more_counts ((one, Enabled) ∷ groups) s h = grind (arith, h, more_counts groups s)
-more_counts ((one, DenyOnly) ∷ groups) s h = grind (arith, h, more_counts groups s)
-more_counts ((one, Disabled) ∷ groups) s h = grind (arith, h, more_counts groups s)
-
-more_stands : (t : TokenValue) (s : SidValue) → stands_for t Allow s ≡ true → stands_for t Deny s ≡ true
-more_stands t s h = grind (arith, h, more_counts t.groups s)
-
 state_stands : (t : TokenValue) (s name other : SidValue) (kind : AceKind)
     → a_group_stands_for (in_its_state t s name) kind other ≡ (same_sid name other && stands_for t kind s)
 state_stands t s name other Allow = elim (cases_Bool (stands_for t Allow s)) [
@@ -250,7 +242,7 @@ state_stands t s name other Allow = elim (cases_Bool (stands_for t Allow s)) [
   ]
 ]
 state_stands t s name other Deny = elim (cases_Bool (stands_for t Allow s)) [
-  | inl so ↦ rw (so, more_stands t s so) (or-false (same_sid name other && true))
+  | inl so ↦ rw (so, stands_for_deny t s so) (or-false (same_sid name other && true))
   | inr not_so ↦ elim (cases_Bool (stands_for t Deny s)) [
     | inl denies ↦ rw (not_so, denies) (or-false (same_sid name other && true))
     | inr never ↦ rw (not_so, never) (sym (and-false (same_sid name other)))
@@ -281,9 +273,9 @@ module _ (owner group : SidValue) (t : TokenValue) where
   them = stand_in owner group t
 
   stands_now : (kind : AceKind) (s : SidValue) → stands_for them kind s
-      ≡ (same_sid t.user s || ((same_sid creator_owner s && stands_for t kind owner) || ((same_sid creator_group s && stands_for t kind group) || a_group_stands_for t.groups kind s)))
+      ≡ ((same_sid t.user s && counts kind t.user_state) || ((same_sid creator_owner s && stands_for t kind owner) || ((same_sid creator_group s && stands_for t kind group) || a_group_stands_for t.groups kind s)))
   stands_now kind s =
-      ap (λ x. same_sid t.user s || x)
+      ap (λ x. (same_sid t.user s && counts kind t.user_state) || x)
       (list_any-append _ (in_its_state t owner creator_owner) (in_its_state t group creator_group ++ t.groups)
       ∙ ap₂ (λ x y. x || y) (state_stands t owner creator_owner s kind)
       (list_any-append _ (in_its_state t group creator_group) t.groups ∙ ap (λ x. x || a_group_stands_for t.groups kind s) (state_stands t group creator_group s kind)))
@@ -297,7 +289,7 @@ module _ (owner group : SidValue) (t : TokenValue) where
 
   not_there : (s : SidValue) (kind : AceKind) → stands_for t Deny s ≡ false → stands_for t kind s ≡ false
   not_there s Deny h = h
-  not_there s Allow h = false_from_ne_true _ (λ there. false≢true (sym h ∙ more_stands t s there))
+  not_there s Allow h = false_from_ne_true _ (λ there. false≢true (sym h ∙ stands_for_deny t s there))
 
   still_restricted : is_restricted them ≡ is_restricted t
   still_restricted = ap not (restricted_more t owner creator_owner _ (restricted_more t group creator_group t.restricting refl))

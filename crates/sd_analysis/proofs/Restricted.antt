@@ -1,5 +1,7 @@
 -- What is left to restricted tokens where no unrestricted one gains the bit.
-use Rattle.sd_analysis.proofs.Cited.{AceKind, Allow, Bool, Case, Demand, Enabled, First, GroupState, HasBase, IsCase, IsNeverMet, IsNotGained, IsRefusedAgain, IsSought, List, None, Option, Parts, Pass, PassSids, Second, SidValue, Some, TokenValue, [], a_group_stands_for, about, and_from, and_parts, ap, arith, entries_of, false, false_from_ne_true, false≢true, has_sid, holds, inl, inr, is_rest, limits_owner, lists, mask_of, meets, new_of, no_privileges, not, not-true, old_of, owns, refl, same_sid, same_sid-true, sids_meet, sids_stand, stands_in, sym, token_meets, token_of, true, ℕ, ◌&&◌, ◌<◌, ◌==◌, ◌||◌, ◌∙◌, ◌∷◌, ◌≡◌}
+use Rattle.sd_analysis.proofs.Cited.{AceKind, Allow, Bool, Case, Demand, Deny, Enabled, First, GroupState, HasBase, IsCase, IsNeverMet, IsNotGained, IsRefusedAgain, IsSought, List, None, Option, Parts, Pass, PassSids, Second, SidValue, Some, TokenValue, ℕ, [], a_group_stands_for, about, and_from, and_parts, ap, arith, entries_of, false, false_from_ne_true, false≢true, has_sid, holds, inl, inr, is_rest, limits_owner, lists, mask_of, meets, new_of, no_privileges, not, not-true, old_of, owns, plain_token, refl, same_sid, same_sid-true, sids_meet, sids_stand, stands_in, sym, token_meets, token_of, true, ◌&&◌, ◌<◌, ◌==◌, ◌||◌, ◌∙◌, ◌∷◌, ◌≡◌}
+use Rattle.sd_analysis.proofs.Bridged.{first_is}
+use Rattle.sd_analysis.specs.Report.{is_granted_to}
 use Rattle.sd_analysis.proofs.Effects.{has_base_with}
 use Rattle.sd_analysis.proofs.Passed.{two_suffice}
 use Rattle.sd_analysis.proofs.Reports.{both_in}
@@ -77,13 +79,23 @@ worth_rest case First demand granted owned worth alone denied b low none is is_o
     ∙ owned_alone (old_of case) case.base.now alone.allowed denied b ∙ sought rest)
 worth_rest case Second demand granted owned worth alone denied b low none is is_owned rest h sought = absurd (false≢true rest)
 
+rest_owned : (granted listed owned unlisted unowned : Bool) → (unlisted && not unowned) ≡ true
+    → (granted && (not (unlisted && listed) && not (unowned && owned))) ≡ true → (granted && (not listed && not owned)) ≡ false → owned ≡ true
+rest_owned granted listed owned unlisted unowned rest met not_met = grind (arith, rest, met, not_met)
+
 -- where no unrestricted token gains the bit, the old descriptor grants it as the owner's to whoever meets the rest
 pub sought : (case : Case) (pass : Pass) (demand : Demand) (sids : PassSids) (b : ℕ)
     → (is_rest pass demand ≡ true → IsNotGained case demand.by_owner b)
     → sids_meet case pass demand sids b ≡ true → IsSought case pass demand sids b
 sought case First demand sids b not_gained met rest =
     let t = token_of case.base.now (record { first = sids; second = None }) in
-    grind (arith, not_gained rest t (has_base_with case.base.now sids.denied t refl))
+    let stands = sids_stand First case.base.now sids in
+    let open_all : Demand = record { by_owner = demand.by_owner; unlisted = true; unowned = true } in
+    let not_met : meets case.mapping.now (old_of case) (new_of case) open_all stands b ≡ false =
+    ap (λ who. meets case.mapping.now (old_of case) (new_of case) open_all who b) (sym (first_is case.base.now sids None))
+    ∙ not_gained rest t (has_base_with case.base.now sids.denied t refl) in
+    rest_owned (is_granted_to case First demand sids b) (lists case.mapping.now (old_of case) stands b) (owns (old_of case) stands b)
+    demand.unlisted demand.unowned rest met not_met
 sought case Second demand sids b not_gained met rest = absurd (false≢true rest)
 
 -- ---- without a base
@@ -94,13 +106,17 @@ enabled (Some s) = (s, Enabled) ∷ []
 
 -- the unrestricted token of the SIDs that a second pass has
 abbrev unrestricted : PassSids → TokenValue
-unrestricted sids = record { user = sids.allowed; groups = enabled sids.denied; restricting = []; privileges = no_privileges }
+unrestricted sids = plain_token sids.allowed (enabled sids.denied)
 
 enabled_stands : (denied : Option SidValue) (kind : AceKind) (s : SidValue) → a_group_stands_for (enabled denied) kind s ≡ has_sid denied s
 enabled_stands denied kind s = grind arith
 
 stands_so : (base : List (SidValue × GroupState)) (sids : PassSids) → stands_in First (unrestricted sids) ≡ sids_stand Second base sids
-stands_so base sids = λ i kind s. same_sid sids.allowed s || enabled_stands sids.denied kind s i
+stands_so base sids = λ i kind s. so kind s i
+  where
+    so : (kind : AceKind) (s : SidValue) → stands_in First (unrestricted sids) kind s ≡ sids_stand Second base sids kind s
+    so Allow s = grind (arith, enabled_stands sids.denied Allow s)
+    so Deny s = grind (arith, enabled_stands sids.denied Deny s)
 
 module _ (case : Case) (is : IsCase case) (none : case.base.now ≡ []) where
   any_has : (t : TokenValue) → HasBase case.base.now t

@@ -22,8 +22,10 @@ counts_more state h = grind arith
 
 -- a SID that a token has enabled is there for denies too
 pub stands_for_deny : (t : TokenValue) (s : SidValue) → stands_for t Allow s ≡ true → stands_for t Deny s ≡ true
-stands_for_deny t s h = elim (or_cases (same_sid t.user s) (a_group_stands_for t.groups Allow s) h) [
-  | inl user ↦ or_left _ _ user
+stands_for_deny t s h = elim (or_cases (same_sid t.user s && counts Allow t.user_state) (a_group_stands_for t.groups Allow s) h) [
+  | inl user ↦
+      let parts = and_parts (same_sid t.user s) (counts Allow t.user_state) user in
+      or_left _ _ (and_from _ _ parts.0 (counts_more t.user_state parts.1))
   | inr group ↦ or_right _ _ (any_more _ _ t.groups (λ (g : SidValue × GroupState) is.
       let parts = and_parts (same_sid g.0 s) (counts Allow g.1) is in and_from _ _ parts.0 (counts_more g.1 parts.1)) group)
 ]

@@ -69,11 +69,9 @@ abbrev pub where_restricting : TokenValue → SidValue → SidValue → List Sid
 where_restricting t s name = if is_restricting t s then name ∷ [] else []
 
 abbrev pub stand_in : SidValue → SidValue → TokenValue → TokenValue
-stand_in owner group t = record {
-  user = t.user;
+stand_in owner group t = record t {
   groups = in_its_state t owner creator_owner ++ (in_its_state t group creator_group ++ t.groups);
   restricting = where_restricting t owner creator_owner ++ (where_restricting t group creator_group ++ t.restricting);
-  privileges = t.privileges;
 }
 
 -- a token that nobody made up: none has these SIDs
@@ -90,12 +88,7 @@ EachHasAStandIn =
 -- ---- a user whom neither descriptor names
 
 abbrev pub with_user : TokenValue → SidValue → TokenValue
-with_user t user = record {
-  user = user;
-  groups = t.groups;
-  restricting = t.restricting;
-  privileges = t.privileges;
-}
+with_user t user = record t { user = user }
 
 -- any other such user gains by the change what this one does
 abbrev pub UnnamedUsersAreAlike : Type 0

@@ -11,7 +11,7 @@ use Rattle.sd_acl.specs.Descriptor.{DescriptorValue}
 use Rattle.sd_acl.specs.declared.ace.Ace.{Ace}
 use Rattle.sd_acl.specs.declared.descriptor.DaclOf.TheVariants.{Absent, Null, List as Entries}
 use Rattle.sd_check.specs.Check.{verdict}
-use Rattle.sd_check.specs.Token.{no_privileges}
+use Rattle.sd_check.specs.Token.{plain_token}
 use Rattle.sd_check.specs.declared.token.GroupState.{GroupState}
 use Rattle.sd_inheritance.specs.Inheritance.{creator_owner}
 use Rattle.sd_analysis.specs.Descendants.{descendants_of, list_of, stops_somewhere}
@@ -100,7 +100,7 @@ groups_beside base s = if same_sid s anonymous then flat_map where_everyone base
 -- what such a token is granted, without privileges
 abbrev pub rights_of : Option SidValue → List Ace → MappingValue → List (SidValue × GroupState) → SidValue → ℕ
 rights_of owner es g base s = granted_by (verdict owner (Some es) g
-    (record { user = s; groups = groups_beside base s; restricting = []; privileges = no_privileges }) 0x02000000)
+    (plain_token s (groups_beside base s)) 0x02000000)
 
 abbrev pub risk_if : Bool → Risk → List Risk
 risk_if test risk = if test then risk ∷ [] else []

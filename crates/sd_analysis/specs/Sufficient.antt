@@ -14,7 +14,7 @@ use Rattle.sd_acl.specs.declared.ace.AceKind.{AceKind}
 use Rattle.sd_check.specs.Check.{entries_of, is_granted, subject}
 use Rattle.sd_check.specs.Token.{TokenValue, no_privileges}
 use Rattle.sd_check.specs.declared.token.GroupState.{GroupState}
-use Rattle.sd_check.specs.declared.token.GroupState.TheVariants.{DenyOnly}
+use Rattle.sd_check.specs.declared.token.GroupState.TheVariants.{Enabled, DenyOnly}
 use Rattle.sd_analysis.specs.Base.{HasBase}
 use Rattle.sd_analysis.specs.declared.compare_sides.DescriptorRef.{DescriptorRef}
 use Rattle.sd_analysis.specs.declared.witness.PassSids.{PassSids}
@@ -49,6 +49,7 @@ restricting_of (Some sids) = sids.allowed ∷ option_to_list sids.denied
 abbrev pub token_of : List (SidValue × GroupState) → Witness → TokenValue
 token_of base w = record {
   user = w.first.allowed;
+  user_state = Enabled;
   groups = with_denied base w.first.denied;
   restricting = restricting_of w.second;
   privileges = no_privileges;

@@ -22,8 +22,8 @@ group_one known text = or_one _ _ (ended_one known text _ _) (or_one _ _ (ended_
 
 word_one : (known : Aliases) (text : List ℕ) → IsOne (IsWord known text)
 word_one known text =
-    or_one _ _ (λ v w x y. x.1 ∙ sym y.1) (or_one _ _ (λ v w x y. x.1 ∙ sym y.1) (or_one _ _
-    (λ v w x y. x.2 ∙ ap (λ group. Group group.0 group.1) (group_one known text x.0 y.0 x.1 y.1) ∙ sym y.2) (ended_one known text _ _)))
+    or_one _ _ (λ v w x y. x.1 ∙ sym y.1) (or_one _ _ (λ v w x y. x.1 ∙ sym y.1) (or_one _ _ (λ v w x y. x.1 ∙ sym y.1) (or_one _ _
+    (λ v w x y. x.2 ∙ ap (λ group. Group group.0 group.1) (group_one known text x.0 y.0 x.1 y.1) ∙ sym y.2) (ended_one known text _ _))))
 
 -- ---- one for one
 

@@ -1,17 +1,17 @@
--- The words that make a token: a user's groups, restricting SIDs and privileges. SIDs may have the aliases that are
--- known.
-use Rattle.std.specs.Prelude.{◌≡◌, ◌⊎◌, ℕ, zero, suc, true, List, [], ◌∷◌, ◌++◌, fold, map, codes}
+-- The words that make a token: a user's groups, restricting SIDs, privileges, and that the user counts for denies
+-- alone. SIDs may have the aliases that are known.
+use Rattle.std.specs.Prelude.{◌≡◌, ◌⊎◌, ℕ, zero, suc, true, List, [], ◌∷◌, ◌++◌, fold, map, codes, if◌then◌else◌}
 use Rattle.std.specs.Borrow.{Bor}
 use Rattle.sd_sid.specs.Sid.{SidValue}
 use Rattle.sd_text.specs.Grammar.{Spells}
 use Rattle.sd_text.specs.Sid.{sid_text_in}
 use Rattle.sd_text.specs.declared.alias.Aliases.{Aliases}
-use Rattle.sd_check.specs.Token.{TokenValue, no_privileges}
+use Rattle.sd_check.specs.Token.{TokenValue, plain_token}
 use Rattle.sd_check.specs.declared.token.GroupState.{GroupState}
 use Rattle.sd_check.specs.declared.token.GroupState.TheVariants.{Enabled, DenyOnly, Disabled}
 use Rattle.sd_answer.specs.declared.word.TokenParts.{TokenParts}
 use Rattle.sd_answer.specs.declared.word.Word.{Word}
-use Rattle.sd_answer.specs.declared.word.Word.TheVariants.{Group, Restricting, Security, TakeOwnership}
+use Rattle.sd_answer.specs.declared.word.Word.TheVariants.{DenyOnlyUser, Group, Restricting, Security, TakeOwnership}
 
 -- the text is a SID and then this ending
 abbrev pub IsSidBefore : Aliases → List ℕ → List ℕ → SidValue → Type 0
@@ -41,8 +41,9 @@ abbrev pub IsWord : Aliases → List ℕ → Word → Type 0
 IsWord known text =
     Or (Plain text (codes "+security") Security)
     (Or (Plain text (codes "+take") TakeOwnership)
+    (Or (Plain text (codes "user=deny") DenyOnlyUser)
     (Or (λ word. (group : SidValue × GroupState) × IsGroup known text group × (word ≡ Group group.0 group.1))
-    (Ended known text (codes "=restrict") Restricting)))
+    (Ended known text (codes "=restrict") Restricting))))
 
 -- lent texts, as what they are
 abbrev pub texts : List (Bor (List ℕ)) → List (List ℕ)
@@ -76,12 +77,14 @@ abbrev pub with_word : TokenValue → Word → TokenValue
 with_word t (Group sid state) = record t { groups = t.groups ++ (sid, state) ∷ [] }
 with_word t (Restricting sid) = record t { restricting = t.restricting ++ sid ∷ [] }
 with_word t Security = record t { privileges = record t.privileges { security = true } }
+with_word t DenyOnlyUser = record t { user_state = DenyOnly }
 with_word t TakeOwnership = record t { privileges = record t.privileges { take_ownership = true } }
 
 -- a token in the making, as a token
 abbrev pub parts_token : TokenParts → TokenValue
 parts_token parts = record {
   user = parts.user;
+  user_state = if parts.deny_only_user then DenyOnly else Enabled;
   groups = parts.groups.items;
   restricting = parts.restricting.items;
   privileges = parts.privileges;
@@ -89,8 +92,7 @@ parts_token parts = record {
 
 -- the token of a user and words
 abbrev pub token_of : SidValue → List Word → TokenValue
-token_of user words =
-    fold with_word (record { user = user; groups = []; restricting = []; privileges = no_privileges }) words
+token_of user words = fold with_word (plain_token user []) words
 
 -- the token of a user and of the words that the texts are
 abbrev pub IsToken : Aliases → SidValue → List (List ℕ) → TokenValue → Type 0

@@ -1,4 +1,5 @@
-//! The words that make a token: a user's groups, restricting SIDs and privileges.
+//! The words that make a token: a user's groups, restricting SIDs, privileges, and that the user counts for denies
+//! alone.
 ghost use Rattle.std.specs.Prelude.{◌≡◌, ◌<◌, ℕ, Err, [], IfSome, IfNone, IfOk, OnOk, length};
 ghost use Rattle.sd_sid.specs.Sid.{SidValue};
 ghost use Rattle.sd_answer.specs.declared.word.TokenError.TheVariants.{Memory};
@@ -23,6 +24,8 @@ pub enum Word {
     Security,
     /// `+take`.
     TakeOwnership,
+    /// `user=deny`: the user counts for denies alone.
+    DenyOnlyUser,
 }
 
 /// Why there is no token.
@@ -80,7 +83,8 @@ fn read_group(known: Aliases, text: &str) -> Option<(Sid, GroupState)>
 }
 
 /// The word that the text is, whose SID may have these aliases: a group, `SID`, `SID=deny` or `SID=off`, a restricting
-/// SID, `SID=restrict`, or a privilege, `+security` or `+take` ([MS-DTYP] 2.5.2). `None`: it is none of these.
+/// SID, `SID=restrict`, a privilege, `+security` or `+take`, or `user=deny` ([MS-DTYP] 2.5.2). `None`: it is none of
+/// these.
 pub fn read_word(known: Aliases, text: &str) -> Option<Word>
     ensures word { IfSome result (IsWord known text.now) }
     ensures none { IfNone result ((word : Word) → IsWord known text.now word → ⊥) }
@@ -91,6 +95,9 @@ pub fn read_word(known: Aliases, text: &str) -> Option<Word>
     if text == "+take" {
         return Some(Word::TakeOwnership);
     }
+    if text == "user=deny" {
+        return Some(Word::DenyOnlyUser);
+    }
     if let Some((sid, state)) = read_group(known, text) {
         return Some(Word::Group { sid, state });
     }
@@ -100,8 +107,8 @@ pub fn read_word(known: Aliases, text: &str) -> Option<Word>
 
 /// The token of a user and of these words ([MS-DTYP] 2.5.2), whose SIDs may have these aliases. Each word is a group,
 /// `SID`, `SID=deny` (it counts for denies alone) or `SID=off` (it counts for nothing), a restricting SID,
-/// `SID=restrict`, or a privilege, `+security` or `+take`. `NoWord` has the position of the first that is none of
-/// these.
+/// `SID=restrict`, a privilege, `+security` or `+take`, or `user=deny`: the user counts for denies alone. `NoWord` has
+/// the position of the first that is none of these.
 pub fn read_token(
     alloc: Global,
     known: Aliases,
@@ -127,6 +134,7 @@ pub fn read_token(
 #[derive(Drop)]
 pub struct TokenParts {
     user: Sid,
+    deny_only_user: bool,
     groups: Vec<(Sid, GroupState)>,
     restricting: Vec<Sid>,
     privileges: Privileges,
@@ -139,6 +147,7 @@ impl TokenParts {
     {
         TokenParts {
             user,
+            deny_only_user: false,
             groups: Vec::new(alloc),
             restricting: Vec::new(alloc),
             privileges: Privileges::default(),
@@ -154,6 +163,7 @@ impl TokenParts {
             Word::Restricting { sid } => self.restricting.push(sid)?,
             Word::Security => self.privileges.security = true,
             Word::TakeOwnership => self.privileges.take_ownership = true,
+            Word::DenyOnlyUser => self.deny_only_user = true,
         }
         Ok(())
     }
@@ -169,7 +179,12 @@ impl TokenParts {
     pub fn into_token(self) -> Token
         ensures { result ≡ parts_token self }
     {
-        Token::restricted(self.user, self.groups, self.restricting, self.privileges)
+        let token = Token::restricted(self.user, self.groups, self.restricting, self.privileges);
+        if self.deny_only_user {
+            token.of_deny_only_user()
+        } else {
+            token
+        }
     }
 }
 

@@ -166,23 +166,24 @@ none_of_first p (suc m) (x ∷ xs) h =
     let first : (b : Bool) → p x ≡ b → b ≡ false = λ b is. elim b as (λ v. p x ≡ v → v ≡ false) [ true ↦ λ yes. absurd (h 0 x (omega arith) (omega arith) yes) | false ↦ λ no. refl ] is in
     ap (λ t. t || list_any p xs) (first (p x) refl) ∙ none_of_first p m xs (λ k d low few yes. h (suc k) d (omega (arith, low)) (omega (arith, few)) yes)
 
-module _ (nexts : List ℕ) (user sid : SidValue) (groups : List (SidValue × GroupState)) (kind : AceKind) where
+module _ (nexts : List ℕ) (user : SidValue × GroupState) (sid : SidValue) (groups : List (SidValue × GroupState)) (kind : AceKind) where
   abbrev stands : SidValue × GroupState → Bool
   stands g = same_sid g.0 sid && counts kind g.1
 
   -- whether the token stands for the SID by this member
   Stands : ℕ → Type 0
-  Stands zero = same_sid user sid ≡ true
+  Stands zero = stands user ≡ true
   Stands (suc k) = (d : SidValue × GroupState) × ((k < length groups) × ((k < 254) × (stands (get_or groups k d) ≡ true)))
 
   -- each such member is on the chain from here
   pub Leads : ℕ → Type 0
   Leads link = (k : ℕ) → Stands k → OnChain nexts link k
 
-  pub leads_from : (heads : List ℕ) (at : ℕ) → at ≡ place_of sid → IsIndex heads nexts groups (length groups) → IsMarked heads nexts user → Leads (get_or heads at 0)
+  pub leads_from : (heads : List ℕ) (at : ℕ) → at ≡ place_of sid → IsIndex heads nexts groups (length groups) → IsMarked heads nexts user.0 → Leads (get_or heads at 0)
   unfolding Leads Stands
   leads_from heads at is_at index to_user zero same =
-      subst (λ p. OnChain nexts (get_or heads p 0) zero) (ap place_of (same_sid-true user sid same) ∙ sym is_at) to_user
+      let has = (and_parts (same_sid user.0 sid) (counts kind user.1) same).0 in
+      subst (λ p. OnChain nexts (get_or heads p 0) zero) (ap place_of (same_sid-true user.0 sid has) ∙ sym is_at) to_user
   leads_from heads at is_at index to_user (suc k) (d, (low, (few, has))) =
       let group = get_or groups k d in
       let parts = and_parts (same_sid group.0 sid) (counts kind group.1) has in
@@ -204,11 +205,11 @@ module _ (nexts : List ℕ) (user sid : SidValue) (groups : List (SidValue × Gr
       ]
 
   -- at the end
-  pub at_end : (link : ℕ) (r : Bool) → link ≤ 1 → ((j : ℕ) → get_or nexts j 0 ≤ j) → Leads link → (link ≡ 1 → same_sid user sid ≡ false)
-      → r ≡ a_group_stands_for (drop 254 groups) kind sid → r ≡ (same_sid user sid || a_group_stands_for groups kind sid)
+  pub at_end : (link : ℕ) (r : Bool) → link ≤ 1 → ((j : ℕ) → get_or nexts j 0 ≤ j) → Leads link → (link ≡ 1 → stands user ≡ false)
+      → r ≡ a_group_stands_for (drop 254 groups) kind sid → r ≡ (stands user || a_group_stands_for groups kind sid)
   unfolding Leads Stands
   at_end link r last back leads none is =
-      let not_user = false_from_ne_true (same_sid user sid) (λ same.
+      let not_user = false_from_ne_true (stands user) (λ same.
       false≢true (sym (none (last_on_chain nexts back link 0 last (leads 0 same)).0) ∙ same)) in
       let of_others = none_of_first stands 254 groups (λ k d low few has.
       let user = (last_on_chain nexts back link (suc k) last (leads (suc k) (d, (low, (few, has))))).1 in omega (arith, user)) in
@@ -219,20 +220,20 @@ module _ (nexts : List ℕ) (user sid : SidValue) (groups : List (SidValue × Gr
 none_of_three : (a b c : Bool) → (a || b || c) ≡ false → (a ≡ false) × (b ≡ false) × (c ≡ false)
 none_of_three a b c none = (grind (arith, none), grind (arith, none), grind (arith, none))
 
-module _ (heads nexts : List ℕ) (user : SidValue) (groups : List (SidValue × GroupState)) (restricting : List SidValue) (s : SidValue)
+module _ (heads nexts : List ℕ) (user : SidValue × GroupState) (groups : List (SidValue × GroupState)) (restricting : List SidValue) (s : SidValue)
     (marks : MarksEach heads nexts groups restricting) (kind : AceKind) where
   -- where the place isn't marked, the SID is no other that matters
   pub known_there : (r : Bool) → (IsMarked heads nexts s → ⊥)
-      → (a_group_stands_for (drop 254 groups) kind s ≡ false → (same_sid user s || a_group_stands_for groups kind s) ≡ r)
-      → ((same_sid user s || a_group_stands_for groups kind s) ≡ r) × (list_any (λ one. same_sid one s) restricting ≡ false) × (same_sid s owner_rights ≡ false)
+      → (a_group_stands_for (drop 254 groups) kind s ≡ false → ((same_sid user.0 s && counts kind user.1) || a_group_stands_for groups kind s) ≡ r)
+      → (((same_sid user.0 s && counts kind user.1) || a_group_stands_for groups kind s) ≡ r) × (list_any (λ one. same_sid one s) restricting ≡ false) × (same_sid s owner_rights ≡ false)
   known_there r unmarked known =
       let out = none_of_three (same_sid s owner_rights) (list_any (λ one. same_sid one s) restricting) (a_group_stands_for (drop 254 groups) kind s)
       (false_from_ne_true _ (λ yes. unmarked (marks kind s yes))) in
       (known out.2, out.1, out.0)
 
   -- where it has no link, nobody has the SID
-  pub nobody_there : IsIndex heads nexts groups (length groups) → IsMarked heads nexts user → may_hold heads s ≡ false
-      → ((same_sid user s || a_group_stands_for groups kind s) ≡ false) × (list_any (λ one. same_sid one s) restricting ≡ false) × (same_sid s owner_rights ≡ false)
+  pub nobody_there : IsIndex heads nexts groups (length groups) → IsMarked heads nexts user.0 → may_hold heads s ≡ false
+      → (((same_sid user.0 s && counts kind user.1) || a_group_stands_for groups kind s) ≡ false) × (list_any (λ one. same_sid one s) restricting ≡ false) × (same_sid s owner_rights ≡ false)
   nobody_there index to_user empty =
       let link = get_or heads (place_of s) 0 in
       let end : link ≡ 0 = eqb-true link 0 (grind (arith, empty)) in
@@ -252,20 +253,24 @@ alone_unmarked heads nexts s at is_at more last marked =
       | inr further ↦ none_at_end nexts (subst (λ n. OnChain nexts n 0) last further)
     ]
 
-pub alone_stands : (heads nexts : List ℕ) (user : SidValue) (groups : List (SidValue × GroupState)) (s : SidValue) (kind : AceKind) (at : ℕ)
-    (group : SidValue × GroupState) (r : Bool) → at ≡ place_of s → IsIndex heads nexts groups (length groups) → IsMarked heads nexts user → 1 < get_or heads at 0
+-- a group at a place that has the SID and counts
+pub group_at : (groups : List (SidValue × GroupState)) (s : SidValue) (kind : AceKind) (place : ℕ) (group : SidValue × GroupState) → place < length groups
+    → group ≡ get_or groups place group → (same_sid group.0 s && counts kind group.1) ≡ true → a_group_stands_for groups kind s ≡ true
+group_at groups s kind place group inside is has =
+    let stands = λ (g : SidValue × GroupState). same_sid g.0 s && counts kind g.1 in list_any_at stands groups place group inside (ap stands (sym is) ∙ has)
+
+pub alone_stands : (heads nexts : List ℕ) (user : SidValue × GroupState) (groups : List (SidValue × GroupState)) (s : SidValue) (kind : AceKind) (at : ℕ)
+    (group : SidValue × GroupState) (r : Bool) → at ≡ place_of s → IsIndex heads nexts groups (length groups) → IsMarked heads nexts user.0 → 1 < get_or heads at 0
     → get_or nexts (get_or heads at 0 - 1) 0 ≡ 0 → group ≡ get_or groups (get_or heads at 0 - 2) group → r ≡ (same_sid group.0 s && counts kind group.1)
-    → a_group_stands_for (drop 254 groups) kind s ≡ false → (same_sid user s || a_group_stands_for groups kind s) ≡ r
+    → a_group_stands_for (drop 254 groups) kind s ≡ false → ((same_sid user.0 s && counts kind user.1) || a_group_stands_for groups kind s) ≡ r
 alone_stands heads nexts user groups s kind at group r is_at index to_user more last is is_r beyond =
     let link = get_or heads at 0 in
     let inside : link - 2 < length groups = omega (arith, index.starts at, more) in
     let leads = leads_from nexts user s groups kind heads at is_at index to_user in
-    let fails : r ≡ false → (same_sid user s || a_group_stands_for groups kind s) ≡ false = λ no.
+    let fails : r ≡ false → ((same_sid user.0 s && counts kind user.1) || a_group_stands_for groups kind s) ≡ false = λ no.
     sym (at_end nexts user s groups kind (get_or nexts (link - 1) 0) false (omega (arith, last)) index.goes_back
     (leads_on nexts user s groups kind link group more inside is (sym is_r ∙ no) leads) (λ one. absurd (omega (arith, one, last))) (sym beyond)) in
-    let holds : r ≡ true → a_group_stands_for groups kind s ≡ true = λ yes.
-    list_any_at (λ (g : SidValue × GroupState). same_sid g.0 s && counts kind g.1) groups (link - 2) group inside
-    (ap (λ (g : SidValue × GroupState). same_sid g.0 s && counts kind g.1) (sym is) ∙ sym is_r ∙ yes) in
+    let holds : r ≡ true → a_group_stands_for groups kind s ≡ true = λ yes. group_at groups s kind (link - 2) group inside is (sym is_r ∙ yes) in
     grind (arith, fails, holds)
 
 -- what the parts of an index mark, it marks

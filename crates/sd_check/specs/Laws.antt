@@ -61,12 +61,7 @@ NothingBeyondMaximum =
 
 -- the token with one more group, which is enabled
 abbrev pub with_group : TokenValue → SidValue → TokenValue
-with_group t s = record {
-  user = t.user;
-  groups = (s, Enabled) ∷ t.groups;
-  restricting = t.restricting;
-  privileges = t.privileges;
-}
+with_group t s = record t { groups = (s, Enabled) ∷ t.groups }
 
 -- no effective deny entry that speaks of the SID names the bit
 abbrev pub NamesNot : MappingValue → Option SidValue → SidValue → ℕ → Ace → Type 0
@@ -89,7 +84,7 @@ EntriesGrantRightsAlone =
 
 -- the token with these restricting SIDs in place of its own
 abbrev pub restricted_to : TokenValue → List SidValue → TokenValue
-restricted_to t sids = record { user = t.user; groups = t.groups; restricting = sids; privileges = t.privileges }
+restricted_to t sids = record t { restricting = sids }
 
 -- without restricting SIDs there is one pass: the DACL grants what it grants to the user and the groups
 abbrev pub NobodyRestrictsNothing : Type 0

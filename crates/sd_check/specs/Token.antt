@@ -1,5 +1,5 @@
 -- A token: who asks, and which SIDs it stands for ([MS-DTYP] 2.5.2).
-use Rattle.std.specs.Prelude.{Bool, true, false, not, ◌&&◌, ◌||◌, ◌==◌, List, length}
+use Rattle.std.specs.Prelude.{Bool, true, false, not, ◌&&◌, ◌||◌, ◌==◌, List, [], length}
 use Rattle.std.specs.List.{list_any}
 use Rattle.sd_sid.specs.Sid.{SidValue, same_sid}
 use Rattle.sd_acl.specs.declared.ace.AceKind.{AceKind}
@@ -12,14 +12,26 @@ use Rattle.sd_check.specs.declared.token.Privileges.{Privileges}
 abbrev pub no_privileges : Privileges
 no_privileges = record { security = false; take_ownership = false }
 
--- a user, its groups, each place with its state, the SIDs that restrict it, and its privileges
+-- a user, which counts for both kinds of entries or for denies alone, its groups, each place with its state, the SIDs
+-- that restrict it, and its privileges
 pub record TokenValue : Type 0 where
   pub user : SidValue
+  pub user_state : GroupState
   pub groups : List (SidValue × GroupState)
   pub restricting : List SidValue
   pub privileges : Privileges
 
--- an enabled group counts for both kinds, a deny-only one for denies, a disabled one for nothing
+-- the token of a user and groups, which nothing restricts, and without privileges
+abbrev pub plain_token : SidValue → List (SidValue × GroupState) → TokenValue
+plain_token user groups = record {
+  user = user;
+  user_state = Enabled;
+  groups = groups;
+  restricting = [];
+  privileges = no_privileges;
+}
+
+-- an enabled user or group counts for both kinds, a deny-only one for denies, a disabled one for nothing
 abbrev pub counts : AceKind → GroupState → Bool
 counts kind Enabled = true
 counts Allow DenyOnly = false
@@ -31,9 +43,9 @@ abbrev pub a_group_stands_for : List (SidValue × GroupState) → AceKind → Si
 a_group_stands_for groups kind s = list_any (λ (group : SidValue × GroupState). same_sid group.0 s
     && counts kind group.1) groups
 
--- the user has the SID, or a group that counts
+-- the user has the SID and counts, or a group does
 abbrev pub stands_for : TokenValue → AceKind → SidValue → Bool
-stands_for t kind s = same_sid t.user s || a_group_stands_for t.groups kind s
+stands_for t kind s = (same_sid t.user s && counts kind t.user_state) || a_group_stands_for t.groups kind s
 
 -- a token without restricting SIDs isn't restricted
 abbrev pub is_restricted : TokenValue → Bool

@@ -24,8 +24,8 @@ const MAX_CHAINED: usize = 254;
 /// The place of OWNER RIGHTS, S-1-3-4 ([MS-DTYP] 2.4.2.4).
 const OWNER_RIGHTS_PLACE: usize = 4;
 
-/// A group, and how it counts.
-type Group = (Sid, GroupState);
+/// The user or a group, and how it counts.
+type Member = (Sid, GroupState);
 
 /// For each place a chain of the groups whose SIDs have it, the last first, and then the user. A link is 0 at the end
 /// of a chain, 1 for the user, and a group's number and 2 for a group. The places of OWNER RIGHTS, of restricting SIDs
@@ -40,7 +40,7 @@ pub(crate) struct Index {
 
 impl Index {
     /// The index of a user, of the groups that count for anything, of restricting SIDs and of OWNER RIGHTS.
-    pub(crate) fn new(user: &Sid, groups: &[Group], restricting: &[Sid]) -> Index
+    pub(crate) fn new(user: &Sid, groups: &[Member], restricting: &[Sid]) -> Index
         ensures chains { IsIndex result.heads result.nexts groups.now (length groups.now) }
         ensures user { IsMarked result.heads result.nexts user.now }
         ensures marks { MarksEach result.heads result.nexts groups.now restricting.now }
@@ -90,7 +90,7 @@ impl Index {
     }
 
     /// Marks the places of groups that no chain leads to.
-    fn mark_groups(&mut self, groups: &[Group])
+    fn mark_groups(&mut self, groups: &[Member])
         ensures kept { Keeps self.old.heads self.old.nexts self.new.heads self.new.nexts }
         ensures here { (kind : AceKind) (s : SidValue) → a_group_stands_for groups.now kind s ≡ true
             → IsMarked self.new.heads self.new.nexts s }
@@ -118,21 +118,22 @@ impl Index {
         self.heads[sid.last_sub() as usize % PLACES] != 0
     }
 
-    /// Whether the user has the SID, or a group that counts for an entry of the kind: where the SID's place has one
+    /// Whether the user or a group has the SID and counts for an entry of the kind: where the SID's place has one
     /// group and isn't marked, as most places with a link; else `None`.
     #[inline(always)]
     pub(crate) fn stands_for_in_one_look(
         &self,
-        user: &Sid,
-        groups: &[Group],
+        user: &Member,
+        groups: &[Member],
         kind: AceKind,
         sid: &Sid,
     ) -> Option<bool>
         requires chains { IsIndex self.now.heads self.now.nexts groups.now (length groups.now) }
-        requires user { IsMarked self.now.heads self.now.nexts user.now }
+        requires user { IsMarked self.now.heads self.now.nexts user.now.0 }
         ensures { IfSome result (λ stands. (IsMarked self.now.heads self.now.nexts sid.now → ⊥)
             × (a_group_stands_for (drop 254 groups.now) kind sid.now ≡ false
-            → (same_sid user.now sid.now || a_group_stands_for groups.now kind sid.now) ≡ stands)) }
+            → ((same_sid user.now.0 sid.now && counts kind user.now.1) || a_group_stands_for groups.now kind sid.now)
+            ≡ stands)) }
     {
         let link = self.heads[place_of(sid)] as usize;
         if link > 1 && self.nexts[link - 1] == 0 {
@@ -141,12 +142,19 @@ impl Index {
         None
     }
 
-    /// Whether the user has the SID, or a group that counts for an entry of the kind.
+    /// Whether the user or a group has the SID and counts for an entry of the kind.
     #[inline(always)]
-    pub(crate) fn stands_for(&self, user: &Sid, groups: &[Group], kind: AceKind, sid: &Sid) -> bool
+    pub(crate) fn stands_for(
+        &self,
+        user: &Member,
+        groups: &[Member],
+        kind: AceKind,
+        sid: &Sid,
+    ) -> bool
         requires chains { IsIndex self.now.heads self.now.nexts groups.now (length groups.now) }
-        requires user { IsMarked self.now.heads self.now.nexts user.now }
-        ensures { result ≡ (same_sid user.now sid.now || a_group_stands_for groups.now kind sid.now) }
+        requires user { IsMarked self.now.heads self.now.nexts user.now.0 }
+        ensures { result ≡ ((same_sid user.now.0 sid.now && counts kind user.now.1)
+            || a_group_stands_for groups.now kind sid.now) }
     {
         let mut link = self.heads[place_of(sid)] as usize;
         while link > 1 {
@@ -155,7 +163,7 @@ impl Index {
             }
             link = self.nexts[link - 1] as usize;
         }
-        link == 1 && user.is(sid) || one_beyond_chains(groups, kind, sid)
+        link == 1 && stands_for(user, kind, sid) || one_beyond_chains(groups, kind, sid)
     }
 }
 
@@ -179,7 +187,7 @@ pub(crate) fn last_sub(sid: &Sid) -> u32
 
 /// The groups that no chain leads to.
 #[inline(always)]
-fn beyond_chains(groups: &[Group]) -> &[Group]
+fn beyond_chains(groups: &[Member]) -> &[Member]
     ensures { result.now ≡ drop 254 groups.now }
 {
     if groups.len() > MAX_CHAINED {
@@ -191,7 +199,7 @@ fn beyond_chains(groups: &[Group]) -> &[Group]
 
 /// Whether one of them has the SID, and counts for an entry of the kind.
 #[inline(always)]
-fn one_beyond_chains(groups: &[Group], kind: AceKind, sid: &Sid) -> bool
+fn one_beyond_chains(groups: &[Member], kind: AceKind, sid: &Sid) -> bool
     ensures { result ≡ a_group_stands_for (drop 254 groups.now) kind sid.now }
 {
     let beyond = beyond_chains(groups);
@@ -200,15 +208,15 @@ fn one_beyond_chains(groups: &[Group], kind: AceKind, sid: &Sid) -> bool
 
 /// Whether one of the groups has the SID, and counts for an entry of the kind.
 #[inline(never)]
-fn a_group_stands_for(groups: &[Group], kind: AceKind, sid: &Sid) -> bool
+fn a_group_stands_for(groups: &[Member], kind: AceKind, sid: &Sid) -> bool
     ensures { result ≡ a_group_stands_for groups.now kind sid.now }
 {
     groups.iter().any(|place| stands_for(place, kind, sid))
 }
 
-/// Whether the group has the SID, and counts for an entry of the kind.
+/// Whether the user or group has the SID, and counts for an entry of the kind.
 #[inline(always)]
-fn stands_for(place: &Group, kind: AceKind, sid: &Sid) -> bool
+fn stands_for(place: &Member, kind: AceKind, sid: &Sid) -> bool
     ensures { result ≡ (same_sid place.now.0 sid.now && counts kind place.now.1) }
 {
     let (group, state) = place;

@@ -11,7 +11,7 @@ use sd_acl::AceKind;
 use sd_sid::Sid;
 use std::marker::Model;
 
-/// How a group of a token counts: Windows says it by SE_GROUP_ENABLED and SE_GROUP_USE_FOR_DENY_ONLY.
+/// How the user or a group of a token counts: Windows says it by SE_GROUP_ENABLED and SE_GROUP_USE_FOR_DENY_ONLY.
 #[derive(Clone, Copy, Debug, PartialEq, Eq)]
 pub enum GroupState {
     /// For allow and deny entries.
@@ -49,7 +49,7 @@ impl Default for Privileges {
 /// SIDs for which access is asked a second time.
 #[derive(Debug, Drop)]
 pub struct Token {
-    user: Sid,
+    user: (Sid, GroupState),
     groups: Vec<(Sid, GroupState)>,
     privileges: Privileges,
     index: Index,
@@ -66,19 +66,20 @@ impl Model for Token {
     ghost use Rattle.sd_check.specs.Index.{IsIndex, IsMarked, MarksEach};
 
     ghost view = { λ t. record {
-      user = t.user;
+      user = t.user.0;
+      user_state = t.user.1;
       groups = t.groups.items;
       restricting = t.restricting.items;
       privileges = t.privileges;
     } };
 
     ghost invariant = { λ t. IsIndex t.index.heads t.index.nexts t.groups.items (length t.groups.items)
-        × IsMarked t.index.heads t.index.nexts t.user
+        × IsMarked t.index.heads t.index.nexts t.user.0
         × MarksEach t.index.heads t.index.nexts t.groups.items t.restricting.items };
 }
 
 impl GroupState {
-    /// Whether a group in this state counts for an entry of the kind.
+    /// Whether what is in this state counts for an entry of the kind.
     pub(crate) fn counts(self, kind: AceKind) -> bool
         ensures { result ≡ counts kind self }
     {
@@ -94,7 +95,13 @@ impl Token {
     /// The token of a user, groups and privileges, which nothing restricts. A SID may stand in the groups more than
     /// once; each place counts. Takes no memory.
     pub fn new(user: Sid, groups: Vec<(Sid, GroupState)>, privileges: Privileges) -> Token
-        ensures { result ≡ record { user = user; groups = groups.items; restricting = []; privileges = privileges } }
+        ensures { result ≡ record {
+          user = user;
+          user_state = GroupState.Enabled;
+          groups = groups.items;
+          restricting = [];
+          privileges = privileges;
+        } }
     {
         let nobody = Vec::new(*groups.allocator());
         Token::restricted(user, groups, nobody, privileges)
@@ -111,6 +118,7 @@ impl Token {
     ) -> Token
         ensures { result ≡ record {
           user = user;
+          user_state = GroupState.Enabled;
           groups = groups.items;
           restricting = restricting.items;
           privileges = privileges;
@@ -118,11 +126,26 @@ impl Token {
     {
         let index = Index::new(&user, &groups, &restricting);
         Token {
-            user,
+            user: (user, GroupState::Enabled),
             groups,
             privileges,
             index,
             restricting,
+        }
+    }
+
+    /// The token with a user that counts for denies alone, as of one that CreateRestrictedToken's SidsToDisable names.
+    /// Takes no memory.
+    pub fn of_deny_only_user(self) -> Token
+        ensures { result ≡ record self { user_state = GroupState.DenyOnly } }
+    {
+        let (user, _state) = self.user;
+        Token {
+            user: (user, GroupState::DenyOnly),
+            groups: self.groups,
+            privileges: self.privileges,
+            index: self.index,
+            restricting: self.restricting,
         }
     }
 
@@ -159,7 +182,7 @@ impl Token {
         self.restricting.iter().any(|one| one.is(sid))
     }
 
-    /// Whether the user has the SID, or a group that counts for an entry of the kind, if one look shows this, and that
+    /// Whether the user or a group has the SID and counts for an entry of the kind, if one look shows this, and that
     /// the SID is neither OWNER RIGHTS nor a restricting one; else `None`.
     #[inline(always)]
     pub(crate) fn has_in_one_look(&self, kind: AceKind, sid: &Sid) -> Option<bool>
@@ -170,7 +193,7 @@ impl Token {
             .stands_for_in_one_look(&self.user, &self.groups, kind, sid)
     }
 
-    /// Whether the user has the SID, or a group that counts for an entry of the kind.
+    /// Whether the user or a group has the SID and counts for an entry of the kind.
     #[inline(never)]
     pub(crate) fn has(&self, kind: AceKind, sid: &Sid) -> bool
         ensures { result ≡ stands_for self.now kind sid.now }

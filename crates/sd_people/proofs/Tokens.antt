@@ -33,7 +33,10 @@ word_of known sid is =
       λ other at. apart (full_canon sid ++ []) (codes "+security") refl at.0,
       inr (
         λ other at. apart (full_canon sid ++ []) (codes "+take") refl at.0,
-        inl ((sid, Enabled), inl (sid, (full_canon sid, refl, full_spelled known sid is), refl), refl),
+        inr (
+          λ other at. apart (full_canon sid ++ []) (codes "user=deny") refl at.0,
+          inl ((sid, Enabled), inl (sid, (full_canon sid, refl, full_spelled known sid is), refl), refl),
+        ),
       ),
     )
 
@@ -68,7 +71,7 @@ module _ (one : SidValue) (wanted : List SidValue) (here : Contains wanted one) 
 
   folded : (sids : List SidValue) (t : TokenValue) → AllByRecursion (IsUnwanted wanted) sids → same_sid t.user one ≡ false → a_group_stands_for t.groups Allow one ≡ false
       → stands_for (fold with_word t (map enabled_word sids)) Allow one ≡ false
-  folded [] t all user groups = ap (λ b. b || a_group_stands_for t.groups Allow one) user ∙ groups
+  folded [] t all user groups = ap (λ b. (b && counts Allow t.user_state) || a_group_stands_for t.groups Allow one) user ∙ groups
   folded (sid ∷ sids) t all user groups =
       folded sids (with_word t (enabled_word sid)) all.1 user (none_stands t.groups sid all.0.1 groups)
 

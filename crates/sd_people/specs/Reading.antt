@@ -3,7 +3,7 @@ use Rattle.std.specs.Prelude.{◌≡◌, ℕ, false, List, [], Option, Some, Non
 use Rattle.sd_sid.specs.Sid.{SidValue}
 use Rattle.sd_acl.specs.Descriptor.{descriptor_of}
 use Rattle.sd_check.specs.Check.{dacl_entries, verdict}
-use Rattle.sd_check.specs.Token.{TokenValue, no_privileges}
+use Rattle.sd_check.specs.Token.{TokenValue, plain_token}
 use Rattle.sd_check.specs.declared.token.GroupState.{GroupState}
 use Rattle.sd_check.specs.declared.token.GroupState.TheVariants.{Enabled}
 use Rattle.sd_text.specs.Grammar.{Spells}
@@ -44,8 +44,7 @@ abbrev pub enabled : SidValue → SidValue × GroupState
 enabled sid = (sid, Enabled)
 
 abbrev pub token_with : SidValue → List SidValue → TokenValue
-token_with user groups =
-    record { user = user; groups = map enabled groups; restricting = []; privileges = no_privileges }
+token_with user groups = plain_token user (map enabled groups)
 
 -- the answer is the verdict on what is read for the token, and why
 abbrev pub SaysWhy : Settings → Reading → TokenValue → AnswerValue → Type 0

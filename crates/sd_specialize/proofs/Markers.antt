@@ -176,7 +176,7 @@ module _ (c : ContextValue) (marks : List TypedAce) (t : TokenValue) (none : Has
   still_stands kind s other =
       let all = list_any-append (λ (group : SidValue × GroupState). same_sid group.0 s && counts kind group.1) t.groups (map as_group (markers_where (stands c t) 0 marks)) in
       let added = as_groups (markers_where (stands c t) 0 marks) kind s ∙ none_of_others (stands c t) 0 marks s other in
-      ap (λ b. same_sid t.user s || b) (all ∙ ap (λ b. a_group_stands_for t.groups kind s || b) added ∙ or-false _)
+      ap (λ b. (same_sid t.user s && counts kind t.user_state) || b) (all ∙ ap (λ b. a_group_stands_for t.groups kind s || b) added ∙ or-false _)
 
   -- for a marker it stands where it counts as having it
   marker_stands : (kind : AceKind) (e : TypedAce) → list_any (same_mark e) marks ≡ true

@@ -7,7 +7,10 @@ returns-clause-word c = inr (
   λ one is. apart c.args.text.now (codes "+security") (sym c.eq.ensures ∙ c.if-eq.false) is.0,
   inr (
     λ one is. apart c.args.text.now (codes "+take") (sym c.eq-2.ensures ∙ c.if-eq-2.false) is.0,
-    inr (λ one is. c.in_default.ensures.none is.0 is.1, (c.in_ok-sid.sid, c.in_ok-sid.ensures.found, refl)),
+    inr (
+      λ one is. apart c.args.text.now (codes "user=deny") (sym c.eq-3.ensures ∙ c.if-eq-3.false) is.0,
+      inr (λ one is. c.in_default.ensures.none is.0 is.1, (c.in_ok-sid.sid, c.in_ok-sid.ensures.found, refl)),
+    ),
   ),
 )
 
@@ -15,4 +18,5 @@ pub returns-in_err-sid-clause-none : goal.returns-in_err-sid-clause-none
 returns-in_err-sid-clause-none c = rw c.from_residual.ensures (neither _ _
     (λ one is. apart c.args.text.now (codes "+security") (sym c.eq.ensures ∙ c.if-eq.false) is.0) (neither _ _
     (λ one is. apart c.args.text.now (codes "+take") (sym c.eq-2.ensures ∙ c.if-eq-2.false) is.0) (neither _ _
-    (λ one is. c.in_default.ensures.none is.0 is.1) (λ one is. c.in_err-sid.ensures.none is.0 is.1))))
+    (λ one is. apart c.args.text.now (codes "user=deny") (sym c.eq-3.ensures ∙ c.if-eq-3.false) is.0) (neither _ _
+    (λ one is. c.in_default.ensures.none is.0 is.1) (λ one is. c.in_err-sid.ensures.none is.0 is.1)))))

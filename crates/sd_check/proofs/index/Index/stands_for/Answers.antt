@@ -1,7 +1,7 @@
 -- A walk along the chain of the SID's place meets the user and each group that has the SID.
-use Rattle.std.proofs.Common.{◌-◌, ◌<◌, length, get_or, sym, ◌∙◌, arith}
-use Rattle.std.proofs.lemmas.Grind.{common_steps}
-use Rattle.sd_check.proofs.Chains.{at_end, leads_from, leads_on}
+use Rattle.std.proofs.Common.{◌-◌, ◌<◌, length, sym, ◌∙◌, arith}
+use Rattle.sd_check.proofs.Cited.{or_right}
+use Rattle.sd_check.proofs.Chains.{at_end, group_at, leads_from, leads_on}
 use Rattle.sd_check.proofs.index.Index.stands_for.Goals as goal
 use Rattle.sd_check.proofs.index.Index.stands_for.Goals.{then-link-eq1, else-link-eq1}
 
@@ -23,12 +23,12 @@ loop-link-preserved c =
 pub returns-then-stands_for : goal.returns-then-stands_for
 returns-then-stands_for c =
     let inside : c.loop-link.link - 2 < length c.args.groups.now = omega (arith, c.loop-link.invariant.0, c.loop-link-test.true) in
-    grind (arith, common_steps, c.if-stands_for.true, c.stands_for.ensures, c.index-groups-link.is, inside)
+    sym (or_right _ _ (group_at c.args.groups.now c.args.sid.now c.args.kind (c.loop-link.link - 2) _ inside c.index-groups-link.is (sym c.stands_for.ensures ∙ c.if-stands_for.true)))
 
-pub returns-else-is : goal.returns-else-is
-returns-else-is c =
+pub returns-else-stands_for-2 : goal.returns-else-stands_for-2
+returns-else-stands_for-2 c =
     at_end _ _ _ _ _ c.loop-link.link _ c.loop-link-test.false c.requires.chains.goes_back c.loop-link.invariant.2
     (λ one. elim c.if-link-eq1.branch [
-      | then-link-eq1 w ↦ sym w.is.ensures ∙ sym w.value-is ∙ c.if-is.false
+      | then-link-eq1 w ↦ sym w.stands_for-then-link-eq1.ensures ∙ sym w.value-is ∙ c.if-stands_for-2.false
       | else-link-eq1 w ↦ absurd (omega (arith, one, w.if-link-eq1.false))
     ]) c.one_beyond_chains.ensures

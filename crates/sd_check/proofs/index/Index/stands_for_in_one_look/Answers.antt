@@ -1,6 +1,4 @@
 -- The chain of a place with one link, and that a group's, leads to nobody else.
-use Rattle.std.proofs.Common.{◌-◌, ◌<◌, ◌≡◌, Bool, true, false, ◌||◌, ◌&&◌, length, get_or, refl, sym, ◌∙◌, arith}
-use Rattle.std.proofs.lemmas.Grind.{common_steps}
 use Rattle.sd_check.proofs.Chains.{alone_stands, alone_unmarked}
 use Rattle.sd_check.proofs.index.Index.stands_for_in_one_look.Goals as goal
 
