@@ -11,11 +11,12 @@ use crate::question::Question;
 use crate::resource::resource_claims;
 use sd_acl::Descriptor;
 use sd_check::Verdict;
+use sd_client::Client;
 use sd_evaluation::Facts;
 use sd_explain::Explanation;
-use sd_label::{Label, check_under, explain_under};
+use sd_label::{Label, explain_under, verdict_under};
 use sd_sid::Mask;
-use sd_specialize::{Conditions, Context, SpecializeError, specialized};
+use sd_specialize::{Conditions, Context, SpecializeError, check_dacl, specialized};
 use sd_whole::WholeDescriptor;
 use std::alloc::Global;
 
@@ -30,7 +31,7 @@ pub struct Explained {
 
 /// The verdict on the question ([MS-DTYP] 2.5.3): that of `check` on the plain descriptor for the question, without
 /// what the object's label takes from the client. A fault is the first entry of the DACL that is refused, or that its
-/// list is too large. There are allocations for the object's claims, the plain list, and conditions.
+/// list would be too large. There are allocations for the object's claims and for conditions; no list is made.
 pub fn check_whole(
     alloc: Global,
     question: &Question<'_>,
@@ -39,16 +40,47 @@ pub fn check_whole(
     ensures exact { Gives (λ verdict. verdict) result (whole_verdict question.now descriptor.now) }
     ensures memory { IsErrOf result SpecializeError.Memory → TakesMemory descriptor.now }
 {
-    let plain = plain_for(alloc, question, descriptor)?;
-    let taken = taken_from(question, descriptor);
+    let claims = resource_claims(alloc, &descriptor.sacl)?;
+    let Question {
+        chain,
+        principal_self,
+        mapping,
+        asked,
+        ..
+    } = question;
     let client = question.client;
-    Ok(check_under(
-        taken,
-        &plain,
-        question.mapping,
-        &client.token,
-        question.asked,
-    ))
+    let Client {
+        token,
+        device_groups,
+        local,
+        user,
+        device,
+        ..
+    } = client;
+    let facts = Facts {
+        token,
+        device_groups,
+        local,
+        user,
+        device,
+        resource: &claims,
+    };
+    let context = Context {
+        conditions: Conditions::Evaluated(&facts),
+        chain,
+        principal_self: *principal_self,
+    };
+    let unlabelled = check_dacl(
+        alloc,
+        &context,
+        &descriptor.owner,
+        &descriptor.dacl,
+        mapping,
+        token,
+        *asked,
+    )?;
+    let taken = taken_from(question, descriptor);
+    Ok(verdict_under(taken, mapping, *asked, unlabelled))
 }
 
 /// Why the question is answered as it is ([MS-DTYP] 2.5.3): the plain descriptor for it, and the reason of each bit.

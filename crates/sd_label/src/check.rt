@@ -1,27 +1,29 @@
 //! The verdict where a label takes rights.
 
-ghost use Rattle.std.specs.Prelude.{◌≡◌, ◌==◌, if◌then◌else◌};
-ghost use Rattle.sd_check.specs.Check.{dacl_entries};
+ghost use Rattle.std.specs.Prelude.{◌≡◌, ◌==◌, if◌then◌else◌, List, Option};
+ghost use Rattle.sd_acl.specs.declared.ace.Ace.{Ace};
+ghost use Rattle.sd_sid.specs.Sid.{SidValue};
+ghost use Rattle.sd_check.specs.Check.{verdict};
+ghost use Rattle.sd_check.specs.Token.{TokenValue};
 ghost use Rattle.sd_label.specs.Under.{verdict_under};
 
-use sd_acl::Descriptor;
-use sd_check::{MAXIMUM_ALLOWED, Token, Verdict, check};
+use sd_check::{MAXIMUM_ALLOWED, Verdict};
 use sd_sid::{GenericMapping, Mask};
 
-/// The verdict on a request, for a descriptor and what the object's label takes ([MS-DTYP] 2.5.3.3), as
-/// `Label::taken` returns it. Takes no memory.
-pub fn check_under(
+/// The verdict on a request where the object's label takes rights ([MS-DTYP] 2.5.3.3), as `Label::taken` returns them,
+/// from the one without a label. Takes no memory.
+pub fn verdict_under(
     taken: Mask,
-    descriptor: &Descriptor,
     mapping: &GenericMapping,
-    token: &Token,
     asked: Mask,
+    unlabelled: Verdict,
 ) -> Verdict
-    ensures { result ≡ verdict_under taken descriptor.now.owner (dacl_entries descriptor.now.dacl)
-        mapping.now token.now asked }
+    ensures { (owner : Option SidValue) (dacl : Option (List Ace)) (t : TokenValue)
+        → unlabelled ≡ verdict owner dacl mapping.now t asked
+        → result ≡ verdict_under taken owner dacl mapping.now t asked }
 {
     let lost = mapping.map(asked.minus(MAXIMUM_ALLOWED)).common(taken);
-    match check(descriptor, mapping, token, asked) {
+    match unlabelled {
         Verdict::Granted(granted) if lost.is_empty() => what_is_left(granted.minus(taken)),
         Verdict::Granted(_) => Verdict::Denied { missing: lost },
         Verdict::Denied { missing } => Verdict::Denied {

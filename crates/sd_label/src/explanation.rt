@@ -14,7 +14,7 @@ use sd_sid::{GenericMapping, Mask};
 
 /// Why a request is answered as it is, for a descriptor and what the object's label takes ([MS-DTYP] 2.5.3.3), as
 /// `Label::taken` returns it: the reason of each bit. The verdict that follows from the reasons is that of
-/// `check_under`. Takes no memory.
+/// `verdict_under`. Takes no memory.
 pub fn explain_under(
     taken: Mask,
     descriptor: &Descriptor,

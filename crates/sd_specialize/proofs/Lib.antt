@@ -9,5 +9,6 @@ pub mod Places
 pub mod Denies
 pub mod NoMore
 pub mod Chains
+pub mod Checked
 pub mod Alike
 pub mod Unknowns

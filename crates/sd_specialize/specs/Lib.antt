@@ -4,4 +4,5 @@ pub mod Specialize
 pub mod Everyone
 pub mod Marked
 pub mod Rule
+pub mod Verdict
 pub mod Laws

@@ -1,6 +1,7 @@
 //! What a question says beside the descriptor.
 
-ghost use Rattle.std.specs.Prelude.{◌≡◌};
+ghost use Rattle.std.specs.Prelude.{◌≡◌, bit_and};
+ghost use Rattle.sd_acl.specs.Ace.{all_named};
 ghost use Rattle.std.specs.Str.{bytes_eq};
 ghost use Rattle.sd_sid.specs.Sid.{same_sid};
 ghost use Rattle.sd_specialize.specs.Context.{context_of};
@@ -8,6 +9,7 @@ ghost use Rattle.sd_specialize.specs.Entry.{allows_type, denies_type, is_asked, 
 ghost use Rattle.sd_specialize.specs.Entry.{without_part};
 ghost use Rattle.sd_whole.specs.Plain.{plain_ace};
 
+use crate::part::Part;
 use bitflags::Flags;
 use sd_acl::{Ace, AceFlags, AceKind};
 use sd_evaluation::Facts;
@@ -51,27 +53,51 @@ impl Context<'_> {
     pub fn trustee(&self, sid: Sid) -> Sid
         ensures { result ≡ trustee (context_of self.now) sid }
     {
-        if !is_principal_self(&sid) {
-            return sid;
-        }
-        match self.principal_self {
-            Some(named) => named,
-            None => sid,
+        *self.trustee_of(&sid)
+    }
+
+    /// The SID that an entry for this SID is for, where it is stored.
+    #[inline(always)]
+    fn trustee_of<'a>(&'a self, sid: &'a Sid) -> &'a Sid
+        ensures { result.now ≡ trustee (context_of self.now) sid.now }
+    {
+        match &self.principal_self {
+            Some(named) if is_principal_self(sid) => named,
+            _ => sid,
         }
     }
 
     /// An allow or a deny for its trustee, with its named flags.
-    pub(crate) fn plain_ace(&self, kind: AceKind, flags: AceFlags, mask: Mask, sid: Sid) -> Ace
-        ensures { result ≡ plain_for (context_of self.now) kind flags.0 mask sid }
+    #[inline(always)]
+    pub(crate) fn part<'a>(
+        &'a self,
+        kind: AceKind,
+        flags: AceFlags,
+        mask: Mask,
+        sid: &'a Sid,
+    ) -> Part<'a>
+        ensures { result ≡ plain_for (context_of self.now) kind flags.0 mask sid.now }
     {
-        plain_ace(kind, flags, mask, self.trustee(sid))
+        Part {
+            kind,
+            flags: named(flags),
+            mask,
+            sid: self.trustee_of(sid),
+        }
     }
 
     /// An entry without a part in the question: it names no right.
+    pub(crate) fn no_part<'a>(&'a self, flags: AceFlags, sid: &'a Sid) -> Part<'a>
+        ensures { result ≡ without_part (context_of self.now) flags.0 sid.now }
+    {
+        self.part(AceKind::Allow, flags, Mask(0), sid)
+    }
+
+    /// An entry without a part in the question, with a SID of its own.
     pub(crate) fn without_part(&self, flags: AceFlags, sid: Sid) -> Ace
         ensures { result ≡ without_part (context_of self.now) flags.0 sid }
     {
-        self.plain_ace(AceKind::Allow, flags, Mask(0), sid)
+        self.no_part(flags, &sid).ace()
     }
 
     /// Whether an allow for the object type is for what is asked about.
@@ -101,10 +127,18 @@ pub(crate) fn plain_ace(kind: AceKind, flags: AceFlags, mask: Mask, sid: Sid) ->
 {
     Ace {
         kind,
-        flags: AceFlags::from_bits_retain(flags.bits() & AceFlags::NAMED_BITS),
+        flags: named(flags),
         mask,
         sid,
     }
+}
+
+/// The named flags of these.
+#[inline(always)]
+fn named(flags: AceFlags) -> AceFlags
+    ensures { result.0 ≡ bit_and flags.0 all_named }
+{
+    AceFlags::from_bits_retain(flags.bits() & AceFlags::NAMED_BITS)
 }
 
 /// Whether the SID is PRINCIPAL SELF, S-1-5-10 ([MS-DTYP] 2.4.2.4).

@@ -1,12 +1,16 @@
 //! The plain descriptor that a whole one is for one question, or by another rule for its entries.
 
-ghost use Rattle.std.specs.Prelude.{◌≡◌, ◌<◌, length, IsErrOf, IsTrue};
+ghost use Rattle.std.specs.Prelude.{◌≡◌, ◌<◌, length, IsErrOf, IsTrue, Result, Err};
+ghost use Rattle.sd_acl.specs.declared.ace.Ace.{Ace};
 ghost use Rattle.sd_acl.specs.Dacl.{IsAbsent};
 ghost use Rattle.sd_acl.specs.Descriptor.{descriptor_of};
 ghost use Rattle.sd_specialize.specs.Context.{context_of};
+ghost use Rattle.sd_specialize.specs.Entry.{GivesEntry};
 ghost use Rattle.sd_specialize.specs.Rule.{rule_of};
-ghost use Rattle.sd_specialize.specs.Specialize.{Gives, HasDaclEntries, acl_by, descriptor_by, entries_by, list_by};
+ghost use Rattle.sd_specialize.specs.Specialize.{Fails, Gives, HasDaclEntries, acl_by, descriptor_by, entries_by};
+ghost use Rattle.sd_specialize.specs.Specialize.{list_by};
 ghost use Rattle.sd_specialize.specs.Specialize.{numbered, specialized};
+ghost use Rattle.sd_specialize.specs.declared.fault.RefusedKind.{RefusedKind};
 ghost use Rattle.sd_whole.specs.Plain.{dacl_bit, with_dacl};
 ghost use Rattle.sd_whole.specs.Writing.{is_without};
 
@@ -132,13 +136,22 @@ fn numbered_entry(
 {
     match rule.entry(alloc, entry) {
         Ok(plain) => Ok(plain),
-        Err(EntryError::Memory) => Err(SpecializeError::Memory),
-        Err(EntryError::Refused(kind)) => {
+        Err(error) => Err(at_number(number, error)),
+    }
+}
+
+/// Why the entry with this number becomes nothing.
+pub(crate) fn at_number(number: usize, error: EntryError) -> SpecializeError
+    ensures { (found : Result Ace RefusedKind) → GivesEntry (Err error) found → Fails result (numbered number found) }
+{
+    match error {
+        EntryError::Memory => SpecializeError::Memory,
+        EntryError::Refused(kind) => {
             let refused = RefusedEntry {
                 entry: number,
                 kind,
             };
-            Err(SpecializeError::Fault(SpecializeFault::Refused(refused)))
+            SpecializeError::Fault(SpecializeFault::Refused(refused))
         }
     }
 }

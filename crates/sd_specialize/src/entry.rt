@@ -8,6 +8,7 @@ ghost use Rattle.sd_specialize.specs.Entry.{nobody, other_for, passes_agree, typ
 use crate::condition::condition_applies;
 use crate::context::Context;
 use crate::fault::{EntryError, RefusedKind};
+use crate::part::Part;
 use sd_acl::{Ace, AceKind};
 use sd_check::Pass;
 use sd_sid::Sid;
@@ -15,39 +16,67 @@ use sd_whole::{OddKind, OpaqueAce, TypedAce, WholeAce, WholeKind, for_children_a
 use std::alloc::{AllocError, Global};
 
 /// The plain allow or deny that the entry is for the question ([MS-DTYP] 2.5.3.2), or why it is refused.
-pub(crate) fn entry_for(
+pub(crate) fn ace_for(
     alloc: Global,
     context: &Context<'_>,
     entry: &WholeAce,
 ) -> Result<Ace, EntryError>
     ensures { GivesEntry result (entry_for (context_of context.now) entry.now) }
 {
+    let null_sid = nobody();
+    match entry_for(alloc, context, entry, &null_sid) {
+        Ok(part) => Ok(part.ace()),
+        Err(error) => Err(error),
+    }
+}
+
+/// The plain allow or deny that the entry is for the question, whose SID stays where it is stored: in the entry, in the
+/// question for PRINCIPAL SELF, or as NULL SID.
+#[inline(always)]
+pub(crate) fn entry_for<'a>(
+    alloc: Global,
+    context: &'a Context<'_>,
+    entry: &'a WholeAce,
+    null_sid: &'a Sid,
+) -> Result<Part<'a>, EntryError>
+    requires { null_sid.now ≡ nobody }
+    ensures { GivesEntry result (entry_for (context_of context.now) entry.now) }
+{
     match entry {
-        WholeAce::Plain(ace) => Ok(context.plain_ace(ace.kind, ace.flags, ace.mask, ace.sid)),
+        WholeAce::Plain(ace) => Ok(context.part(ace.kind, ace.flags, ace.mask, &ace.sid)),
         WholeAce::Typed(ace) => match ace.kind.plain() {
-            Some(kind) => Ok(context.plain_ace(kind, ace.flags, ace.mask, ace.sid)),
+            Some(kind) => Ok(context.part(kind, ace.flags, ace.mask, &ace.sid)),
             None => other_for(alloc, context, ace),
         },
-        WholeAce::Opaque(ace) => opaque_for(context, ace),
+        WholeAce::Opaque(ace) => opaque_for(context, ace, null_sid),
     }
 }
 
 /// An entry without a layout: it is refused unless it is for children alone.
-fn opaque_for(context: &Context<'_>, ace: &OpaqueAce) -> Result<Ace, EntryError>
+fn opaque_for<'a>(
+    context: &'a Context<'_>,
+    ace: &OpaqueAce,
+    null_sid: &'a Sid,
+) -> Result<Part<'a>, EntryError>
+    requires { null_sid.now ≡ nobody }
     ensures { GivesEntry result (entry_for (context_of context.now) (WholeAce.Opaque ace.now)) }
 {
     if !for_children_alone(ace.flags) {
         return Err(EntryError::Refused(RefusedKind::Odd(OddKind::OpaqueAce)));
     }
-    Ok(context.without_part(ace.flags, nobody()))
+    Ok(context.no_part(ace.flags, null_sid))
 }
 
 /// An entry with a layout that isn't plain.
-fn other_for(alloc: Global, context: &Context<'_>, ace: &TypedAce) -> Result<Ace, EntryError>
+fn other_for<'a>(
+    alloc: Global,
+    context: &'a Context<'_>,
+    ace: &'a TypedAce,
+) -> Result<Part<'a>, EntryError>
     ensures { GivesEntry result (other_for (context_of context.now) ace.now) }
 {
     if for_children_alone(ace.flags) {
-        return Ok(context.without_part(ace.flags, ace.sid));
+        return Ok(context.no_part(ace.flags, &ace.sid));
     }
     match decides(ace.kind) {
         None => Err(EntryError::Refused(RefusedKind::Odd(OddKind::SystemAce))),
@@ -56,12 +85,12 @@ fn other_for(alloc: Global, context: &Context<'_>, ace: &TypedAce) -> Result<Ace
 }
 
 /// An effective entry that allows or denies.
-fn deciding_for(
+fn deciding_for<'a>(
     alloc: Global,
-    context: &Context<'_>,
+    context: &'a Context<'_>,
     kind: AceKind,
-    ace: &TypedAce,
-) -> Result<Ace, EntryError>
+    ace: &'a TypedAce,
+) -> Result<Part<'a>, EntryError>
     ensures { GivesEntry result (deciding_for (context_of context.now) kind ace.now) }
 {
     let applies = applies_in(alloc, context, Pass::First, ace)?;
@@ -69,9 +98,9 @@ fn deciding_for(
         return Err(EntryError::Refused(RefusedKind::PassesDiffer));
     }
     if !applies {
-        return Ok(context.without_part(ace.flags, ace.sid));
+        return Ok(context.no_part(ace.flags, &ace.sid));
     }
-    Ok(context.plain_ace(kind, ace.flags, ace.mask, ace.sid))
+    Ok(context.part(kind, ace.flags, ace.mask, &ace.sid))
 }
 
 /// Whether the entry applies in both passes or in neither, from whether it does in the first; or there is one pass.
@@ -140,7 +169,7 @@ fn decides(kind: WholeKind) -> Option<AceKind>
 }
 
 /// NULL SID, nobody's, S-1-0-0 ([MS-DTYP] 2.4.2.4).
-fn nobody() -> Sid
+pub(crate) fn nobody() -> Sid
     ensures { result ≡ nobody }
 {
     Sid::new(0, &[0]).unwrap()

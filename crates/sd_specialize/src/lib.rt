@@ -3,6 +3,7 @@
 //! A whole DACL has entries for object types, and entries with conditions. For one question each of these is a plain
 //! allow or deny, or has no part. `specialized` makes that plain descriptor, and `sd_check` answers the question from
 //! it, as do `sd_explain` and whatever else is asked about that question; an entry has the same number in both lists.
+//! `check_dacl` answers it without the list.
 //! The rules are in specs/Entry.antt, and in words in docs/CHECK.md.
 //!
 //! The plain descriptor is for checks of this object by this token. What children inherit follows from the whole one.
@@ -13,6 +14,7 @@
 //! ```
 #![tactic(auto)]
 
+mod check;
 mod condition;
 mod context;
 mod descriptor;
@@ -21,8 +23,10 @@ mod everyone;
 mod fault;
 mod laws;
 mod marked;
+mod part;
 mod rule;
 
+pub use check::check_dacl;
 pub use context::{Conditions, Context};
 pub use descriptor::specialized;
 pub use everyone::{conditional_fault, conditional_place};

@@ -14,7 +14,7 @@ ghost use Rattle.std.specs.List.{list_any, position};
 
 use crate::context::{Conditions, Context, plain_ace};
 use crate::descriptor::descriptor_by;
-use crate::entry::entry_for;
+use crate::entry::ace_for;
 use crate::everyone::{conditional_fault, conditional_place, is_conditional};
 use crate::fault::{EntryError, SpecializeError};
 use crate::rule::Rule;
@@ -192,7 +192,7 @@ pub(crate) fn marked_entry(
 {
     match conditional_in(entry) {
         Some(ace) => Ok(marked_for(marks, ace)),
-        None => entry_for(alloc, marks.context, entry),
+        None => ace_for(alloc, marks.context, entry),
     }
 }
 

@@ -4,7 +4,7 @@ ghost use Rattle.sd_specialize.specs.Entry.{GivesEntry};
 ghost use Rattle.sd_specialize.specs.Rule.{rule_of};
 
 use crate::context::Context;
-use crate::entry::entry_for;
+use crate::entry::ace_for;
 use crate::fault::EntryError;
 use crate::marked::{Marks, marked_entry};
 use sd_acl::Ace;
@@ -26,7 +26,7 @@ impl Rule<'_> {
         ensures { GivesEntry result (rule_of self.entry entry.now) }
     {
         match self {
-            Rule::Asked(context) => entry_for(alloc, context, entry),
+            Rule::Asked(context) => ace_for(alloc, context, entry),
             Rule::Marked(marks) => marked_entry(alloc, marks, entry),
         }
     }

@@ -7,7 +7,7 @@ use sd_check::{GroupState, Privileges, Token, Verdict, check};
 use sd_claim::{Claim, read_claim};
 use sd_evaluation::Facts;
 use sd_explain::{Cause, Share};
-use sd_label::{Label, check_under, explain_under};
+use sd_label::{Label, explain_under, verdict_under};
 use sd_sid::{GenericMapping, Sid};
 use sd_specialize::{Conditions, Context, SpecializeError, SpecializeFault, specialized};
 use sd_text::{Aliases, print_sddl, read_mask, read_sid_text};
@@ -329,7 +329,8 @@ fn answers_under_a_label(rt: HostRuntime) -> Result<(), Fail> {
         let taken = Label::of_object(&whole.sacl).taken(level, &mapping);
         let plain = plain_of(&rt, alloc, &token, &whole);
         let mask = read_mask(mask).expect(&rt, "a mask");
-        let answer = verdict_text(alloc, check_under(taken, &plain, &mapping, &token, mask))?;
+        let unlabelled = check(&plain, &mapping, &token, mask);
+        let answer = verdict_text(alloc, verdict_under(taken, &mapping, mask, unlabelled))?;
         assert!(rt; answer.as_str() == verdict, "{row}: {answer}");
         let reasons = explain_under(taken, &plain, &mapping, &token, mask);
         let told = verdict_text(alloc, reasons.verdict())?;
