@@ -1,23 +1,20 @@
 -- More marks behind those of a list change nothing of what it is by markers.
-use Rattle.std.proofs.Common.{◌≡◌, ℕ, ◌+◌, ◌++◌, ◌∷◌, [], List, Bool, true, false, ◌||◌, not, cond, Ok, Option, Some, None, Result, ap, append-nil, append_assoc, arith, inl, inr, refl, subst, sym, ◌∙◌}
+use Rattle.std.proofs.Common.{◌≡◌, ℕ, ◌+◌, ◌++◌, ◌∷◌, [], List, true, ◌||◌, not, cond, Ok, Option, Some, None, Result, ap, append-nil, append_assoc, inl, inr, refl, subst, sym, ◌∙◌}
 use Rattle.std.proofs.lemmas.Bool.{cases_Bool, false≢true}
 use Rattle.std.specs.List.{list_any}
 use Rattle.std.specs.Option.{option_map_or}
 use Rattle.std.specs.Prelude.{if◌then◌else◌}
 use Rattle.sd_acl.specs.Dacl.{Dacl}
-use Rattle.sd_acl.specs.declared.ace.Ace.{Ace}
 use Rattle.sd_acl.specs.declared.descriptor.DaclOf.TheVariants.{Absent, Null, List as Entries}
-use Rattle.sd_sid.specs.Sid.{SidValue}
 use Rattle.sd_whole.specs.Plain.{plain_ace, with_dacl}
 use Rattle.sd_whole.specs.Reading.{WholeAcl}
 use Rattle.sd_whole.specs.declared.ace.TypedAce.{TypedAce}
 use Rattle.sd_whole.specs.declared.ace.WholeAce.{WholeAce}
-use Rattle.sd_whole.specs.declared.descriptor.WholeDescriptor.{WholeDescriptor}
 use Rattle.sd_specialize.proofs.Markers.{all_are_marked}
 use Rattle.sd_specialize.specs.Context.{ContextValue}
 use Rattle.sd_specialize.specs.Entry.{without_part}
 use Rattle.sd_specialize.specs.Everyone.{unless_conditional}
-use Rattle.sd_specialize.specs.Marked.{HaveMarkers, LaterMarksChangeNothing, conditional_in, conditionals, conditionals_of, decision_of, is_marked, is_of_types, mark_place, marked_entry, marked_for, marked_or, marker, same_mark, unmarked_place}
+use Rattle.sd_specialize.specs.Marked.{HaveMarkers, LaterMarksChangeNothing, conditional_in, conditionals, conditionals_of, decision_of, is_of_types, mark_place, marked_entry, marked_for, marked_or, marker, same_mark, unmarked_place}
 use Rattle.sd_specialize.specs.Specialize.{acl_by, entries_by, fitting, numbered, ◌>>=◌}
 use Rattle.sd_specialize.specs.declared.fault.SpecializeFault.{SpecializeFault}
 

@@ -2,6 +2,8 @@ pub mod Lists
 pub mod LaterMarks
 pub mod Markers
 pub mod MarkersStand
+pub mod CopiesStand
+pub mod CopiesBring
 pub mod Grants
 pub mod PlainStays
 pub mod Parts

@@ -172,14 +172,14 @@ module _ (c : ContextValue) (t : TokenValue) where
 
 module _ (c : ContextValue) (marks : List TypedAce) (t : TokenValue) (none : HasNoMarker t) where
   -- for another SID than a marker it stands as before
-  still_stands : (kind : AceKind) (s : SidValue) → is_marker s ≡ false → stands_for (with_markers c marks t) kind s ≡ stands_for t kind s
+  pub still_stands : (kind : AceKind) (s : SidValue) → is_marker s ≡ false → stands_for (with_markers c marks t) kind s ≡ stands_for t kind s
   still_stands kind s other =
       let all = list_any-append (λ (group : SidValue × GroupState). same_sid group.0 s && counts kind group.1) t.groups (map as_group (markers_where (stands c t) 0 marks)) in
       let added = as_groups (markers_where (stands c t) 0 marks) kind s ∙ none_of_others (stands c t) 0 marks s other in
       ap (λ b. (same_sid t.user s && counts kind t.user_state) || b) (all ∙ ap (λ b. a_group_stands_for t.groups kind s || b) added ∙ or-false _)
 
   -- for a marker it stands where it counts as having it
-  marker_stands : (kind : AceKind) (e : TypedAce) → list_any (same_mark e) marks ≡ true
+  pub marker_stands : (kind : AceKind) (e : TypedAce) → list_any (same_mark e) marks ≡ true
       → stands_for (with_markers c marks t) kind (marker (mark_place marks e)) ≡ stands c t e
   marker_stands kind e among =
       let all = list_any-append (λ (group : SidValue × GroupState). same_sid group.0 (marker (mark_place marks e)) && counts kind group.1) t.groups (map as_group (markers_where (stands c t) 0 marks)) in
@@ -187,12 +187,12 @@ module _ (c : ContextValue) (marks : List TypedAce) (t : TokenValue) (none : Has
       let added = as_groups (markers_where (stands c t) 0 marks) kind (marker (mark_place marks e)) ∙ has_marker (stands c t) (same_stands c t) 0 (mark_place marks e) marks e (omega arith) among in
       rw (not_a_marker (mark_place marks e) t.user none.user, all, before) added
 
-  still_restricts : (s : SidValue) → is_marker s ≡ false → is_restricting (with_markers c marks t) s ≡ is_restricting t s
+  pub still_restricts : (s : SidValue) → is_marker s ≡ false → is_restricting (with_markers c marks t) s ≡ is_restricting t s
   still_restricts s other =
       list_any-append (λ one. same_sid one s) t.restricting (markers_where (restricts c t) 0 marks)
       ∙ ap (λ b. has s t.restricting || b) (none_of_others (restricts c t) 0 marks s other) ∙ or-false _
 
-  marker_restricts : (e : TypedAce) → list_any (same_mark e) marks ≡ true
+  pub marker_restricts : (e : TypedAce) → list_any (same_mark e) marks ≡ true
       → is_restricting (with_markers c marks t) (marker (mark_place marks e)) ≡ restricts c t e
   marker_restricts e among =
       list_any-append (λ one. same_sid one (marker (mark_place marks e))) t.restricting (markers_where (restricts c t) 0 marks)
@@ -264,7 +264,7 @@ beq-itself false = refl
 same_mark-itself : (e : TypedAce) → same_mark e e ≡ true
 same_mark-itself e = rw (beq-itself (is_deny e.kind), same_sid-itself e.sid) ((bytes_eq-Decides e.trailing e.trailing).1 refl)
 
-own_mark : (front : List TypedAce) (e : TypedAce) (back : List TypedAce) → list_any (same_mark e) (front ++ e ∷ back) ≡ true
+pub own_mark : (front : List TypedAce) (e : TypedAce) (back : List TypedAce) → list_any (same_mark e) (front ++ e ∷ back) ≡ true
 own_mark front e back =
     list_any-append (same_mark e) front (e ∷ back)
     ∙ ap (λ b. list_any (same_mark e) front || (b || list_any (same_mark e) back)) (same_mark-itself e)

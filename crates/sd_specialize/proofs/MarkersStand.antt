@@ -1,11 +1,11 @@
 -- The list with markers grants each token with its markers what the whole list grants it.
-use Rattle.std.proofs.Common.{◌≡◌, ℕ, ◌+◌, ◌++◌, ◌∷◌, ◌⊎◌, [], List, Bool, true, false, not, ◌&&◌, ◌||◌, ◌==◌, cond, nat_lt, Contains, Option, Some, None, Result, Ok, Err, ap, arith, inl, inr, refl, subst, sym, ◌∙◌}
+use Rattle.std.proofs.Common.{◌≡◌, ℕ, ◌+◌, ◌∷◌, [], List, Bool, true, false, not, ◌&&◌, cond, nat_lt, Option, Some, None, Ok, ap, arith, inl, inr, refl, subst, sym, ◌∙◌}
 use Rattle.std.specs.Prelude.{if◌then◌else◌}
 use Rattle.std.proofs.lemmas.Bool.{and_parts, cases_Bool, false≢true}
 use Rattle.std.proofs.Math.Bool.{and-false, and-true}
-use Rattle.std.specs.List.{filter_map, list_any}
+use Rattle.std.specs.List.{list_any}
 use Rattle.std.specs.Option.{option_map_or}
-use Rattle.sd_acl.specs.Ace.{is_allow, is_inherit_only}
+use Rattle.sd_acl.specs.Ace.{is_allow}
 use Rattle.sd_acl.specs.declared.ace.Ace.{Ace}
 use Rattle.sd_acl.specs.declared.ace.AceKind.{AceKind}
 use Rattle.sd_acl.specs.declared.ace.AceKind.TheVariants.{Allow, Deny}
@@ -33,9 +33,8 @@ use Rattle.sd_specialize.specs.Context.{ContextValue}
 use Rattle.sd_specialize.specs.Entry.{applies_in, effective_for, entry_for, passes_agree, plain_for, trustee, typed_for, without_part}
 use Rattle.sd_specialize.specs.Entry as whole
 use Rattle.sd_specialize.specs.Everyone.{has_condition, is_conditional}
-use Rattle.sd_specialize.specs.Marked.{HasNoMarker, HaveMarkers, MarkersStand, is_marked, conditional_in, conditionals_of, decision_of, is_deny, hinders, is_marker, is_of_types, lets_apply, mark_place, marked_entry, marked_for, marked_list, marker, same_mark, with_markers}
+use Rattle.sd_specialize.specs.Marked.{HasNoMarker, HaveMarkers, MarkersStand, is_marked, decision_of, is_deny, hinders, is_marker, is_of_types, lets_apply, mark_place, marked_entry, marked_for, marked_list, marker, same_mark, with_markers}
 use Rattle.sd_specialize.specs.Specialize.{entries_by, entries_for, specialized_list}
-use Rattle.sd_specialize.specs.declared.fault.RefusedKind.{RefusedKind}
 
 -- ---- what an entry is for the question
 
@@ -229,6 +228,13 @@ module _ (c : ContextValue) (marks : List TypedAce) (A B : AceKind → SidValue 
 judged_list : MappingValue → (ℕ → Bool) → ℕ → Verdict
 judged_list g p r = judged g p (mask_of (λ b. nat_lt b 21 && p b) 32) r
 
+-- lists that grant the same, each its token, give both one verdict
+pub same_verdicts : (owner : Option SidValue) (xs ys : List Ace) (g : MappingValue) (t u : TokenValue)
+    → ((b : ℕ) → is_granted owner (Some xs) g t b ≡ is_granted owner (Some ys) g u b)
+    → (r : ℕ) → verdict owner (Some xs) g t r ≡ verdict owner (Some ys) g u r
+unfolding judged_list
+same_verdicts owner xs ys g t u same r = ap (λ p. judged_list g p r) (one_test _ _ same)
+
 module _ (c : ContextValue) (marks : List TypedAce) (es : List WholeAce) (plain with : List Ace)
     (have : HaveMarkers marks es) (free : list_any (hinders c) es ≡ false)
     (one : specialized_list c es ≡ Ok plain) (other : marked_list c marks es ≡ Ok with)
@@ -243,10 +249,6 @@ module _ (c : ContextValue) (marks : List TypedAce) (es : List WholeAce) (plain 
       (marker_applies_again c marks t none owner unmarked) 1 es plain with free have xs ys in
       grind (arith, first_pass.allowed g b, second_pass.allowed g b, first_pass.limits, still_owner c marks t none owner unmarked, restricted_alike c marks t none owner unmarked)
 
-  same_verdict : (g : MappingValue) (r : ℕ) → verdict owner (Some plain) g t r ≡ verdict owner (Some with) g (with_markers c marks t) r
-  unfolding judged_list
-  same_verdict g r = ap (λ p. judged_list g p r) (one_test _ _ (same_granted g))
-
 pub markers_stand : MarkersStand
 markers_stand c marks es plain with have free one other owner unmarked t none g r =
-    same_verdict c marks es plain with have free one other owner unmarked t none g r
+    same_verdicts owner plain with g t (with_markers c marks t) (same_granted c marks es plain with have free one other owner unmarked t none g) r

@@ -1,5 +1,5 @@
 -- Where the marker of an entry is, and the entries with a condition so far.
-use Rattle.std.proofs.Common.{◌≡◌, ℕ, ◌+◌, ◌<◌, ◌++◌, ◌∷◌, [], Bool, false, not, cond, List, Option, Some, None, Bor, ap, arith, get_or, length, map, nat_lt, refl, sym, take, ◌∙◌}
+use Rattle.std.proofs.Common.{◌≡◌, ℕ, ◌+◌, ◌<◌, ◌++◌, ◌∷◌, [], not, cond, List, Option, Some, None, Bor, ap, arith, get_or, length, refl, sym, take, ◌∙◌}
 use Rattle.std.proofs.lemmas.List.{take_more}
 use Rattle.std.proofs.lemmas.List.Elements.{filter_map-append}
 use Rattle.std.proofs.lemmas.List.Sums.{prefix_len-le-length}

@@ -3,6 +3,7 @@ pub mod Entry
 pub mod Specialize
 pub mod Everyone
 pub mod Marked
+pub mod Copies
 pub mod Rule
 pub mod Verdict
 pub mod Laws

@@ -1,5 +1,6 @@
 //! What follows from the rules. Each law is the contract of a function that does nothing.
 
+ghost use Rattle.sd_specialize.specs.Copies.{CopiesChangeNothing, MarkersBringTheirSids};
 ghost use Rattle.sd_specialize.specs.Laws.{DenyNeverGrants, NoPartChangesNothing, PlainStaysPlain, UnknownFailsClosed};
 ghost use Rattle.sd_specialize.specs.Laws.{WholeIsEveryPart};
 ghost use Rattle.sd_specialize.specs.Marked.{AllAreMarked, LaterMarksChangeNothing, MarkersStand};
@@ -52,4 +53,16 @@ pub fn all_are_marked()
 #[tactic(auto, using(crate::proofs::LaterMarks::later_marks_change_nothing))]
 pub fn later_marks_change_nothing()
     ensures { LaterMarksChangeNothing }
+{}
+
+/// A law: copies of entries for the markers of their SIDs change no verdict of a token with the markers that it counts
+/// as having ([MS-DTYP] 2.5.3.1.5).
+pub fn copies_change_nothing()
+    ensures { CopiesChangeNothing }
+{}
+
+/// A law: by a list with all copies, who has the marker of an allow is answered as who has its SID too, unless that is
+/// the owner ([MS-DTYP] 2.5.3.1.5).
+pub fn markers_bring_their_sids()
+    ensures { MarkersBringTheirSids }
 {}

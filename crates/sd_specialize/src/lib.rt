@@ -17,6 +17,7 @@
 mod check;
 mod condition;
 mod context;
+mod copies;
 mod descriptor;
 mod entry;
 mod everyone;
@@ -28,11 +29,13 @@ mod rule;
 
 pub use check::check_dacl;
 pub use context::{Conditions, Context};
+pub use copies::with_copies;
 pub use descriptor::specialized;
 pub use everyone::{conditional_fault, conditional_place};
 pub use fault::{RefusedEntry, RefusedKind, SpecializeError, SpecializeFault};
 pub use laws::{
-    all_are_marked, deny_never_grants, later_marks_change_nothing, markers_stand,
-    no_part_changes_nothing, plain_stays_plain, unknown_fails_closed, whole_is_every_part,
+    all_are_marked, copies_change_nothing, deny_never_grants, later_marks_change_nothing,
+    markers_bring_their_sids, markers_stand, no_part_changes_nothing, plain_stays_plain,
+    unknown_fails_closed, whole_is_every_part,
 };
 pub use marked::{conditionals, is_deny, is_marker, marked_for_everyone, marker, unmarked_place};

@@ -136,7 +136,7 @@ pub fn is_marker(sid: &Sid) -> bool
 }
 
 /// The number of the entry's marker.
-fn mark_place(marks: &[&TypedAce], ace: &TypedAce) -> usize
+pub(crate) fn mark_place(marks: &[&TypedAce], ace: &TypedAce) -> usize
     ensures { result ≡ mark_place (lent_marks marks.now) ace.now }
 {
     match first_mark(marks, ace) {

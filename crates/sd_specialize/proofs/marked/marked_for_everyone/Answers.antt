@@ -2,7 +2,6 @@
 use Rattle.std.proofs.Common.{subst}
 use Rattle.std.specs.Prelude.{Result}
 use Rattle.sd_acl.specs.Descriptor.{DescriptorValue, descriptor_of}
-use Rattle.sd_specialize.specs.Context.{ContextValue, context_of}
 use Rattle.sd_specialize.specs.Marked.{lent_marks}
 use Rattle.sd_specialize.specs.Specialize.{Gives}
 use Rattle.sd_specialize.specs.declared.fault.SpecializeFault.{SpecializeFault}
