@@ -1,9 +1,9 @@
--- Where the marker of an entry is, and the entries with a condition so far.
+-- Where the marker of an entry is, and the entries with a condition so far, or others that are looked for.
 use Rattle.std.proofs.Common.{◌≡◌, ℕ, ◌+◌, ◌<◌, ◌++◌, ◌∷◌, [], not, cond, List, Option, Some, None, Bor, ap, arith, get_or, length, refl, sym, take, ◌∙◌}
 use Rattle.std.proofs.lemmas.List.{take_more}
 use Rattle.std.proofs.lemmas.List.Elements.{filter_map-append}
 use Rattle.std.proofs.lemmas.List.Sums.{prefix_len-le-length}
-use Rattle.std.specs.List.{cons_option, position, position_or_len}
+use Rattle.std.specs.List.{cons_option, filter_map, position, position_or_len}
 use Rattle.std.specs.Option.{option_to_list}
 use Rattle.sd_whole.specs.declared.ace.TypedAce.{TypedAce}
 use Rattle.sd_whole.specs.declared.ace.WholeAce.{WholeAce}
@@ -28,10 +28,14 @@ as_list : (found : Option TypedAce) → cons_option found [] ≡ option_to_list 
 as_list None = refl
 as_list (Some one) = refl
 
+pub one_found : (find : WholeAce → Option TypedAce) (es : List WholeAce) (i : ℕ) (e : WholeAce) (old new : List TypedAce) → i < length es → e ≡ get_or es i e
+    → old ≡ filter_map find (take i es) → new ≡ old ++ option_to_list (find e) → new ≡ filter_map find (take (i + 1) es)
+one_found find es i e old new low is was whole =
+    whole ∙ ap (λ (all : List TypedAce). all ++ option_to_list (find e)) was
+    ∙ sym (ap (filter_map find) (take_more es i e low ∙ ap (λ x. take i es ++ x ∷ []) (sym is))
+    ∙ filter_map-append find (take i es) (e ∷ [])
+    ∙ ap (λ all. filter_map find (take i es) ++ all) (as_list (find e)))
+
 pub one_more : (es : List WholeAce) (i : ℕ) (e : WholeAce) (old new : List TypedAce) → i < length es → e ≡ get_or es i e
     → old ≡ conditionals_of (take i es) → new ≡ old ++ option_to_list (conditional_in e) → new ≡ conditionals_of (take (i + 1) es)
-one_more es i e old new low is was whole =
-    whole ∙ ap (λ (all : List TypedAce). all ++ option_to_list (conditional_in e)) was
-    ∙ sym (ap conditionals_of (take_more es i e low ∙ ap (λ x. take i es ++ x ∷ []) (sym is))
-    ∙ filter_map-append conditional_in (take i es) (e ∷ [])
-    ∙ ap (λ all. conditionals_of (take i es) ++ all) (as_list (conditional_in e)))
+one_more = one_found conditional_in

@@ -7,3 +7,4 @@ pub mod Copies
 pub mod Rule
 pub mod Verdict
 pub mod Laws
+pub mod Children

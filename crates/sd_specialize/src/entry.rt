@@ -152,7 +152,7 @@ fn applies_in(
 }
 
 /// What an entry of the type decides, if it isn't one of SACLs.
-fn decides(kind: WholeKind) -> Option<AceKind>
+pub(crate) fn decides(kind: WholeKind) -> Option<AceKind>
     ensures { result ≡ decides kind }
 {
     match kind {

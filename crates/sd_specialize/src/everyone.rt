@@ -46,7 +46,7 @@ pub(crate) fn is_conditional(entry: &WholeAce) -> bool
     }
 }
 
-fn has_condition(kind: WholeKind) -> bool
+pub(crate) fn has_condition(kind: WholeKind) -> bool
     ensures { result ≡ has_condition kind }
 {
     matches!(

@@ -6,7 +6,8 @@
 //! `check_dacl` answers it without the list.
 //! The rules are in specs/Entry.antt, and in words in docs/CHECK.md.
 //!
-//! The plain descriptor is for checks of this object by this token. What children inherit follows from the whole one.
+//! The plain descriptor is for checks of this object by this token. What children inherit follows from the whole one:
+//! for all tokens `handed_entries` is what `sd_inheritance` makes it of.
 //!
 //! ```text
 //! let plain = specialized(alloc, &context, &whole)?;
@@ -15,6 +16,7 @@
 #![tactic(auto)]
 
 mod check;
+mod children;
 mod condition;
 mod context;
 mod copies;
@@ -28,6 +30,7 @@ mod part;
 mod rule;
 
 pub use check::check_dacl;
+pub use children::{handed_conditionals, handed_entries, hands_on_conditions, leaves_out_children};
 pub use context::{Conditions, Context};
 pub use copies::with_copies;
 pub use descriptor::specialized;
