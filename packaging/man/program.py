@@ -90,11 +90,12 @@ class Program:
 
     @property
     def words(self) -> dict[str, list[str]]:
-        """By command, those of its arguments that the help lists by their whole names, as +take; and its own options,
-        where it takes no command."""
+        """By command, those of its arguments that the help lists by their whole names, as +take and user=deny; and its
+        own options, where it takes no command."""
         named = {}
         for name, command in self.commands.items():
-            lines = [line.split()[0] for each in command.arguments for line in each.lines if line.startswith("+")]
+            listed = [line for each in command.arguments for line in each.lines]
+            lines = [line.split()[0] for line in listed if re.match(r"\+|[a-z]+=[a-z]", line)]
             if name not in self.inner:
                 lines += self._options_of(name)
             if lines:

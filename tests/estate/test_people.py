@@ -101,6 +101,11 @@ class Asked(Case):
                 self.assertEqual(rows, [f"found\t{path}" for path in found])
         ask = ("find", "tree", "/d", r"EXAMPLE\bob", "WO", "+take", "--accounts", "accounts")
         self.assertEqual(self.runs(0, *ask), ["found\t/d"])
+        # of a user for denies alone the groups count as they do
+        self.write("script", script_of(f"O:BAG:SYD:(A;;0x1;;;{ALICE})(A;;0x2;;;{STAFF})"))
+        for asked, found in (("0x1", []), ("0x2", ["found\t/"])):
+            ask = ("find", "script", "/", "alice", asked, "user=deny", "--accounts", "accounts")
+            self.assertEqual(self.runs(0, *ask), found)
 
     def test_refusals(self) -> None:
         """Each has a name, prints no row, and has the status 2."""
@@ -124,6 +129,7 @@ class Asked(Case):
             ((*find, "alice", "0x1", "--only-given", *accounts), "--only-given: by --accounts each user has"),
             ((*who, "--only-given", *accounts), "--only-given: by --accounts each user has"),
             ((*who, "AU", *accounts), "AU: by --accounts each user has the groups of the file"),
+            ((*who, "user=deny", *accounts), "sdstore who: fault token"),
             (("review", "tree", "/", "AU", *accounts), "AU: by --accounts each user has the groups of the file"),
             ((*who, "--accounts", "lost"), "lost: line 2: it says that accounts are missing"),
             ((*who, "--accounts", "bad"), "bad: line 2: the name is missing, or has a control character"),

@@ -342,7 +342,8 @@ REJECTED = r"""
 1 LacksWhole | --type 1 lint D:
 2 LacksObject | --whole --type 1 lint D:
 2 LacksObject | --whole --schema f compare D: D:
-2 MisplacedOption | --whole --schema f lint D:
+2 LacksObject | --whole --schema f lint D:
+2 MisplacedOption | --whole --schema f sort D:
 1 LacksObject | --self PS --whole compare D: D:
 1 LacksObject | --self PS --whole each compare D:
 3 LacksWhole | --stdin --names --self PS why SY 0x1

@@ -253,6 +253,14 @@ class Token:
     restricting: list = field(default_factory=list)
     security: bool = False
     take: bool = False
+    #: The user counts for denies alone.
+    denies_alone: bool = False
+
+    def stands_for(self, kind, subject):
+        """Whether the user or a group has the SID and counts for an entry of the kind."""
+        states = [state for group, state in self.groups if group == subject]
+        states += ["=deny" if self.denies_alone else ""] * (subject == self.user)
+        return "" in states or (kind == "D" and "=deny" in states)
 
 
 def verdict(owner, dacl, token, asked):
@@ -262,8 +270,7 @@ def verdict(owner, dacl, token, asked):
         subject = owner if sid == OWNER_RIGHTS else sid
         if again:
             return subject in token.restricting
-        states = [state for group, state in token.groups if group == subject]
-        return subject == token.user or "" in states or (kind == "D" and "=deny" in states)
+        return token.stands_for(kind, subject)
 
     effective = [] if dacl is None else [e for e in dacl if not e.flags & IO]
     passes = [False, True] if token.restricting else [False]
@@ -310,8 +317,7 @@ def applies(owner, token, again, e):
         return False
     if again:
         return subject in token.restricting
-    states = [state for group, state in token.groups if group == subject]
-    return subject == token.user or "" in states or (e.kind == "D" and "=deny" in states)
+    return token.stands_for(e.kind, subject)
 
 
 def allowed(owner, dacl, token, again, generic=GENERIC):

@@ -33,6 +33,8 @@ LEVEL_SID = re.compile(r"S-1-16-(\d+)")
 #: A SID S-1-16 with other sub-authorities, and what is no integrity SID, is above every level.
 TOP = 0xFFFFFFFF
 MAXIMUM_ALLOWED, RESERVED, RIGHTS, OWNERS = 0x02000000, 0x0CE00000, 0x1FFFFF, 0x60000
+#: What the words that name no SID set of a token.
+WORDS = {"+security": "security", "+take": "take", "user=deny": "denies_alone"}
 SCOPES = {"@user.": evaluate.USER, "@device.": evaluate.DEVICE, "": evaluate.LOCAL}
 
 
@@ -114,8 +116,8 @@ def client_of(question: Question, resource: Tuple[Claim, ...]) -> Client:
     for word in question.words:
         name, _, state = word.partition("=")
         sid = spelling.sid(name)
-        if word in ("+security", "+take"):
-            setattr(token, word[1:], True)
+        if word in WORDS:
+            setattr(token, WORDS[word], True)
         elif name.lower() == "level":
             levels.append(level_of(state))
         elif not sid.startswith("S-1-"):

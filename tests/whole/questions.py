@@ -226,7 +226,7 @@ class Random:
         made = [word + self.one(("", "", "=deny", "=off")) if word in SIDS else word for word in words]
         if self.is_so(0.3):
             made += [sid + "=restrict" for sid in self.sample(SIDS, self.rng.randint(1, 4))]
-        made += [word for word in ("+security", "+take") if self.is_so(0.15)]
+        made += [word for word in ("+security", "+take", "user=deny") if self.is_so(0.15)]
         made += self.some(lambda: self.one(LEVELS), 0, 2) if self.is_so(0.6) else []
         return tuple(self.sample(made, len(made)))
 

@@ -245,7 +245,7 @@ about. Before 'compare' and 'lint' it goes beside '--object'",
         "\
 the values of '--type' and the types of TREE may also be names, as member, which the file gives by
 lines 'class GUID NAME', 'attribute GUID NAME', 'set GUID NAME' and 'right GUID NAME'; before
-'compare' it goes beside '--object'",
+'compare' and 'lint' it goes beside '--object'",
     ),
     (
         "--self",

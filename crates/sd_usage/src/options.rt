@@ -144,6 +144,7 @@ pub(crate) const LINT_OPTIONS: &[OptionName] = &[
     OptionName::Risks,
     OptionName::Concern,
     OptionName::Type,
+    OptionName::Schema,
     OptionName::PrincipalSelf,
     OptionName::Domain,
     OptionName::Aliases,

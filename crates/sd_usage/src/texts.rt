@@ -23,6 +23,7 @@ SID=off       a disabled group, which counts for nothing
 SID=restrict  a restricting SID, not a group: access is checked a second time, for these alone
 +security     SeSecurityPrivilege
 +take         SeTakeOwnershipPrivilege
+user=deny     the user itself counts for deny entries alone
 Under '--whole', of 'verdict', 'why' and 'types', also:
 SID=device    a group of the device from which access is asked for
 level=LEVEL   the integrity level, by default medium: untrusted, low, medium, mediumplus, high, system
