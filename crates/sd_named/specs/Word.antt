@@ -1,6 +1,6 @@
 -- The words that say which groups a token has, where accounts are known: a trustee, with an ending that says how.
 use Rattle.std.specs.Prelude.{◌≡◌, ◌⊎◌, ℕ, ◌==◌, Bool, true, false, ◌||◌, List, [], ◌∷◌, ◌++◌, Some, None}
-use Rattle.std.specs.Prelude.{codes, string_bytes}
+use Rattle.std.specs.Prelude.{bytes_eq, codes, string_bytes}
 use Rattle.std.specs.List.{AllByRecursion, list_any}
 use Rattle.sd_sid.specs.Sid.{SidValue}
 use Rattle.sd_text.specs.Canon.{full_canon}
@@ -31,23 +31,24 @@ IsCut word front Enabled = (front ≡ word)
     × AllByRecursion (λ role. (before : List ℕ) → word ≡ before ++ ending_of role → ⊥) ended
 IsCut word front role = word ≡ front ++ ending_of role
 
--- what isn't of a trustee: it begins with `+` or `@`, or has a `=`, as a privilege, a claim or a level has
+-- what isn't of a trustee: `user=deny`, which says how the user counts; and what begins with `+` or `@`, or has a `=`
+-- before the ending, as a privilege, a claim or a level has
 abbrev pub begins_by_sign : List ℕ → Bool
 begins_by_sign [] = false
 begins_by_sign (b ∷ bs) = (b == 43) || (b == 64)
 
-abbrev pub is_other : List ℕ → Bool
-is_other front = begins_by_sign front || list_any (λ b. b == 61) front
+abbrev pub is_other : (word front : List ℕ) → Bool
+is_other word front = bytes_eq word (codes "user=deny") || (begins_by_sign front || list_any (λ b. b == 61) front)
 
 -- the word is this one: another word as it stands, of nobody; that of a trustee with the SID in full, in its role
 abbrev pub IsNamedWord : List AccountRow → Aliases → List ℕ → NamedWord → Type 0
 IsNamedWord rows known word named = (front : List ℕ) × IsCut word front named.role
-    × (((is_other front ≡ true) × (string_bytes named.text ≡ word) × (named.sid ≡ None))
-    ⊎ ((is_other front ≡ false) × (sid : SidValue) × Means rows known front sid
+    × (((is_other word front ≡ true) × (string_bytes named.text ≡ word) × (named.sid ≡ None))
+    ⊎ ((is_other word front ≡ false) × (sid : SidValue) × Means rows known front sid
     × (string_bytes named.text ≡ full_canon sid ++ ending_of named.role) × (named.sid ≡ Some sid)))
 
 -- the word's trustee is nobody, or may be two
 abbrev pub HasNoAccount : List AccountRow → Aliases → List ℕ → WordError → Type 0
 HasNoAccount rows known word (NoAccount error) = (front : List ℕ) × (role : Role) × IsCut word front role
-    × (is_other front ≡ false) × MeansNone rows known front error
+    × (is_other word front ≡ false) × MeansNone rows known front error
 HasNoAccount rows known word Memory = Unit {0}

@@ -76,7 +76,7 @@ pub(crate) fn named_word(
     ensures none { IfErr result (HasNoAccount (rows_of accounts.now) known word.now) }
 {
     let (front, role) = cut(word);
-    if is_other(front) {
+    if is_other(word, front) {
         return Ok(NamedWord {
             text: String::from_str(alloc, word)?,
             sid: None,
@@ -123,11 +123,11 @@ fn before(word: &str, role: Role) -> Option<&str>
     word.strip_suffix(role.ending())
 }
 
-/// Whether it is no trustee's, as that of a privilege, of a claim or of a level.
-fn is_other(front: &str) -> bool
-    ensures { result ≡ is_other front.now }
+/// Whether the word, with this before its ending, is no trustee's: `user=deny`, a privilege, a claim or a level.
+fn is_other(word: &str, front: &str) -> bool
+    ensures { result ≡ is_other word.now front.now }
 {
     let bytes = front.as_bytes();
     let begins_by_sign = matches!(bytes.first(), Some(b'+' | b'@'));
-    begins_by_sign || bytes.contains(&b'=')
+    word == "user=deny" || begins_by_sign || bytes.contains(&b'=')
 }
