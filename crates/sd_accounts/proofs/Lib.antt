@@ -11,3 +11,4 @@ pub mod LawsHold
 pub mod Disabled
 pub mod Logging
 pub mod Searched
+pub mod Filled

@@ -6,14 +6,14 @@ use Rattle.std.proofs.lemmas.Bool.{true≢false}
 use Rattle.std.proofs.lemmas.Map.Views.{Contains-from_any}
 use Rattle.std.specs.Bool.{Decides}
 use Rattle.std.specs.List.{Contains, list_any}
-use Rattle.sd_sid.specs.Sid.{IsSid, SidValue}
+use Rattle.sd_sid.specs.Sid.{IsSid, SidValue, same_sid}
 use Rattle.sd_accounts.specs.Groups.{AreGroupsOf, Belongs, IsIn, directly, further}
 use Rattle.sd_accounts.specs.Index.{direct_groups}
 use Rattle.sd_accounts.specs.Row.{AccountRow}
 use Rattle.sd_accounts.specs.Walk.{Extends, IsStart}
 use Rattle.sd_accounts.specs.Wanted.{AreOpen, AreUnwanted, Has, HasNone, HasWanted, IsOneWanted, LeadNowhere, Opens}
 use Rattle.sd_accounts.proofs.Direct.{direct_in, in_direct, nothing_in, only_one}
-use Rattle.sd_accounts.proofs.Sids.{sid_eq, sid_eq-itself, sid_eq-true}
+use Rattle.sd_accounts.proofs.Sids.{sid_eq, sid_eq-itself, sid_eq-same, sid_eq-true}
 use Rattle.sd_accounts.proofs.Walked.{more_from, more_to, of_take, was_or_passes}
 
 pub itself : (sid : SidValue) → Contains (sid ∷ []) sid
@@ -33,6 +33,16 @@ in_found sid (one ∷ sids) at = by (sid_eq sid one) refl (Contains-append_cases
     by true e either rest = refl
     by false e (inl here) rest = absurd (true≢false (sym (sid_eq-itself sid) ∙ ap (sid_eq sid) (sym (only_one one sid here)) ∙ e))
     by false e (inr there) rest = rest there
+
+-- by either comparison
+pub any_same : (sid : SidValue) (sids : List SidValue) → list_any (sid_eq sid) sids ≡ list_any (same_sid sid) sids
+any_same sid sids = ap (λ test. list_any test sids) (λ i one. sid_eq-same sid one i)
+
+pub found_same : (sid : SidValue) (sids : List SidValue) → list_any (same_sid sid) sids ≡ true → Contains sids sid
+found_same sid sids found = found_in sid sids (any_same sid sids ∙ found)
+
+pub same_found : (sid : SidValue) (sids : List SidValue) → Contains sids sid → list_any (same_sid sid) sids ≡ true
+same_found sid sids at = sym (any_same sid sids) ∙ in_found sid sids at
 
 -- SIDs that were added
 pub added_sound : (sids old new : List SidValue) (i : ℕ) → Extends (Contains (take i sids)) old new → (sid : SidValue) → Contains new sid → Contains old sid ⊎ Contains sids sid

@@ -225,14 +225,6 @@ adds_groups rows keys member numbers old new are added = record {
 pub still_within : (keys : List SidValue) (numbers old new : List ℕ) → AreWithin keys old → AreWithin keys numbers → Extends (Contains numbers) old new → AreWithin keys new
 still_within keys numbers old new before more added n at = elim (was_or_passes added n at) [ inl was ↦ before n was | inr is ↦ more n is ]
 
--- what a list of this length has once it is resized to a greater one
-pub grown : {A : Type 0} (old new : List A) (l n : ℕ) (value : A) → l ≡ length old → length old ≤ n → new ≡ take n old ++ replicate (n - l) value → new ≡ old ++ replicate (n - length old) value
-grown old new l n value of over is = is ∙ ap (λ k. take n old ++ replicate (n - k) value) of ∙ ap (λ front. front ++ replicate (n - length old) value) (take_all n old over)
-
-pub grown_from_nothing : {A : Type 0} (old new : List A) (l n m : ℕ) (value : A) → l ≡ length old → old ≡ [] → n ≡ m → new ≡ take n old ++ replicate (n - l) value → new ≡ replicate m value
-grown_from_nothing old new l n m value of none same is =
-    grown old new l n value of (omega (arith, ap length none)) is ∙ ap (λ front. front ++ replicate (n - length old) value) none ∙ ap (λ k. replicate k value) (omega (arith, ap length none, same))
-
 -- what is at a place of those found
 pub found_at : (keys : List ℕ) (i : ℕ) (one : ℕ) → slice_get keys i ≡ Some one → (i < length keys) × (one ≡ get_or keys i one)
 found_at keys i one at = (slice_get_within keys i one at, sym (get_or_from_slice_get keys i one one at))

@@ -45,3 +45,7 @@ pub record IsWalked (rows : List AccountRow) (starts found : List SidValue) (bef
   pub begun : (sid : SidValue) → IsStart rows starts sid → Contains found sid
   pub closed : (k : ℕ) (d : SidValue) → k < visited → (group : SidValue) → IsIn rows (slice_index_or found k d) group
       → Contains found group
+
+-- the first of the numbers that are found are few, and there are further ones only where these are as many as may be
+abbrev pub IsFilled : (first further : List ℕ) → Type 0
+IsFilled first further = (length first ≤ 32) × (length first < 32 → further ≡ [])

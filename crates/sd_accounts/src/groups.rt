@@ -1,6 +1,7 @@
 //! The groups that an account really has.
 
-ghost use Rattle.std.specs.Prelude.{◌≡◌, ◌<◌, ◌^◌, OnOk, IfOk, Contains, length, nat_eq, slice_get};
+ghost use Rattle.std.specs.Prelude.{◌≡◌, ◌<◌, ◌^◌, ◌+◌, ◌-◌, ◌++◌, OnOk, IfOk, Contains, length, nat_eq, replicate};
+ghost use Rattle.std.specs.Prelude.{slice_get};
 ghost use Rattle.std.specs.List.{IsDistinct, filter_map};
 ghost use Rattle.indexmap.specs.IndexMap.{keys};
 ghost use Rattle.sd_accounts.specs.Accounts.{rows_of};
@@ -11,7 +12,7 @@ ghost use Rattle.sd_accounts.specs.Walk.{Extends, HasStarts};
 use crate::accounts::Accounts;
 use crate::index::{Index, groups_in, numbered};
 use crate::membership::Membership;
-use indexmap::IndexSet;
+use crate::walk::Walk;
 use sd_sid::Sid;
 use std::alloc::{AllocError, Global};
 
@@ -36,15 +37,15 @@ impl Accounts {
     {
         let mut found = self.direct_groups(alloc, starts)?;
         let mut before = Vec::new(alloc);
-        before.resize(found.len(), None)?;
+        note(&mut before, found.len(), None)?;
         // (each group that is found is visited once, in order; the last one ends the walk)
         for place in 0..usize::MAX {
-            let Some(number) = found.get_index(place).copied() else {
+            let Some(number) = found.at(place) else {
                 break;
             };
             if let Some((_, groups)) = numbered(&self.index, number) {
                 add_all(&mut found, groups)?;
-                before.resize(found.len(), Some(place))?;
+                note(&mut before, found.len(), Some(place))?;
             }
         }
         let groups = sids_of(alloc, &self.index, &found)?;
@@ -57,12 +58,12 @@ impl Accounts {
     }
 
     /// The groups in which one of these SIDs directly is, by their numbers.
-    fn direct_groups(&self, alloc: Global, starts: &[Sid]) -> Result<IndexSet<usize>, AllocError>
+    fn direct_groups(&self, alloc: Global, starts: &[Sid]) -> Result<Walk, AllocError>
         ensures starts { IfOk result (λ found.
-            HasStarts (rows_of self.now) starts.now (sids_at (keys self.now.index) found.keys)) }
-        ensures within { IfOk result (λ found. AreWithin (keys self.now.index) found.keys) }
+            HasStarts (rows_of self.now) starts.now (sids_at (keys self.now.index) found)) }
+        ensures within { IfOk result (λ found. AreWithin (keys self.now.index) found) }
     {
-        let mut found = IndexSet::new(alloc);
+        let mut found = Walk::new(alloc);
         for start in starts {
             add_all(&mut found, groups_in(&self.index, start))?;
         }
@@ -70,9 +71,9 @@ impl Accounts {
     }
 }
 
-/// Adds numbers to a set.
-fn add_all(found: &mut IndexSet<usize>, numbers: &[usize]) -> Result<(), AllocError>
-    ensures { OnOk result (Extends (Contains numbers.now) found.old.keys found.new.keys) }
+/// Adds numbers to those found.
+fn add_all(found: &mut Walk, numbers: &[usize]) -> Result<(), AllocError>
+    ensures { OnOk result (Extends (Contains numbers.now) found.old found.new) }
 {
     for number in numbers {
         found.insert(*number)?;
@@ -80,18 +81,29 @@ fn add_all(found: &mut IndexSet<usize>, numbers: &[usize]) -> Result<(), AllocEr
     Ok(())
 }
 
-/// The SIDs of numbers, in their order.
-fn sids_of(alloc: Global, index: &Index, found: &IndexSet<usize>) -> Result<Vec<Sid>, AllocError>
-    ensures sids { IfOk result (λ sids. sids.items ≡ filter_map (slice_get (keys index.now)) found.now.keys) }
-    ensures few { length found.now.keys < 2 ^ 63 }
-    ensures once { IsDistinct nat_eq found.now.keys }
+/// Says of each further one, up to so many, from where it was found.
+fn note(before: &mut Vec<Option<usize>>, len: usize, from: Option<usize>) -> Result<(), AllocError>
+    ensures { OnOk result
+        (before.new.items ≡ before.old.items ++ replicate (len - length before.old.items) from) }
+{
+    for _ in 0..len.saturating_sub(before.len()) {
+        before.push(from)?;
+    }
+    Ok(())
+}
+
+/// The SIDs of the numbers found, in their order.
+fn sids_of(alloc: Global, index: &Index, found: &Walk) -> Result<Vec<Sid>, AllocError>
+    ensures sids { IfOk result (λ sids. sids.items ≡ filter_map (slice_get (keys index.now)) found.now) }
+    ensures few { length found.now < 2 ^ 63 + 33 }
+    ensures once { IsDistinct nat_eq found.now }
 {
     let mut sids = Vec::with_capacity(alloc, found.len())?;
     for place in 0..found.len() {
-        let Some(number) = found.get_index(place) else {
+        let Some(number) = found.at(place) else {
             break;
         };
-        if let Some((sid, _)) = numbered(index, *number) {
+        if let Some((sid, _)) = numbered(index, number) {
             sids.push(*sid)?;
         }
     }

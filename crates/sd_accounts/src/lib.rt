@@ -29,6 +29,7 @@ mod searching;
 #[cfg(test)]
 mod tests;
 mod users;
+mod walk;
 mod way;
 mod words;
 

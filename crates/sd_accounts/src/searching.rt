@@ -2,7 +2,8 @@
 
 ghost use Rattle.std.specs.Prelude.{◌≡◌, ◌⊎◌, false, true, IfOk, OnOk, Contains};
 ghost use Rattle.std.specs.Bool.{Decides};
-ghost use Rattle.sd_sid.specs.Sid.{IsSid, SidValue};
+ghost use Rattle.std.specs.List.{list_any};
+ghost use Rattle.sd_sid.specs.Sid.{IsSid, SidValue, same_sid};
 ghost use Rattle.sd_accounts.specs.Accounts.{rows_of};
 ghost use Rattle.sd_accounts.specs.Groups.{IsIn};
 ghost use Rattle.sd_accounts.specs.Search.{searched, wanted_by};
@@ -14,6 +15,9 @@ use crate::search::Search;
 use indexmap::IndexSet;
 use sd_sid::Sid;
 use std::alloc::{AllocError, Global};
+
+/// How many SIDs are compared in turn.
+const FEW: usize = 8;
 
 impl<'a> Search<'a> {
     /// A search for these SIDs. The only error is out of memory.
@@ -137,5 +141,21 @@ fn is_wanted(wanted: &IndexSet<Sid>, sid: &Sid) -> bool
 {
     // (the authority is of no use here: that it can be read says that it is a SID)
     let _authority = sid.authority();
-    wanted.contains(sid)
+    has_sid(wanted, sid)
+}
+
+/// Whether the set has the SID: where it has few, by comparing these, which takes less time than a hash.
+fn has_sid(set: &IndexSet<Sid>, sid: &Sid) -> bool
+    ensures { result ≡ list_any (same_sid sid.now) set.now.keys }
+{
+    if set.len() <= FEW {
+        return is_among(set.as_slice(), sid);
+    }
+    set.contains(sid)
+}
+
+fn is_among(sids: &[Sid], sid: &Sid) -> bool
+    ensures { result ≡ list_any (same_sid sid.now) sids.now }
+{
+    sids.iter().any(|one| sid.is(one))
 }

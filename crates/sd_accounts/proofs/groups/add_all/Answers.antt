@@ -9,8 +9,8 @@ loop-number-init c = unchanged _ _ nothing_in
 
 pub loop-number-preserved : goal.loop-number-preserved
 loop-number-preserved c =
-    one_more nat_eq eqb-true c.args.numbers.now c.args.found.now.keys c.loop-number.found.keys c.insert.new.self.keys c.loop-number.number-index 0
-    (get_or c.args.numbers.now c.loop-number.number-index 0) c.loop-number-test.true refl c.loop-number.invariant c.in_ok-insert.ensures.keys
+    one_more nat_eq eqb-true c.args.numbers.now c.args.found.now c.loop-number.found c.insert.new.self c.loop-number.number-index 0
+    (get_or c.args.numbers.now c.loop-number.number-index 0) c.loop-number-test.true refl c.loop-number.invariant c.in_ok-insert.ensures
 
 pub returns : goal.returns
-returns c = all_more c.args.numbers.now c.args.found.now.keys c.loop-number.found.keys c.loop-number.number-index c.loop-number-test.false c.loop-number.invariant
+returns c = all_more c.args.numbers.now c.args.found.now c.loop-number.found c.loop-number.number-index c.loop-number-test.false c.loop-number.invariant

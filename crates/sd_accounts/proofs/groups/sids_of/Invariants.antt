@@ -6,4 +6,4 @@ use Rattle.indexmap.specs.IndexMap.{keys}
 use Rattle.sd_accounts.proofs.groups.sids_of.Given as goal
 
 abbrev pub invariant-loop-place : goal.invariant-loop-place
-invariant-loop-place l = l.sids.items ≡ filter_map (slice_get (keys l.index)) (take l.place l.found.keys)
+invariant-loop-place l = l.sids.items ≡ filter_map (slice_get (keys l.index)) (take l.place l.found)

@@ -6,14 +6,14 @@ use Rattle.sd_accounts.proofs.Walked.{adds_groups, none_started, start_more, sta
 use Rattle.sd_accounts.proofs.accounts.Accounts.direct_groups.Goals as goal
 
 pub loop-start-init : goal.loop-start-init
-loop-start-init c = none_started (rows_of c.args.self.now) c.args.starts.now (keys c.args.self.now.index) c.new-found.result.keys c.new-found.ensures.empty
+loop-start-init c = none_started (rows_of c.args.self.now) c.args.starts.now (keys c.args.self.now.index) c.new-found.result c.new-found.ensures
 
 pub loop-start-preserved : goal.loop-start-preserved
 loop-start-preserved c =
     let self = c.args.self.now in
     let numbers = c.groups_in.result.now in
-    let old = c.loop-start.found.keys in
-    let new = c.add_all.new.found.keys in
+    let old = c.loop-start.found in
+    let new = c.add_all.new.found in
     let are = ap (sids_at (keys self.index)) c.groups_in.ensures ∙ self.indexed.groups c.start-item.result in (
       start_more (rows_of self) c.args.starts.now _ (sids_at (keys self.index) old) (sids_at (keys self.index) new) c.loop-start.start-index c.start-item.result c.loop-start-test.true
           c.start-item.is c.loop-start.invariant.0 (adds_groups (rows_of self) (keys self.index) c.start-item.result numbers old new are c.in_ok-add_all.ensures),
@@ -23,4 +23,4 @@ loop-start-preserved c =
 
 pub returns-clause-starts : goal.returns-clause-starts
 returns-clause-starts c =
-    starts_done (rows_of c.args.self.now) c.args.starts.now (sids_at (keys c.args.self.now.index) c.loop-start.found.keys) c.loop-start.start-index c.loop-start-test.false c.loop-start.invariant.0
+    starts_done (rows_of c.args.self.now) c.args.starts.now (sids_at (keys c.args.self.now.index) c.loop-start.found) c.loop-start.start-index c.loop-start-test.false c.loop-start.invariant.0

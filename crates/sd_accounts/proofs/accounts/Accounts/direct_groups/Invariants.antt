@@ -8,4 +8,4 @@ use Rattle.sd_accounts.proofs.accounts.Accounts.direct_groups.Given as goal
 
 abbrev pub invariant-loop-start : goal.invariant-loop-start
 invariant-loop-start l =
-    HasStarts (rows_of l.self) (take l.start-index l.starts) (sids_at (keys l.self.index) l.found.keys) × AreWithin (keys l.self.index) l.found.keys
+    HasStarts (rows_of l.self) (take l.start-index l.starts) (sids_at (keys l.self.index) l.found) × AreWithin (keys l.self.index) l.found

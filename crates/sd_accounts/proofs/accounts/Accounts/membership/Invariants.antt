@@ -6,4 +6,4 @@ use Rattle.sd_accounts.specs.Walk.{IsWalked}
 use Rattle.sd_accounts.proofs.accounts.Accounts.membership.Given as goal
 
 abbrev pub invariant-loop-place : goal.invariant-loop-place
-invariant-loop-place l = IsWalked (rows_of l.self) l.starts (sids_at (keys l.self.index) l.found.keys) l.before.items l.place × AreWithin (keys l.self.index) l.found.keys
+invariant-loop-place l = IsWalked (rows_of l.self) l.starts (sids_at (keys l.self.index) l.found) l.before.items l.place × AreWithin (keys l.self.index) l.found
