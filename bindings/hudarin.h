@@ -79,7 +79,7 @@ typedef enum hudarin_status {
     HUDARIN_BEHIND_GROUPS = 7,
     /* The state of the group with the index `place` is none of HUDARIN_GROUP_... */
     HUDARIN_STATE = 8,
-    /* A bit is none of HUDARIN_PRIVILEGE_... */
+    /* A bit of the privileges is none of HUDARIN_PRIVILEGE_.. and HUDARIN_DENY_ONLY_USER. */
     HUDARIN_PRIVILEGES = 9,
     /* A mask of the mapping has a bit beyond 0x001FFFFF. */
     HUDARIN_MAPPING = 10,
@@ -488,6 +488,9 @@ typedef struct hudarin_mapping {
     uint32_t read;
     uint32_t write;
     uint32_t execute;
+/* No privilege: the user counts for denies alone, as one whose SID CreateRestrictedToken's SidsToDisable names. Deny
+ * entries for it apply; allow entries, and what an owner has without an entry, don't, unless a group has its SID. */
+#define HUDARIN_DENY_ONLY_USER 0x4u
     uint32_t all;
 } hudarin_mapping;
 
@@ -549,7 +552,7 @@ typedef struct hudarin_token_parts {
     size_t state_count;
     const void *restricting;
     size_t restricting_length;
-    uint32_t privileges;
+    uint32_t privileges; /* and HUDARIN_DENY_ONLY_USER */
 } hudarin_token_parts;
 
 /* The answer of a call that writes, keeps or shares, or returns a length. */
@@ -1028,11 +1031,12 @@ HUDARIN_ANSWERS hudarin_value hudarin_line_value(hudarin_lines *lines, uint64_t 
 
 /*
  * Keeps the client of the user whose SID is at the front of `user`, and of words, as of `sdstore --whole verdict`: a
- * group (`BU`, `S-1-5-32-545=deny`), `SID=restrict`, `+security`, `+take`, a device's group (`SID=device`), an integrity
- * level (`level=low`), a claim (`@User.Project="VP"`). `words` is UTF-8, with a zero byte after each word, also after
- * the last one. No group is added, and of two claims with one name the first counts. SIDs may have the aliases of the
- * domain whose SID is at the front of `domain`. If `domain_length` is 0 there is no domain. The handle is tested first;
- * then the arguments are parsed in their order. With HUDARIN_OK the answer's `kind` and `mask` are 0.
+ * group (`BU`, `S-1-5-32-545=deny`), `SID=restrict`, `+security`, `+take`, `user=deny` for HUDARIN_DENY_ONLY_USER, a
+ * device's group (`SID=device`), an integrity level (`level=low`), a claim (`@User.Project="VP"`). `words` is UTF-8,
+ * with a zero byte after each word, also after the last one. No group is added, and of two claims with one name the
+ * first counts. SIDs may have the aliases of the domain whose SID is at the front of `domain`. If `domain_length` is
+ * 0 there is no domain. The handle is tested first; then the arguments are parsed in their order. With HUDARIN_OK the
+ * answer's `kind` and `mask` are 0.
  */
 HUDARIN_ANSWERS hudarin_verdict hudarin_keep_client(const void *domain, size_t domain_length, const void *user,
                                                     size_t user_length, const char *words, size_t words_length,

@@ -83,7 +83,7 @@ with Client(user, ["BU", "level=low"], domain=user) as client:
 with Accounts("") as accounts, accounts.share() as same:
     known: Tuple[Sid, ...] = accounts.sids("SYSTEM", domain=user)
     named: Tuple[Tuple[Sid, str], ...] = same.users()
-    logged_on: Token = accounts.token("SYSTEM", user, privileges=1, restricting=[user])
+    logged_on: Token = accounts.token("SYSTEM", user, privileges=1, restricting=[user], deny_only_user=True)
 copied: Descriptor = Descriptor(descriptor)
 small: Store = Store(descriptor, FILES, nodes=2, edits=3)
 
@@ -117,6 +117,7 @@ Descriptor.from_sddl("D:", domain="SY")  # type: ignore
 descriptor.check("SY")  # type: ignore
 descriptor.check(user, ["WD"])  # type: ignore
 descriptor.check(user, asked=1.0)  # type: ignore
+descriptor.check(user, asked="FR", deny_only_user=1)  # type: ignore
 descriptor.check_by(user, 0x1)  # type: ignore
 descriptor.check(user)  # type: ignore
 descriptor.check(user, [user], 0x1)  # type: ignore

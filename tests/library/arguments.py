@@ -59,6 +59,9 @@ for masks, wanted in MAPPINGS:
     raises(f"mapping {masks!r}", wanted, lambda: OPEN.check(USER, asked=0x1, mapping=masks))
 # A text is a mask, and neither a state nor privileges.
 raises("a state by a text", TypeError, lambda: HELD.check(USER, [(EVERYONE, "4")], asked=0x1))
+for other in (1, 0, None, "deny"):
+    raises(f"deny_only_user {other!r}", TypeError, lambda: OPEN.check(USER, asked=0x1, deny_only_user=other))
+    raises(f"a token's deny_only_user {other!r}", TypeError, lambda: Token(USER, deny_only_user=other))
 raises("privileges by a text", TypeError, lambda: OPEN.check(USER, asked=0x1, privileges="1"))
 
 for other in (bytes(USER), str(USER), 5, None, (USER, ENABLED)):
@@ -79,6 +82,21 @@ for other in ("D:", 5, None, [1, 2, 3]):
 gives("all reserved", "reserved 0xce00000", lambda: str(OPEN.check(USER, asked=0xFFFFFFFF)))
 raises("the largest state", Refused, lambda: HELD.check(USER, [(EVERYONE, 0xFFFFFFFF)], asked=0x1))
 raises("the largest privileges", Refused, lambda: OPEN.check(USER, asked=0x1, privileges=0xFFFFFFFF))
+# The bit by which the library knows a user for denies alone is no privilege.
+raises("the first bit that is no privilege", Refused, lambda: OPEN.check(USER, asked=0x1, privileges=4))
+# By the rules of docs/CHECK.md: an allow for the user doesn't count, and a deny does; a group is a group.
+OWN = Descriptor.from_sddl(f"O:{USER}G:SYD:(A;;0x1;;;{USER})(D;;0x2;;;{USER})(A;;0x6;;;WD)")
+gives("a user", "granted 0x60005", lambda: str(OWN.check(USER, [EVERYONE], asked=0x60005)))
+for words, wanted in (([EVERYONE], "denied 0x60003"), ([EVERYONE, USER], "denied 0x2"), ([], "denied 0x60007")):
+    gives(
+        f"a user for denies alone, in {words}",
+        (wanted, wanted, wanted),
+        lambda: (
+            str(OWN.check(USER, words, asked=0x60007, deny_only_user=True)),
+            str(OWN.check_by(Token(USER, words, deny_only_user=True), 0x60007)),
+            str(OWN.explain(USER, words, asked=0x60007, deny_only_user=True).verdict),
+        ),
+    )
 raises("the largest mask", Refused, lambda: OPEN.check(USER, asked=0x1, mapping=(0, 0, 0, 0xFFFFFFFF)))
 
 # What a refusal says: the argument and the status, the fault with its name, and the place.

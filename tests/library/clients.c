@@ -61,6 +61,8 @@ static const struct {
       0x120089, HUDARIN_GRANTED, 0x120089 },
     { "D:(A;;FA;;;WD)", "WD\n", NO_TYPES, 0, 0x2000000, HUDARIN_GRANTED, 0x1f01ff },
     { "D:(A;;FA;;;WD)", "WD\nlevel=low\n", NO_TYPES, 0, 0x2000000, HUDARIN_GRANTED, 0x1200a9 },
+    { "D:(A;;FA;;;S-1-5-21-1-2-3-1001)", "user=deny\n", NO_TYPES, 0, 0x1, HUDARIN_DENIED, 0x1 },
+    { "D:(D;;0x1;;;S-1-5-21-1-2-3-1001)(A;;FA;;;WD)", "WD\nuser=deny\n", NO_TYPES, 0, 0x3, HUDARIN_DENIED, 0x1 },
     { "D:(A;;FA;;;WD)S:(ML;;NW;;;HI)", "WD\n", NO_TYPES, 0, 0x3, HUDARIN_DENIED, 0x2 },
     { "D:(A;;FA;;;WD)S:(ML;;NW;;;HI)", "WD\nlevel=high\n", NO_TYPES, 0, 0x3, HUDARIN_GRANTED, 0x3 },
     { "D:(A;;FA;;;WD)S:(ML;;NWNRNX;;;SI)", "WD\n", NO_TYPES, 0, 0x200001, HUDARIN_RESERVED, 0x200000 },

@@ -207,7 +207,7 @@ static void bits(void)
             HOLDS(is_unread(asked_as(&both, 1, 0, files), HUDARIN_STATE, HUDARIN_ARGUMENT_STATES, 0, 0));
         }
         answer = asked_as(&enabled, 1, bit, files);
-        if (place < 2) {
+        if (place < 3) {
             HOLDS(answer.status == HUDARIN_OK && answer.kind == HUDARIN_GRANTED);
         } else {
             HOLDS(is_unread(answer, HUDARIN_PRIVILEGES, HUDARIN_ARGUMENT_PRIVILEGES, 0, 0));
@@ -224,6 +224,51 @@ static void bits(void)
         } else {
             HOLDS(is_unread(answer, HUDARIN_MAPPING, HUDARIN_ARGUMENT_MAPPING, 0, 0));
         }
+    }
+}
+
+/* A user for denies alone, by the rules: an allow entry for it grants nothing, a deny one denies, and an owner has nothing without an
+ * entry; an enabled group with the same SID counts for both. Privileges are what they are. */
+static void deny_only_users(void)
+{
+#define SELF "S-1-5-21-1-2-3-1001"
+    static const struct {
+        const char *sddl;
+        /* The token's group, or none. */
+        const unsigned char *group;
+        uint32_t privileges, asked, kind, mask;
+    } rows[] = {
+        { "D:(A;;FA;;;" SELF ")", NULL, 0, 0x3, HUDARIN_DENIED, 0x3 },
+        { "D:(A;;FA;;;" SELF ")", user, 0, 0x3, HUDARIN_GRANTED, 0x3 },
+        { "D:(A;;0x1;;;" SELF ")(A;;0x2;;;WD)", everyone, 0, 0x3, HUDARIN_DENIED, 0x1 },
+        { "D:(D;;0x1;;;" SELF ")(A;;FA;;;WD)", everyone, 0, 0x3, HUDARIN_DENIED, 0x1 },
+        { "D:(D;;0x1;;;" SELF ")(A;;FA;;;" SELF ")", user, 0, 0x3, HUDARIN_DENIED, 0x1 },
+        { "O:" SELF "G:SYD:", NULL, 0, 0x60000, HUDARIN_DENIED, 0x60000 },
+        { "O:" SELF "G:SYD:", user, 0, 0x60000, HUDARIN_GRANTED, 0x60000 },
+        { "O:" SELF "G:SYD:(A;;FA;;;OW)", NULL, 0, 0x1, HUDARIN_DENIED, 0x1 },
+        { "O:" SELF "G:SYD:(D;;0x1;;;OW)(A;;FA;;;WD)", everyone, 0, 0x3, HUDARIN_DENIED, 0x1 },
+        { "D:NO_ACCESS_CONTROL", NULL, 0, 0x1, HUDARIN_GRANTED, 0x1 },
+        { "D:(D;;WO;;;" SELF ")", NULL, HUDARIN_PRIVILEGE_TAKE_OWNERSHIP, 0x80000, HUDARIN_GRANTED, 0x80000 },
+        { "D:", NULL, HUDARIN_PRIVILEGE_SECURITY, 0x1000000, HUDARIN_GRANTED, 0x1000000 },
+        { "D:", NULL, 0, 0x1000000, HUDARIN_DENIED, 0x1000000 },
+    };
+#undef SELF
+    static const uint32_t enabled = HUDARIN_GROUP_ENABLED;
+    unsigned char bytes[200];
+    size_t at;
+    for (at = 0; at < sizeof rows / sizeof rows[0]; at++) {
+        hudarin_written form = hudarin_sddl_to_bytes(rows[at].sddl, strlen(rows[at].sddl), bytes, sizeof bytes);
+        size_t length = rows[at].group == NULL ? 0 : rows[at].group == user ? sizeof user : sizeof everyone;
+        uint32_t bits = rows[at].privileges | HUDARIN_DENY_ONLY_USER;
+        hudarin_token token = HUDARIN_NOTHING;
+        hudarin_verdict answer = hudarin_check(bytes, (size_t)form.length, user, sizeof user, rows[at].group, length, &enabled,
+                                               length != 0, NULL, 0, bits, files, rows[at].asked);
+        HOLDS(form.status == HUDARIN_OK && answer.status == HUDARIN_OK && answer.kind == rows[at].kind && answer.mask == rows[at].mask);
+        answer = hudarin_keep_token(user, sizeof user, rows[at].group, length, &enabled, length != 0, NULL, 0, bits, &token);
+        HOLDS(is_unread(answer, HUDARIN_OK, 0, 0, 0));
+        answer = hudarin_check_bytes(bytes, (size_t)form.length, &token, files, rows[at].asked);
+        HOLDS(answer.status == HUDARIN_OK && answer.kind == rows[at].kind && answer.mask == rows[at].mask);
+        hudarin_free(&token.kept);
     }
 }
 
@@ -467,6 +512,7 @@ int main(void)
     lengths();
     masks();
     bits();
+    deny_only_users();
     unread();
     restricting();
     handles();

@@ -155,7 +155,7 @@ static void handles(void)
     parts.restricting = user;
     parts.restricting_length = sizeof user;
     HOLDS(hudarin_check_parts(bytes, (size_t)made.length, &parts, files, 1).kind == HUDARIN_DENIED);
-    parts.privileges = 4;
+    parts.privileges = 8;
     HOLDS(hudarin_check_parts(bytes, (size_t)made.length, &parts, files, 1).status == HUDARIN_PRIVILEGES);
     is_no_descriptor((hudarin_descriptor *)&token);
     HOLDS(token.kept.is_there == 1);

@@ -47,15 +47,24 @@ class Question(NamedTuple):
     groups: list
     restricting: list
     privileges: int
+    deny_only_user: bool
 
     def request(self):
-        return {"asked": self.asked, "privileges": self.privileges, "restricting": self.restricting}
+        return {"asked": self.asked, **self.parts()}
+
+    def parts(self):
+        """What of the token stands beside its user and groups."""
+        return {name: getattr(self, name) for name in ("privileges", "restricting", "deny_only_user")}
 
 
 def token_words(words):
-    """The groups, the restricting SIDs and the privileges that the words name, or the line that refuses one."""
-    groups, restricting, privileges = [], [], 0
+    """The groups, the restricting SIDs, the privileges, and whether the user counts for denies alone, as the words say;
+    or the line that refuses one."""
+    groups, restricting, privileges, deny_only_user = [], [], 0, False
     for word in words:
+        if word == "user=deny":
+            deny_only_user = True
+            continue
         name, _, state = word.partition("=")
         if word in PRIVILEGES:
             privileges |= PRIVILEGES[word]
@@ -67,7 +76,7 @@ def token_words(words):
             restricting.append(group)
             continue
         groups.append((group, STATES.get(state, hudarin.ENABLED)))
-    return (groups, restricting, privileges), None
+    return (groups, restricting, privileges, deny_only_user), None
 
 
 def rights(asked):
@@ -89,7 +98,7 @@ def verdict(*words):
     if refused:
         return refused
     answer = asked.descriptor.check(asked.user, asked.groups, **asked.request())
-    with hudarin.Token(asked.user, asked.groups, asked.privileges, asked.restricting) as token:
+    with hudarin.Token(asked.user, asked.groups, **asked.parts()) as token:
         over = asked.descriptor.check_by(token, asked.asked)
         with hudarin.KeptDescriptor(asked.descriptor) as kept:
             by = kept.check(token, asked.asked)
@@ -101,7 +110,7 @@ def why(*words):
     if refused:
         return refused
     told = asked.descriptor.explain(asked.user, asked.groups, **asked.request())
-    with hudarin.Token(asked.user, asked.groups, asked.privileges, asked.restricting) as token:
+    with hudarin.Token(asked.user, asked.groups, **asked.parts()) as token:
         with hudarin.KeptDescriptor(asked.descriptor) as kept:
             by = kept.explain(token, asked.asked)
     return str(told) if told == by else f"{told}\nand by what is kept {by}"
@@ -110,7 +119,7 @@ def why(*words):
 def base_words(words):
     """The groups of a base, or the line that refuses one: restricting SIDs and privileges are no groups."""
     token, refused = token_words(words)
-    if not refused and (token[1] or token[2]):
+    if not refused and any(token[1:]):
         refused = "fault token"
     return (None, refused) if refused else (token[0], None)
 

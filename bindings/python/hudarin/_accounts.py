@@ -42,11 +42,16 @@ class Accounts(_Shared):
         return tuple(_joined(self._written(_library.hudarin_account_sids, *words, argument="user")[0]))
 
     def token(
-        self, user: str, domain: Optional[Sid] = None, privileges: int = 0, restricting: Iterable[Sid] = ()
+        self,
+        user: str,
+        domain: Optional[Sid] = None,
+        privileges: int = 0,
+        restricting: Iterable[Sid] = (),
+        deny_only_user: bool = False,
     ) -> Token:
         """The ``Token`` of these SIDs, with all groups enabled, until it is closed."""
         own, *groups = self.sids(user, domain)
-        return Token(own, groups, privileges, restricting)
+        return Token(own, groups, privileges, restricting, deny_only_user)
 
     def users(self) -> Tuple[Tuple[Sid, str], ...]:
         """The users that may log on, in the file's order and after them those that Windows has everywhere, each with a

@@ -101,12 +101,14 @@ class Descriptor(_SelfRelative):
         privileges: int = 0,
         mapping: Iterable[Mask] = FILES,
         restricting: Iterable[Sid] = (),
+        deny_only_user: bool = False,
     ) -> Verdict:
         """Whether the descriptor grants ``asked`` to the user: a mask as a number, or as a text as "FR". The verdict is
         true if it does. A group is a ``Sid``, which is enabled, or a pair of a Sid and its state. No group is added:
         neither Everyone nor Authenticated Users. With ``restricting`` SIDs the list has to grant twice: to the user
-        and the groups, and to these SIDs alone. ``mapping`` has the masks of the four generic rights."""
-        token = _token(user, groups, privileges, restricting)
+        and the groups, and to these SIDs alone. A ``deny_only_user`` counts for denies alone. ``mapping`` has the masks
+        of the four generic rights."""
+        token = _token(user, groups, privileges, restricting, deny_only_user)
         request = _mapping(mapping), _mask(asked, "asked")
         return _verdict(_library.hudarin_check(self._bytes, len(self._bytes), *token, *request))
 
@@ -127,9 +129,11 @@ class Descriptor(_SelfRelative):
         privileges: int = 0,
         mapping: Iterable[Mask] = FILES,
         restricting: Iterable[Sid] = (),
+        deny_only_user: bool = False,
     ) -> Explanation:
         """The verdict of ``check`` with the same arguments, and why."""
-        with KeptDescriptor(self) as kept, Token(user, groups, privileges, restricting) as token:
+        token = Token(user, groups, privileges, restricting, deny_only_user)
+        with KeptDescriptor(self) as kept, token:
             return kept.explain(token, asked, mapping)
 
     def who(

@@ -98,11 +98,16 @@ abbrev pub of_user : Result (SidValue × ℕ) SidError → Result SidValue NotRe
 of_user (Ok x) = Ok x.0
 of_user (Err fault) = Err (User fault)
 
--- bit 0 is SeSecurityPrivilege, bit 1 SeTakeOwnershipPrivilege, and there is no other
+-- bit 0 is SeSecurityPrivilege, bit 1 SeTakeOwnershipPrivilege. Bit 2 is no privilege, and says how the user counts.
+-- There is no other
 abbrev pub privileges_read : ℕ → Result Privileges NotRead
 privileges_read bits =
-    if nat_lt 3 bits then Err PrivilegeBits
+    if nat_lt 7 bits then Err PrivilegeBits
     else Ok (record { security = not (bit_and bits 1 == 0); take_ownership = not (bit_and bits 2 == 0) })
+
+-- the user counts for denies alone where bit 2 is set
+abbrev pub user_state_in : ℕ → GroupState
+user_state_in bits = if bit_and bits 4 == 0 then Enabled else DenyOnly
 
 abbrev pub of_mapping : Result MappingValue BadMapping → Result MappingValue NotRead
 of_mapping (Ok g) = Ok g
@@ -113,14 +118,20 @@ mapping_read m = of_mapping (mapping_of m.read m.write m.execute m.all)
 
 -- ---- all of them
 
--- the token of a user, groups with their states, restricting SIDs, and privileges
+-- the token of a user, groups with their states, restricting SIDs, and privileges with how the user counts
 unfoldable pub token_read : List ℕ → List ℕ → List ℕ → List ℕ → ℕ → Result TokenValue NotRead
 token_read user groups states restricting privileges =
     of_user (sid_reading user) >>= λ sid.
     (groups_read groups states 0 (length states) >>= λ places.
     (restricting_read restricting >>= λ sids.
     (privileges_read privileges >>= λ held.
-    Ok (record { user = sid; groups = places; restricting = sids; privileges = held }))))
+    Ok (record {
+      user = sid;
+      user_state = user_state_in privileges;
+      groups = places;
+      restricting = sids;
+      privileges = held;
+    }))))
 
 -- a parsed request but for its mask
 pub record RequestValue : Type 0 where

@@ -22,6 +22,9 @@ const ENABLED: u32 = 0x4;
 /// SE_GROUP_USE_FOR_DENY_ONLY alone.
 const DENY_ONLY: u32 = 0x10;
 
+/// The bit beside the privileges that says that the user counts for denies alone.
+const DENY_ONLY_USER: u32 = 0x4;
+
 /// The least bytes of a SID.
 const MIN_SID_BYTES: usize = SID_HEADER_BYTES + 4;
 
@@ -37,7 +40,7 @@ pub(crate) fn descriptor_of(alloc: Global, bytes: &[u8]) -> Result<Descriptor, S
     }
 }
 
-/// The token of a user, groups with their states, restricting SIDs, and privileges.
+/// The token of a user, groups with their states, restricting SIDs, and privileges with how the user counts.
 #[tactic(auto, unfolding(crate::specs::Request::token_read))]
 pub(crate) fn token_of(
     alloc: Global,
@@ -54,8 +57,12 @@ pub(crate) fn token_of(
     let user = user_of(user)?;
     let groups = groups_of(alloc, groups, states)?;
     let restricting = restricting_of(alloc, restricting)?;
-    let privileges = privileges_of(privileges)?;
-    Ok(Token::restricted(user, groups, restricting, privileges))
+    let held = privileges_of(privileges)?;
+    let token = Token::restricted(user, groups, restricting, held);
+    if privileges & DENY_ONLY_USER != 0 {
+        return Ok(token.of_deny_only_user());
+    }
+    Ok(token)
 }
 
 /// The SID at the front of the user's bytes.
@@ -164,11 +171,11 @@ fn restricting_of(alloc: Global, bytes: &[u8]) -> Result<Vec<Sid>, Stop>
     Ok(sids)
 }
 
-/// The privileges of these bits.
+/// The privileges of these bits, of which one says how the user counts.
 fn privileges_of(bits: u32) -> Result<Privileges, NotRead>
     ensures { result ≡ privileges_read bits }
 {
-    if bits > 3 {
+    if bits > 7 {
         return Err(NotRead::PrivilegeBits);
     }
     Ok(Privileges {
