@@ -11,8 +11,8 @@
  *
  * Pointers: each points to as many elements as its length says, and may be NULL if that is 0. NULL with another
  * length, or for a handle, is undefined behavior, as any other bad pointer is. A length is at most PTRDIFF_MAX bytes.
- * Pointers to uint32_t are aligned. The library is proved for callers that keep these three rules; nothing proves
- * that they do.
+ * Pointers to uint32_t, and to structs, are aligned. The library is proved for callers that keep these three rules;
+ * nothing proves that they do.
  *
  * Memory comes from the program's malloc, realloc and free. After a call only what handles keep stays allocated. No
  * call is made from a signal handler, or in the child of a fork of a program with threads before it runs another
@@ -64,7 +64,8 @@ typedef enum hudarin_status {
     HUDARIN_OK = 0,
     /* Out of memory. The same call may succeed later. */
     HUDARIN_MEMORY = 1,
-    /* The buffer is too small. The answer's `length` is the number of bytes required. */
+    /* The buffer is too small. The answer's `length` is the number of bytes required; of hudarin_check_types `place` is
+     * the number of elements. */
     HUDARIN_ROOM = 2,
     /* A text isn't UTF-8: `place` is the number of valid bytes at its front. */
     HUDARIN_UTF8 = 3,
@@ -124,7 +125,10 @@ typedef enum hudarin_status {
     /* A text means no user that may log on: the fault is HUDARIN_ACCOUNT_... */
     HUDARIN_ACCOUNT = 27,
     /* No kind of object has the number. */
-    HUDARIN_KIND = 28
+    HUDARIN_KIND = 28,
+    /* The nodes are no tree of object types: the fault is HUDARIN_TREE_.., of the first one that can't stand where it
+     * does, whose index is `place`. */
+    HUDARIN_TREE = 29
 } hudarin_status;
 
 /* ---- Faults of a text (HUDARIN_TEXT) */
@@ -274,6 +278,21 @@ typedef enum hudarin_account_fault {
     HUDARIN_ACCOUNT_DISABLED = 4
 } hudarin_account_fault;
 
+/* ---- Why a node can't stand in a tree of object types where it does (HUDARIN_TREE) */
+
+typedef enum hudarin_tree_fault {
+    /* There is no node. A tree has at least its class. */
+    HUDARIN_TREE_NO_CLASS = 1,
+    /* Its level is more than one below that of the node before it; of the first node, not 0. */
+    HUDARIN_TREE_LEVEL_LEFT_OUT = 2,
+    /* Its level is 0, which the first node alone has. */
+    HUDARIN_TREE_SECOND_CLASS = 3,
+    /* Its level is beyond 4. */
+    HUDARIN_TREE_TOO_DEEP = 4,
+    /* Its type is that of a node before it. */
+    HUDARIN_TREE_REPEATED = 5
+} hudarin_tree_fault;
+
 /* ---- Kinds of objects, whose names masks have in words */
 
 typedef enum hudarin_kind {
@@ -318,7 +337,10 @@ typedef enum hudarin_argument {
     HUDARIN_ARGUMENT_CLIENT = 22,
     /* Those of hudarin_store_add_stored; the node's own descriptor is HUDARIN_ARGUMENT_VALUE. */
     HUDARIN_ARGUMENT_KEPT = 23,
-    HUDARIN_ARGUMENT_OFFER = 24
+    HUDARIN_ARGUMENT_OFFER = 24,
+    /* Those of hudarin_check_types. */
+    HUDARIN_ARGUMENT_TREE = 25,
+    HUDARIN_ARGUMENT_VERDICTS = 26
 } hudarin_argument;
 
 /* ---- Verdicts */
@@ -466,6 +488,9 @@ typedef enum hudarin_mark {
 #define HUDARIN_PRIVILEGE_SECURITY 0x1u
 /* SeTakeOwnershipPrivilege: grants WRITE_OWNER. */
 #define HUDARIN_PRIVILEGE_TAKE_OWNERSHIP 0x2u
+/* No privilege: the user counts for denies alone, as one whose SID CreateRestrictedToken's SidsToDisable names. Deny
+ * entries for it apply; allow entries, and what an owner has without an entry, don't, unless a group has its SID. */
+#define HUDARIN_DENY_ONLY_USER 0x4u
 
 /* ---- Buffer sizes that always suffice, in bytes */
 
@@ -488,9 +513,6 @@ typedef struct hudarin_mapping {
     uint32_t read;
     uint32_t write;
     uint32_t execute;
-/* No privilege: the user counts for denies alone, as one whose SID CreateRestrictedToken's SidsToDisable names. Deny
- * entries for it apply; allow entries, and what an owner has without an entry, don't, unless a group has its SID. */
-#define HUDARIN_DENY_ONLY_USER 0x4u
     uint32_t all;
 } hudarin_mapping;
 
@@ -504,16 +526,29 @@ typedef struct hudarin_mapping {
 
 /* The answer of a check, an edit, hudarin_keep_token, hudarin_keep_client, hudarin_who, hudarin_lint and a call that
  * opens a store. `place` is, of HUDARIN_SID and HUDARIN_STATE, the index of the group or restricting SID, from 0; of
- * HUDARIN_WORD and HUDARIN_UNDECIDED that of the word or entry; of HUDARIN_BEHIND_GROUPS the number of states; of
- * HUDARIN_UTF8 the number of valid bytes at the front of the path or the words. */
+ * HUDARIN_WORD, HUDARIN_UNDECIDED and HUDARIN_TREE that of the word, entry or node; of HUDARIN_BEHIND_GROUPS the
+ * number of states; of HUDARIN_UTF8 the number of valid bytes at the front of the path or the words; of HUDARIN_ROOM
+ * the number of nodes. */
 typedef struct hudarin_verdict {
     uint32_t status;   /* HUDARIN_OK, or why there is no verdict, or the edit isn't made */
     uint32_t argument; /* the invalid argument: HUDARIN_ARGUMENT_.., else 0 */
-    uint32_t fault;    /* HUDARIN_WIRE_.., _SID_.., _PATH_.., _REFUSED_.., _LIMITS_.. or _UNDECIDED_.., else 0 */
+    uint32_t fault;    /* HUDARIN_WIRE_.., _SID_.., _PATH_.., _REFUSED_.., _LIMITS_.., _UNDECIDED_.., _TREE_.., else 0 */
     uint32_t kind;     /* with HUDARIN_OK the verdict: HUDARIN_GRANTED .., else 0 */
     uint64_t place;    /* as above, else 0 */
     uint32_t mask;     /* of the verdict */
 } hudarin_verdict;
+
+/* A node of a tree of object types, for hudarin_check_types. */
+typedef struct hudarin_type_node {
+    uint32_t level;         /* how many nodes are above it: 0 of the first one, the class, and at most 4 */
+    unsigned char guid[16]; /* its type, as in an entry */
+} hudarin_type_node;
+
+/* The verdict on a node. */
+typedef struct hudarin_type_verdict {
+    uint32_t kind; /* HUDARIN_GRANTED .. */
+    uint32_t mask;
+} hudarin_type_verdict;
 
 /* The answer of a check by a view. */
 typedef struct hudarin_view_verdict {
@@ -1064,6 +1099,24 @@ HUDARIN_ANSWERS hudarin_explanation hudarin_explain_whole(const void *descriptor
                                                           hudarin_client *client, const void *types,
                                                           size_t types_length, const void *principal_self,
                                                           size_t self_length, hudarin_mapping mapping, uint32_t asked)
+    HUDARIN_NONNULL(3);
+
+/*
+ * The verdict on `asked` of each node of a tree of object types, as of Windows' AccessCheckByTypeResultList: that of
+ * `sdstore --whole types`. A tree is a class, its property sets and their properties: each node stands after the one
+ * above it, with its level. Of a node without others below it, it is hudarin_check_whole's about the types from the
+ * class to its own; a node with others is granted what each of those is, and what is missing there is missing on one
+ * of them. The verdicts go to the front of the array, in the order of the nodes; the rest of it stays. With
+ * HUDARIN_OK the answer's `kind` and `mask` are 0: the array alone has the verdicts. Arguments are tested as by
+ * hudarin_check_whole, the nodes in the place of the object types. HUDARIN_UNDECIDED says that it is so for one node,
+ * as where an entry of the SACL may deny what the DACL grants there; then none has a verdict. Last comes
+ * HUDARIN_ROOM: the array has fewer elements than there are nodes.
+ */
+HUDARIN_ANSWERS hudarin_verdict hudarin_check_types(const void *descriptor, size_t descriptor_length,
+                                                    hudarin_client *client, const hudarin_type_node *nodes,
+                                                    size_t node_count, const void *principal_self, size_t self_length,
+                                                    hudarin_mapping mapping, uint32_t asked,
+                                                    hudarin_type_verdict *verdicts, size_t verdict_count)
     HUDARIN_NONNULL(3);
 
 /*

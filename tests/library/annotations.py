@@ -25,6 +25,7 @@ from hudarin import (
     KeptDescriptor,
     NoList,
     Node,
+    ObjectType,
     Refused,
     Reviewed,
     Sid,
@@ -79,6 +80,8 @@ types: Tuple[Optional[UUID], ...] = tuple(entry.object_type for entry in joined.
 data: Tuple[bytes, ...] = tuple(entry.data + bytes(entry) for entry in audits or () if entry.sid == whole.owner)
 trustees: Tuple[Optional[Sid], ...] = (whole.owner, whole.group)
 with Client(user, ["BU", "level=low"], domain=user) as client:
+    tree: List[Tuple[int, ObjectType]] = [(0, UUID(int=0)), (1, "")]
+    each: List[Verdict] = whole.check_types(client, "FR", tree, principal_self=user, mapping=FILES)
     whole_verdict: Verdict = whole.check(client.share(), "FR", [UUID(int=0), ""], principal_self=user, mapping=FILES)
 with Accounts("") as accounts, accounts.share() as same:
     known: Tuple[Sid, ...] = accounts.sids("SYSTEM", domain=user)
@@ -118,6 +121,7 @@ descriptor.check("SY")  # type: ignore
 descriptor.check(user, ["WD"])  # type: ignore
 descriptor.check(user, asked=1.0)  # type: ignore
 descriptor.check(user, asked="FR", deny_only_user=1)  # type: ignore
+whole.check_types(client, "FR", [""])  # type: ignore
 descriptor.check_by(user, 0x1)  # type: ignore
 descriptor.check(user)  # type: ignore
 descriptor.check(user, [user], 0x1)  # type: ignore

@@ -9,7 +9,7 @@
 enum call {
     TO_BYTES, TO_SDDL, CANONICAL, LENGTH, WHOLE_BYTES, WHOLE_TEXT, WHOLE_AT, PLAIN, JOINED, LISTED, TRUSTEE, ACE, SID_BYTES, SID_TEXT,
     FULL_TEXT, MASK_TEXT, OWNER, ENTRY, SUBJECT, LINE, OBJECT, VALUE, KEEP_ACCOUNTS, ACCOUNT_SIDS, ACCOUNT_USERS, WHO, LINT, COMPARE, CHECK,
-    CHECK_WHOLE, KEEP_SDDL, KEEP_BYTES, KEEP_TOKEN, KEEP_CLIENT, SHARE
+    CHECK_WHOLE, CHECK_TYPES, KEEP_SDDL, KEEP_BYTES, KEEP_TOKEN, KEEP_CLIENT, SHARE
 };
 
 /* A call, what it is given, and what it answers: what it writes, NULL where that isn't looked at, and how much; a fault of a
@@ -95,6 +95,7 @@ static const row rows[] = {
     { COMPARE, CHECKED, "lost 0x2 by S-1-5-21-1-2-3-1001\n", 32, 0, 0 },
     { CHECK, CHECKED, NULL, 0, 0, 0 },
     { CHECK_WHOLE, CHECKED, NULL, 0, 0, 0 },
+    { CHECK_TYPES, CHECKED, NULL, 0, 0, 0 },
     { KEEP_SDDL, CHECKED, NULL, 0, 0, 0 },
     { KEEP_SDDL, "O:DA", NULL, 0, HUDARIN_TEXT_DOMAIN_ALIAS, 2 },
     { KEEP_BYTES, CHECKED, NULL, 0, 0, 0 },
@@ -165,6 +166,20 @@ static hudarin_verdict check_whole(hudarin_client *handle)
 {
     static const unsigned char types[16] = { 1 };
     return hudarin_check_whole(lent.bytes, lent.length, handle, types, sizeof types, NULL, 0, files, 0x80000000u);
+}
+
+/* The verdict on the class of a tree of two types, of which an entry has none. */
+static void check_types(outcome *it)
+{
+    static const hudarin_type_node nodes[] = { { 0, { 1 } }, { 1, { 2 } } };
+    hudarin_type_verdict verdicts[2];
+    memset(verdicts, 0x5A, sizeof verdicts);
+    judged(it, hudarin_check_types(lent.bytes, lent.length, &client, nodes, 2, NULL, 0, files, 0x80000000u, verdicts, 2));
+    memcpy(it->room, verdicts, sizeof verdicts);
+    if (it->status == HUDARIN_OK) {
+        it->kind = verdicts[0].kind;
+        it->mask = verdicts[0].mask;
+    }
 }
 
 static hudarin_verdict who(hudarin_lines *handle)
@@ -247,6 +262,7 @@ static void made(const row *row, outcome *it)
                                  NULL, 0, 0, files, 0x80000000u));
         break;
     case CHECK_WHOLE: judged(it, check_whole(&client)); break;
+    case CHECK_TYPES: check_types(it); break;
     case KEEP_SDDL: written(it, hudarin_keep_sddl(row->text, text, &held.descriptor)); break;
     case KEEP_BYTES: written(it, hudarin_keep_bytes(lent.bytes, lent.length, &held.descriptor)); break;
     case KEEP_TOKEN: judged(it, keep_token(&held.token)); break;

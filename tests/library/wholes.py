@@ -1,10 +1,11 @@
 """Asks the rows of whole descriptors through the module of Python, and compares each verdict with what the row says:
 
-    wholes.py FILE
+    wholes.py FILE TYPES
 
-Of `why` the verdict alone is compared. Then what `Client` and `WholeDescriptor.check` refuse. The last line is
-'N passed, M failed'."""
+Of `why` the verdict alone is compared. TYPES has rows of `types`. Then what `Client` and `WholeDescriptor.check`
+refuse. The last line is 'N passed, M failed'."""
 
+import itertools
 import re
 import shlex
 import sys
@@ -44,6 +45,39 @@ def answered(options: Dict[str, List[str]], text: str, user: str, asked: str, *w
             if e.status != "undecided" or e.argument != "descriptor":
                 return str(e)
             return "fault dacl 6 TooLarge" if e.name == "TooLarge" else f"fault entry {e.place + 1} {e.name}"
+
+
+def on_nodes(principal_self: Optional[str], text: str, tree: str, user: str, asked: str, *words: str) -> List[str]:
+    """The program's lines for the verdicts on the nodes of a tree, by the module."""
+    sid = None if principal_self is None else Sid.from_text(principal_self)
+    nodes = [(int(level), guid) for level, _, guid in (node.partition(":") for node in tree.split(",") if node)]
+    with Client(Sid.from_text(user), words) as client:
+        try:
+            verdicts = WholeDescriptor.from_sddl(text).check_types(client, asked, nodes, sid)
+        except Refused as e:
+            return [f"fault {e.status} {e.fault} {e.name}"]
+    return [f"{verdict} at {level}:{guid.lower()}" for verdict, (level, guid) in zip(verdicts, nodes)]
+
+
+#: A row of `types` that is asked, and an answer of one: the program takes other options, and texts that are no nodes.
+NODES = re.compile(r"\$ sdstore --whole (?:--self (\S+) )?types (.*)")
+NODES_ANSWER = re.compile(r"> (?:granted|denied|reserved|empty|fault tree [1-5]) ")
+LEFT_OUT = "of the DACL and the label alone: the rest of the SACL is left out"
+
+
+def trees(path: str) -> None:
+    """The verdicts on trees of object types. What the rest of a SACL may deny has none."""
+    name, asked = Path(path).name, 0
+    lines = Path(path).read_text(encoding="utf-8").splitlines()
+    for number, line in enumerate(lines, 1):
+        row = NODES.fullmatch(line)
+        if row and NODES_ANSWER.match(lines[number]):
+            asked += 1
+            wanted = [each[2:] for each in itertools.takewhile(lambda each: each.startswith("> "), lines[number:])]
+            if wanted[-1] == LEFT_OUT:
+                wanted = ["fault undecided 7 MayBeDenied"]
+            gives(f"{name}:{number}", wanted, lambda: on_nodes(row[1], *shlex.split(row[2])))
+    holds(name, asked > 35, f"{asked} rows are asked")
 
 
 def command(line: str) -> Optional[Tuple[Dict[str, List[str]], List[str]]]:
@@ -109,12 +143,29 @@ def questions() -> None:
             unsure = ("undecided", 7, "MayBeDenied", 0, "descriptor")
             gives(f"a grant by {entry}", unsure, lambda: refused(lambda: limited.check(client, "FR")))
             gives(f"a denial by {entry}", "denied 0x2", lambda: str(limited.check(client, 0x2)))
+        tree = [(0, "bf967aba-0de6-11d0-a285-00aa003049e2"), (1, uuid.UUID(PROPERTY)), (1, str(uuid.UUID(int=1)))]
+        nodes = ["denied 0x10", "granted 0x10", "denied 0x10"]
+        gives("a tree", nodes, lambda: list(map(str, OF_PROPERTY.check_types(client, "RP", iter(tree)))))
+        for wrong, fault in (
+            ([], (1, "NoClass", 0)),
+            (tree[1:], (2, "LevelLeftOut", 0)),
+            (tree + tree[:1], (3, "SecondClass", 3)),
+            (tree[:2] + tree[1:], (5, "Repeated", 2)),
+        ):
+            no_tree = ("tree", *fault, "tree")
+            gives(f"the tree {wrong}", no_tree, lambda: refused(lambda: OPEN.check_types(client, 0x1, wrong)))
+        raises("a level of 33 bits", ValueError, lambda: OPEN.check_types(client, 0x1, [(1 << 32, PROPERTY)]))
+        wrongs: List[Any] = [PROPERTY, (0,), (0, PROPERTY, 0), ("0", PROPERTY), (True, PROPERTY), (0, bytes(16))]
+        for node in wrongs:
+            raises(f"the node {node!r}", TypeError, lambda: OPEN.check_types(client, 0x1, [node]))
+        raises("a token for a tree", TypeError, lambda: OPEN.check_types(token, 0x1, tree))  # type: ignore[arg-type]
         wide = ("mapping", 0, None, 0, "mapping")
         gives("a mapping", wide, lambda: refused(lambda: OPEN.check(client, 0x1, mapping=(0, 0, 0, 1 << 21))))
 
 
 if __name__ == "__main__":
     rows(sys.argv[1])
+    trees(sys.argv[2])
     clients()
     questions()
     sys.exit(close())

@@ -23,6 +23,14 @@ class _Verdict(ctypes.Structure):
     ]
 
 
+class _TypeNode(ctypes.Structure):
+    _fields_ = [("level", _U32), ("guid", ctypes.c_ubyte * 16)]
+
+
+class _TypeVerdict(ctypes.Structure):
+    _fields_ = [("kind", _U32), ("mask", _U32)]
+
+
 class _ViewVerdict(ctypes.Structure):
     # Its answer is here field by field: to take a structure out of another takes as long as a check.
     _fields_ = [*_Verdict._fields_, ("length", _U64)]
@@ -108,13 +116,16 @@ class _Version(ctypes.Structure):
     _fields_ = [("major", _U32), ("minor", _U32), ("patch", _U32)]
 
 
-#: Arguments that several calls have: bytes or a text, a buffer, an object, groups, a token, and a mapping with a mask.
+#: Arguments that calls have: bytes or a text, a buffer, an object, groups, a token, a mapping with a mask, and trees of
+#: object types with their verdicts.
 _GIVEN: Any = [ctypes.c_char_p, _SIZE]
 _BUFFER: Any = [ctypes.c_void_p, _SIZE]
 _OBJECT: Any = ctypes.POINTER(_Kept)
 _GROUPS: Any = _GIVEN + [ctypes.POINTER(_U32), _SIZE]
 _TOKEN: Any = _GIVEN + _GROUPS + _GIVEN + [_U32]
 _REQUEST: Any = [_Mapping, _U32]
+_NODES: Any = [ctypes.POINTER(_TypeNode), _SIZE]
+_VERDICTS: Any = [ctypes.POINTER(_TypeVerdict), _SIZE]
 
 #: The arguments and the answer of each call, by its name without "hudarin_".
 _CALLS: Dict[str, Tuple[Any, Any]] = {
@@ -147,6 +158,7 @@ _CALLS: Dict[str, Tuple[Any, Any]] = {
     "check_kept": ([_OBJECT, _OBJECT] + _REQUEST, _Verdict),
     "check_bytes": (_GIVEN + [_OBJECT] + _REQUEST, _Verdict),
     "check_whole": (_GIVEN + [_OBJECT] + _GIVEN * 2 + _REQUEST, _Verdict),
+    "check_types": (_GIVEN + [_OBJECT] + _NODES + _GIVEN + _REQUEST + _VERDICTS, _Verdict),
     "explain": ([_OBJECT, _OBJECT] + _REQUEST, _Explanation),
     "who": ([_OBJECT] + _GROUPS + _REQUEST + [_OBJECT], _Verdict),
     "lint": ([_OBJECT] + _GROUPS + [_Mapping, _OBJECT], _Verdict),

@@ -31,6 +31,7 @@ STATUSES = {
     26: "row",
     27: "account",
     28: "kind",
+    29: "tree",
 }
 VERDICTS = {1: "granted", 2: "denied", 3: "reserved", 4: "empty"}
 ARGUMENTS = {
@@ -58,6 +59,8 @@ ARGUMENTS = {
     22: "client",
     23: "kept",
     24: "offer",
+    25: "tree",
+    26: "verdicts",
 }
 
 CAUSES = {
@@ -75,11 +78,11 @@ CAUSES = {
 DISABLED, ENABLED, DENY_ONLY = 0x0, 0x4, 0x10
 #: The privileges, joined by |.
 SECURITY, TAKE_OWNERSHIP = 0x1, 0x2
+#: No privilege, but passed to the library as one: the user counts for denies alone.
+_DENY_ONLY_USER = 0x4
 #: The flags of an entry, by their names in SDDL.
 FLAGS = {"OI": 0x1, "CI": 0x2, "NP": 0x4, "IO": 0x8, "ID": 0x10, "SA": 0x40, "FA": 0x80}
 _ALL_FLAGS = sum(FLAGS.values())
-#: No privilege, but passed to the library as one: the user counts for denies alone.
-_DENY_ONLY_USER = 0x4
 #: The generic mappings of files, registry keys, services and processes: the masks of GENERIC_READ, GENERIC_WRITE,
 #: GENERIC_EXECUTE and GENERIC_ALL.
 FILES = (0x120089, 0x120116, 0x1200A0, 0x1F01FF)

@@ -2,10 +2,11 @@
 
 import struct
 import uuid
-from typing import Any, Iterable, NamedTuple, Optional, Tuple, Union
+from typing import Any, Iterable, List, NamedTuple, Optional, Tuple, Union
 
 from ._answers import _checked, _filled
 from ._arguments import Data, _data, _number, _of_type, _text
+from ._calls import _TypeNode, _TypeVerdict
 from ._descriptors import Descriptor
 from ._forms import _self_relative, _SelfRelative
 from ._library import _library
@@ -15,7 +16,7 @@ from ._refused import Refused
 from ._sids import Sid
 from ._tokens import Client
 from ._values import _Bytes
-from ._verdicts import Verdict, _verdict
+from ._verdicts import Verdict, _verdict, _verdict_of
 
 _LIST = 3
 _OBJECT_TYPES = (0x05, 0x06, 0x07, 0x08, 0x0B, 0x0C, 0x0F)
@@ -82,6 +83,21 @@ def _object_type(kind: object) -> uuid.UUID:
     if str(made) != kind.lower():
         raise ValueError(f"types: {kind!r} is no GUID")
     return made
+
+
+def _nodes(tree: Iterable[Tuple[int, ObjectType]]) -> Tuple[Any, int]:
+    """Nodes of a tree of object types as arguments of the library."""
+    pairs = [_of_type(node, tuple, "tree") for node in tree]
+    if any(len(node) != 2 for node in pairs):
+        raise TypeError("tree: expected pairs of a level and an object type")
+    packed = [struct.pack("=I16s", _number(level, "level"), _object_type(kind).bytes_le) for level, kind in pairs]
+    return (_TypeNode * len(packed)).from_buffer_copy(b"".join(packed)), len(packed)
+
+
+def _self(principal_self: Optional[Sid]) -> Tuple[bytes, int]:
+    """The SID that PRINCIPAL SELF stands for, or none, as arguments of the library."""
+    who = b"" if principal_self is None else bytes(_of_type(principal_self, Sid, "principal_self"))
+    return who, len(who)
 
 
 class WholeDescriptor(_SelfRelative):
@@ -167,14 +183,33 @@ class WholeDescriptor(_SelfRelative):
         that can't be decided is ``Refused`` as "undecided": with the index of an entry of the DACL, or as "MayBeDenied"
         where an entry of the SACL may deny what the DACL grants."""
         _of_type(client, Client, "client")
-        given, who, chain = self._bytes, b"", _types(types)
-        if principal_self is not None:
-            who = bytes(_of_type(principal_self, Sid, "principal_self"))
+        given, chain, who = self._bytes, _types(types), _self(principal_self)
         request = _mapping(mapping), _mask(asked, "asked")
         call = _library.hudarin_check_whole
         with client._turn:
-            answer = call(given, len(given), client._kept, chain, len(chain), who, len(who), *request)
+            answer = call(given, len(given), client._kept, chain, len(chain), *who, *request)
         return _verdict(answer)
+
+    def check_types(
+        self,
+        client: Client,
+        asked: Mask,
+        tree: Iterable[Tuple[int, ObjectType]],
+        principal_self: Optional[Sid] = None,
+        mapping: Iterable[Mask] = FILES,
+    ) -> List[Verdict]:
+        """The verdict on ``asked`` of each node of a ``tree`` of object types, in its order. A node is a pair of its
+        level and its type, after the node above it: the class has level 0, its property sets 1, and so on to 4. The
+        verdict on a node without others below it is that of ``check`` about the types from the class to its own. One
+        with others is granted what each of these is. What is no tree is ``Refused`` as "tree", with the index of the
+        first node that can't stand where it does. What ``check`` refuses for one node is refused for all."""
+        _of_type(client, Client, "client")
+        given, (nodes, count), who = self._bytes, _nodes(tree), _self(principal_self)
+        request, verdicts = (_mapping(mapping), _mask(asked, "asked")), (_TypeVerdict * count)()
+        call = _library.hudarin_check_types
+        with client._turn:
+            _checked(call(given, len(given), client._kept, nodes, count, *who, *request, verdicts, count))
+        return [_verdict_of(each.kind, each.mask) for each in verdicts]
 
     def plain(self) -> Tuple[Descriptor, int]:
         """The descriptor that has the owner, the group and the DACL, and what is left out: joined by | 1 for a SACL, 2

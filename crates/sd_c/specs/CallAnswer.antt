@@ -7,13 +7,15 @@ use Rattle.sd_check.specs.declared.verdict.Verdict.TheVariants.{Granted, Denied,
 use Rattle.sd_specialize.specs.Specialize.{fault_number}
 use Rattle.sd_specialize.specs.declared.fault.SpecializeFault.{SpecializeFault}
 use Rattle.sd_specialize.specs.declared.fault.SpecializeFault.TheVariants.{Refused, TooLarge}
+use Rattle.sd_types.specs.Tree.{kind_number}
 use Rattle.sd_c.specs.declared.call_answer.CheckAnswer.{CheckAnswer}
 use Rattle.sd_c.specs.declared.call_answer.Written.{Written}
 use Rattle.sd_c.specs.declared.stop.NotRead.{NotRead}
 use Rattle.sd_c.specs.declared.stop.NotRead.TheVariants.{Descriptor, User, Group, BehindGroups, State, Restricting}
 use Rattle.sd_c.specs.declared.stop.NotRead.TheVariants.{PrivilegeBits, MappingBits, DescriptorHandle, TokenHandle}
 use Rattle.sd_c.specs.declared.stop.NotRead.TheVariants.{NewHandle, DomainSid, NoDomain, WordsUtf8, Unended, NoWord}
-use Rattle.sd_c.specs.declared.stop.NotRead.TheVariants.{ClientHandle, Types, PrincipalSelf, Undecided, MayBeDenied}
+use Rattle.sd_c.specs.declared.stop.NotRead.TheVariants.{ClientHandle, Types, Tree, PrincipalSelf, Undecided}
+use Rattle.sd_c.specs.declared.stop.NotRead.TheVariants.{MayBeDenied}
 use Rattle.sd_c.specs.declared.stop.Stop.{Stop}
 use Rattle.sd_c.specs.declared.stop.Stop.TheVariants as stops
 use Rattle.sd_c.specs.Request.{RequestValue, verdict_of}
@@ -29,8 +31,8 @@ verdict_given (Denied missing) = given 2 missing
 verdict_given (Reserved mask) = given 3 mask
 verdict_given EmptyRequest = given 4 0
 
--- an invalid argument: why, which, the fault's number, and of groups, states, restricting SIDs, words and entries the
--- index, of a text that isn't UTF-8 the number of valid bytes
+-- an invalid argument: why, which, the fault's number, and of groups, states, restricting SIDs, words, nodes and
+-- entries the index, of a text that isn't UTF-8 the number of valid bytes
 abbrev pub unread : ℕ → ℕ → ℕ → ℕ → CheckAnswer
 unread status argument fault place =
     record { status = status; argument = argument; fault = fault; kind = 0; place = place; mask = 0 }
@@ -62,6 +64,7 @@ not_read (WordsUtf8 at) = unread 3 19 0 at
 not_read Unended = unread 23 19 0 0
 not_read (NoWord at) = unread 22 19 0 at
 not_read Types = unread 24 20 0 0
+not_read (Tree fault) = unread 29 25 (kind_number fault.kind) fault.place
 not_read (PrincipalSelf fault) = unread 6 21 (sid_error_number fault) 0
 not_read ClientHandle = unread 11 22 0 0
 not_read (Undecided fault) = unread 25 1 (fault_number fault) (undecided_place fault)

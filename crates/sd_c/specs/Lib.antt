@@ -25,6 +25,7 @@ pub mod WholeParts
 pub mod WithEntries
 pub mod Client
 pub mod WholeCheck
+pub mod WholeTypes
 pub mod Analysis
 pub mod Review
 pub mod Accounts

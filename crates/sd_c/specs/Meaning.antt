@@ -27,6 +27,9 @@ use Rattle.sd_whole_text.specs.declared.no_text.NoText.{NoText}
 use Rattle.sd_accounts.specs.declared.fault.AccountsFault.TheVariants as rows
 use Rattle.sd_accounts.specs.declared.names.NameError.TheVariants as names
 use Rattle.sd_named.specs.declared.arguments.NamedError.TheVariants as named
+use Rattle.sd_types.specs.Tree.{kind_name, kind_number}
+use Rattle.sd_types.specs.declared.tree.TreeFaultKind.{TreeFaultKind}
+use Rattle.sd_types.specs.declared.tree.TreeFaultKind.TheVariants as kinds
 use Rattle.sd_c.specs.Accounts.{no_user, row_number}
 
 -- what a status means; nothing of a number that is no status
@@ -61,6 +64,7 @@ status_text n =
     else if n == 26 then codes "a line of the accounts is no row"
     else if n == 27 then codes "the text means no user that may log on"
     else if n == 28 then codes "no kind of object has the number"
+    else if n == 29 then codes "the nodes are no tree of object types"
     else []
 
 -- ---- the fault with a number
@@ -148,6 +152,15 @@ odd_kind n =
     else if n == 4 then Some odd.OpaqueAce
     else None
 
+abbrev pub tree_fault_kind : ℕ → Option TreeFaultKind
+tree_fault_kind n =
+    if n == 1 then Some kinds.NoClass
+    else if n == 2 then Some kinds.LevelLeftOut
+    else if n == 3 then Some kinds.SecondClass
+    else if n == 4 then Some kinds.TooDeep
+    else if n == 5 then Some kinds.Repeated
+    else None
+
 -- ---- its name
 
 -- nothing where there is no such fault
@@ -193,6 +206,7 @@ fault_name status n =
     else if status == 25 then undecided_fault_name n
     else if status == 26 then row_fault_name n
     else if status == 27 then account_fault_name n
+    else if status == 29 then name_or_nothing kind_name (tree_fault_kind n)
     else []
 
 -- each fault that a call answers has its name at its number. Bytes have no authority of 2^48, and want of memory is a
@@ -221,3 +235,4 @@ FaultsHaveNames =
     × (fault_name 27 (no_user (named.User names.Ambiguous)).fault ≡ codes "Ambiguous")
     × (fault_name 27 (no_user named.NoUser).fault ≡ codes "NoUser")
     × (fault_name 27 (no_user named.Disabled).fault ≡ codes "Disabled")
+    × ((k : TreeFaultKind) → fault_name 29 (kind_number k) ≡ kind_name k)

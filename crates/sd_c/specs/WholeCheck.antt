@@ -53,37 +53,37 @@ of_self (Err fault) = Err (PrincipalSelf fault)
 abbrev pub self_read : List ℕ → Result (Option SidValue) NotRead
 self_read bytes = if length bytes == 0 then Ok None else of_self (sid_reading bytes)
 
--- what is asked about, beside who asks and for which rights
+-- the terms of a question: the SID that PRINCIPAL SELF stands for, and what the generic rights do
 pub record TermsValue : Type 0 where
-  pub chain : List Guid
   pub principal_self : Option SidValue
   pub mapping : MappingValue
 
--- the object types, then who PRINCIPAL SELF is, then the mapping
-abbrev pub terms_read : List ℕ → List ℕ → Mapping → Result TermsValue NotRead
-terms_read types principal_self mapping =
-    types_read types >>= λ chain.
-    (self_read principal_self >>= λ sid.
-    (mapping_read mapping >>= λ g. Ok (record { chain = chain; principal_self = sid; mapping = g })))
+-- who PRINCIPAL SELF is, then the mapping
+abbrev pub terms_read : List ℕ → Mapping → Result TermsValue NotRead
+terms_read principal_self mapping =
+    self_read principal_self >>= λ sid.
+    (mapping_read mapping >>= λ g. Ok (record { principal_self = sid; mapping = g }))
 
-abbrev pub question_of : ClientValue → TermsValue → ℕ → QuestionValue
-question_of c terms asked = record {
+abbrev pub question_of : ClientValue → List Guid → TermsValue → ℕ → QuestionValue
+question_of c chain terms asked = record {
   client = c;
-  chain = terms.chain;
+  chain = chain;
   principal_self = terms.principal_self;
   mapping = terms.mapping;
   asked = asked;
 }
 
--- the client that is kept, then what is asked about
-unfoldable pub question_by : Kept → Result TermsValue NotRead → ℕ → Result QuestionValue NotRead
-question_by kept terms asked = client_in kept >>= λ c. (terms >>= λ t. Ok (question_of c t asked))
+-- the client that is kept, then the object types, then the terms
+unfoldable pub question_by : Kept → List ℕ → List ℕ → Mapping → ℕ → Result QuestionValue NotRead
+question_by kept types principal_self mapping asked =
+    client_in kept >>= λ c.
+    (types_read types >>= λ chain. (terms_read principal_self mapping >>= λ t. Ok (question_of c chain t asked)))
 
 -- the question of a client's handle
 unfoldable pub question_read : Handle → List ℕ → List ℕ → Mapping → ℕ → Result QuestionValue NotRead
 question_read client types principal_self mapping asked =
     is_kept client.is_there ClientHandle >>= λ u.
-    question_by client.seal.kept (terms_read types principal_self mapping) asked
+    question_by client.seal.kept types principal_self mapping asked
 
 -- ---- the descriptor, after them
 

@@ -36,8 +36,8 @@ written bytes room =
     }
 
 -- they are at the front of the buffer; if it is too small it is unchanged
-abbrev pub room_with : List ℕ → List ℕ → List ℕ
-room_with bytes room = if nat_lt (length room) (length bytes) then room else bytes ++ drop (length bytes) room
+abbrev pub room_with : {A : Type 0} → List A → List A → List A
+room_with values room = if nat_lt (length room) (length values) then room else values ++ drop (length values) room
 
 -- nothing is written: why, the fault's number, and its offset in a text or the index of an entry
 abbrev pub not_written : ℕ → ℕ → ℕ → Written

@@ -71,6 +71,8 @@ pub const ROW: u32 = 26;
 pub const ACCOUNT: u32 = 27;
 /// No kind of object has the number.
 pub const KIND: u32 = 28;
+/// Nodes are no tree of object types; the fault is one of those of `TreeFaultKind`.
+pub const TREE: u32 = 29;
 
 /// The answer of a check: a verdict and its mask, or which argument is invalid.
 #[repr(C)]
@@ -83,7 +85,7 @@ pub struct CheckAnswer {
     pub fault: u32,
     /// The verdict, 0 where there is none.
     pub kind: u32,
-    /// The index of the invalid group, word or entry, or the byte offset where a text isn't UTF-8.
+    /// The index of the invalid group, word, node or entry, or the byte offset where a text isn't UTF-8.
     pub place: u64,
     pub mask: u32,
 }
@@ -156,6 +158,7 @@ pub(crate) fn not_read(why: NotRead) -> CheckAnswer
         NotRead::Unended => unread(UNENDED, 19, 0, 0),
         NotRead::NoWord { at } => unread(WORD, 19, 0, at),
         NotRead::Types => unread(TYPES, 20, 0, 0),
+        NotRead::Tree(fault) => unread(TREE, 25, fault.kind.number(), fault.place as u64),
         NotRead::PrincipalSelf(fault) => unread(SID, 21, fault.number(), 0),
         NotRead::ClientHandle => unread(HANDLE, 22, 0, 0),
         NotRead::Undecided(fault) => unread(UNDECIDED, 1, fault.number(), undecided_place(fault)),

@@ -46,6 +46,7 @@ mod whole;
 mod whole_check;
 mod whole_explaining;
 mod whole_parts;
+mod whole_types;
 mod with_entries;
 mod with_parts;
 
@@ -93,5 +94,6 @@ pub use whole_explaining::hudarin_explain_whole;
 pub use whole_parts::{
     WholeEntry, WholeListAnswer, hudarin_whole_entry, hudarin_whole_list, hudarin_whole_trustee,
 };
+pub use whole_types::{TreeNode, TypeVerdict, hudarin_check_types};
 pub use with_entries::hudarin_whole_with_entries;
 pub use with_parts::hudarin_whole_with_parts;

@@ -3,17 +3,20 @@
 ghost use Rattle.std.specs.Prelude.{◌≡◌};
 ghost use Rattle.sd_c.specs.Meaning.{FaultsHaveNames, fault_name, limits_fault, no_text_fault_name, odd_kind};
 ghost use Rattle.sd_c.specs.Meaning.{path_fault_name, refusal_of, sid_fault, status_text, text_fault, wire_fault};
-ghost use Rattle.sd_c.specs.Meaning.{account_fault_name, row_fault_name, undecided_fault_name};
+ghost use Rattle.sd_c.specs.Meaning.{account_fault_name, name_or_nothing, row_fault_name, tree_fault_kind};
+ghost use Rattle.sd_c.specs.Meaning.{undecided_fault_name};
+ghost use Rattle.sd_types.specs.Tree.{kind_name};
 ghost use Rattle.sd_c.specs.Written.{Writes};
 
 use crate::call_answer::{
     ACCOUNT, BEHIND_GROUPS, DOMAIN, EDIT, HANDLE, KIND, LIMITS, MAPPING, MEMORY, NO_NODE, NO_PART,
-    NO_TEXT, NOT_PLAIN, OK, PARTS, PATH, PRIVILEGES, REFUSED, ROOM, ROW, SID, STATE, TEXT, TYPES,
-    UNDECIDED, UNENDED, UTF8, WIRE, WORD, Written, write,
+    NO_TEXT, NOT_PLAIN, OK, PARTS, PATH, PRIVILEGES, REFUSED, ROOM, ROW, SID, STATE, TEXT, TREE,
+    TYPES, UNDECIDED, UNENDED, UTF8, WIRE, WORD, Written, write,
 };
 use sd_sid::SidError;
 use sd_text::TextFault;
 use sd_tree::{EditRefusal, LimitsError};
+use sd_types::TreeFaultKind;
 use sd_whole::OddKind;
 use sd_wire::WireFault;
 
@@ -71,6 +74,7 @@ fn status_text(status: u32) -> &'static str
         ROW => "a line of the accounts is no row",
         ACCOUNT => "the text means no user that may log on",
         KIND => "no kind of object has the number",
+        TREE => "the nodes are no tree of object types",
         _ => "",
     }
 }
@@ -108,6 +112,7 @@ fn fault_name(status: u32, fault: u32) -> &'static str
         UNDECIDED => undecided_fault_name(fault),
         ROW => row_fault_name(fault),
         ACCOUNT => account_fault_name(fault),
+        TREE => tree_fault_name(fault),
         _ => "",
     }
 }
@@ -231,6 +236,28 @@ fn account_fault_name(number: u32) -> &'static str
         3 => "NoUser",
         4 => "Disabled",
         _ => "",
+    }
+}
+
+fn tree_fault_name(number: u32) -> &'static str
+    ensures { result.now ≡ name_or_nothing kind_name (tree_fault_kind number) }
+{
+    match tree_fault_kind(number) {
+        Some(kind) => kind.name(),
+        None => "",
+    }
+}
+
+fn tree_fault_kind(number: u32) -> Option<TreeFaultKind>
+    ensures { result ≡ tree_fault_kind number }
+{
+    match number {
+        1 => Some(TreeFaultKind::NoClass),
+        2 => Some(TreeFaultKind::LevelLeftOut),
+        3 => Some(TreeFaultKind::SecondClass),
+        4 => Some(TreeFaultKind::TooDeep),
+        5 => Some(TreeFaultKind::Repeated),
+        _ => None,
     }
 }
 

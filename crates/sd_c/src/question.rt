@@ -4,7 +4,9 @@ ghost use Rattle.std.specs.Prelude.{◌≡◌, ◌<◌, length, IfOk, IsErrOf, O
 ghost use Rattle.sd_whole.specs.Memory.{WholeTakesMemory};
 ghost use Rattle.sd_whole.specs.Reading.{whole_read};
 ghost use Rattle.sd_c.specs.Request.{Gives};
+ghost use Rattle.sd_types.specs.Tree.{chains_in};
 ghost use Rattle.sd_c.specs.WholeCheck.{of_whole, question_of, self_read, terms_read, types_of, types_read};
+ghost use Rattle.sd_c.specs.WholeTypes.{tree_question_of};
 
 use crate::mapping::Mapping;
 use crate::request::mapping_of;
@@ -12,6 +14,7 @@ use crate::stop::{NotRead, Stop};
 use sd_access::Question;
 use sd_client::Client;
 use sd_sid::{GenericMapping, Mask, Sid, read_sid};
+use sd_types::{TreeQuestion, TypeTree};
 use sd_whole::{GUID_BYTES, Guid, WholeDescriptor, read_whole};
 use sd_wire::WireError;
 use std::alloc::{AllocError, Global};
@@ -20,10 +23,10 @@ use std::marker::Model;
 /// The most object types: in the list of a question they have the levels 0 to 4 ([MS-DTYP] 2.5.3.2, ObjectTypeList).
 const MAX_TYPES: usize = 5;
 
-/// What is asked about, beside who asks and for which rights. Contracts see the values.
+/// The terms of a question: the SID that PRINCIPAL SELF stands for, and what the generic rights do. Contracts see the
+/// values.
 #[derive(Drop)]
 pub(crate) struct Terms {
-    chain: Vec<Guid>,
     principal_self: Option<Sid>,
     mapping: GenericMapping,
 }
@@ -34,7 +37,6 @@ impl Model for Terms {
     ghost Value = { TermsValue };
 
     ghost view = { λ t. record {
-      chain = t.chain.items;
       principal_self = t.principal_self;
       mapping = t.mapping;
     } };
@@ -42,29 +44,45 @@ impl Model for Terms {
 
 impl Terms {
     /// The terms of the arguments: the first invalid one is refused.
-    pub(crate) fn read(
-        alloc: Global,
-        types: &[u8],
-        principal_self: &[u8],
-        mapping: Mapping,
-    ) -> Result<Terms, Stop>
-        ensures read { Gives (λ terms. terms) result (terms_read types.now principal_self.now mapping) }
-        ensures memory { IsErrOf result Stop.Memory → 0 < length types.now }
+    pub(crate) fn read(principal_self: &[u8], mapping: Mapping) -> Result<Terms, NotRead>
+        ensures { result ≡ terms_read principal_self.now mapping }
     {
         Ok(Terms {
-            chain: types_in(alloc, types)?,
             principal_self: self_of(principal_self)?,
             mapping: mapping_of(mapping)?,
         })
     }
 
-    /// The question of a client who asks for these rights.
-    pub(crate) fn question<'a>(&'a self, client: &'a Client, asked: u32) -> Question<'a>
-        ensures { result ≡ question_of client.entry.now self.entry.now asked }
+    /// The question of a client who asks about these object types for these rights.
+    pub(crate) fn question<'a>(
+        &'a self,
+        client: &'a Client,
+        chain: &'a [Guid],
+        asked: u32,
+    ) -> Question<'a>
+        ensures { result ≡ question_of client.entry.now chain.entry.now self.entry.now asked }
     {
         Question {
             client,
-            chain: &self.chain,
+            chain,
+            principal_self: self.principal_self,
+            mapping: &self.mapping,
+            asked: Mask(asked),
+        }
+    }
+
+    /// The question of a client who asks about each node of the tree for these rights.
+    pub(crate) fn tree_question<'a>(
+        &'a self,
+        client: &'a Client,
+        types: &'a TypeTree,
+        asked: u32,
+    ) -> TreeQuestion<'a>
+        ensures { result ≡ tree_question_of client.entry.now (chains_in types.entry.now) self.entry.now asked }
+    {
+        TreeQuestion {
+            client,
+            types,
             principal_self: self.principal_self,
             mapping: &self.mapping,
             asked: Mask(asked),
@@ -85,7 +103,7 @@ pub(crate) fn whole_of(alloc: Global, bytes: &[u8]) -> Result<WholeDescriptor, S
 }
 
 /// The object types that the bytes are.
-fn types_in(alloc: Global, bytes: &[u8]) -> Result<Vec<Guid>, Stop>
+pub(crate) fn types_in(alloc: Global, bytes: &[u8]) -> Result<Vec<Guid>, Stop>
     ensures read { Gives (λ types. types.items) result (types_read bytes.now) }
     ensures memory { IsErrOf result Stop.Memory → 0 < length bytes.now }
 {

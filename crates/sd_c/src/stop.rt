@@ -5,6 +5,7 @@ ghost use Rattle.sd_c.specs.declared.stop.Stop.TheVariants as stops;
 
 use sd_sid::SidError;
 use sd_specialize::SpecializeFault;
+use sd_types::TreeFault;
 use sd_wire::WireFault;
 use std::alloc::{AllocError, AllocFailed};
 
@@ -47,6 +48,8 @@ pub enum NotRead {
     ClientHandle,
     /// The object types are more than five, or not of 16 bytes each.
     Types,
+    /// A node can't stand in a tree of object types where it does.
+    Tree(TreeFault),
     /// The bytes for PRINCIPAL SELF don't start with a SID.
     PrincipalSelf(SidError),
     /// The descriptor's DACL can't be decided for the question.

@@ -6,13 +6,13 @@ ghost use Rattle.sd_whole.specs.Memory.{WholeTakesMemory};
 ghost use Rattle.sd_whole.specs.Reading.{whole_read};
 ghost use Rattle.sd_c.specs.Kept.{Stays};
 ghost use Rattle.sd_c.specs.Request.{Gives};
-ghost use Rattle.sd_c.specs.WholeCheck.{AnswersWhole, TakesMemoryOver, question_by, question_read, terms_read};
+ghost use Rattle.sd_c.specs.WholeCheck.{AnswersWhole, TakesMemoryOver, question_by, question_read};
 ghost use Rattle.sd_c.specs.WholeCheck.{unless_denied, verdict_over};
 
 use crate::call_answer::{CheckAnswer, not_read, verdict_given, why_not};
 use crate::handle::{Handle, Kept};
 use crate::mapping::Mapping;
-use crate::question::{Terms, whole_of};
+use crate::question::{Terms, types_in, whole_of};
 use crate::stop::{NotRead, Stop};
 use sd_access::{Question, check_whole, may_be_denied};
 use sd_check::Verdict;
@@ -68,7 +68,7 @@ fn answer_by(
     asked: u32,
 ) -> CheckAnswer
     ensures { AnswersWhole descriptor.now types.now
-        (question_by kept.now (terms_read types.now principal_self.now mapping) asked) result }
+        (question_by kept.now types.now principal_self.now mapping asked) result }
 {
     match verdict_by(
         alloc,
@@ -96,14 +96,15 @@ fn verdict_by(
 ) -> Result<Verdict, Stop>
     ensures read { Gives (λ verdict. verdict) result
         (verdict_over descriptor.now
-        (question_by kept.now (terms_read types.now principal_self.now mapping) asked)) }
+        (question_by kept.now types.now principal_self.now mapping asked)) }
     ensures memory { IsErrOf result Stop.Memory → TakesMemoryOver descriptor.now types.now }
 {
     let Kept::Client(client) = kept else {
         return Err(Stop::NotRead(NotRead::ClientHandle));
     };
-    let terms = Terms::read(alloc, types, principal_self, mapping)?;
-    verdict_on(alloc, descriptor, &terms.question(client, asked))
+    let chain = types_in(alloc, types)?;
+    let terms = Terms::read(principal_self, mapping)?;
+    verdict_on(alloc, descriptor, &terms.question(client, &chain, asked))
 }
 
 /// The verdict on the question about the descriptor that the bytes hold.

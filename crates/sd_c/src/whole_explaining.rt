@@ -8,13 +8,13 @@ ghost use Rattle.sd_whole.specs.Reading.{whole_read};
 ghost use Rattle.sd_c.specs.Kept.{Stays};
 ghost use Rattle.sd_c.specs.Request.{Gives};
 ghost use Rattle.sd_c.specs.WholeCheck.{ExplainsWhole, TakesMemoryOver, question_by, question_read, reasons_over};
-ghost use Rattle.sd_c.specs.WholeCheck.{terms_read, verdict_over};
+ghost use Rattle.sd_c.specs.WholeCheck.{verdict_over};
 
 use crate::call_answer::{not_read, verdict_given, why_not};
 use crate::explaining::{Explained, parts_of, unexplained};
 use crate::handle::{Handle, Kept};
 use crate::mapping::Mapping;
-use crate::question::{Terms, whole_of};
+use crate::question::{Terms, types_in, whole_of};
 use crate::stop::{NotRead, Stop};
 use crate::whole_check::unless_denied;
 use sd_access::{Question, explain_whole};
@@ -67,7 +67,7 @@ fn answer_by(
     asked: u32,
 ) -> Explained
     ensures { ExplainsWhole descriptor.now types.now
-        (question_by kept.now (terms_read types.now principal_self.now mapping) asked) result }
+        (question_by kept.now types.now principal_self.now mapping asked) result }
 {
     match explanation_by(
         alloc,
@@ -98,17 +98,18 @@ fn explanation_by(
 ) -> Result<Explanation, Stop>
     ensures read { Gives (λ explanation. explanation.reasons) result
         (reasons_over descriptor.now
-        (question_by kept.now (terms_read types.now principal_self.now mapping) asked)) }
+        (question_by kept.now types.now principal_self.now mapping asked)) }
     ensures verdict { IfOk result (λ explanation. verdict_over descriptor.now
-        (question_by kept.now (terms_read types.now principal_self.now mapping) asked)
+        (question_by kept.now types.now principal_self.now mapping asked)
         ≡ Ok (told_verdict (reason_in explanation.reasons))) }
     ensures memory { IsErrOf result Stop.Memory → TakesMemoryOver descriptor.now types.now }
 {
     let Kept::Client(client) = kept else {
         return Err(Stop::NotRead(NotRead::ClientHandle));
     };
-    let terms = Terms::read(alloc, types, principal_self, mapping)?;
-    explanation_on(alloc, descriptor, &terms.question(client, asked))
+    let chain = types_in(alloc, types)?;
+    let terms = Terms::read(principal_self, mapping)?;
+    explanation_on(alloc, descriptor, &terms.question(client, &chain, asked))
 }
 
 /// Why the question about the descriptor that the bytes hold is answered as it is.
