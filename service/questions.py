@@ -154,15 +154,17 @@ def _token(user: Sid, words: Sequence[str]) -> Token:
         raise Fault.of("token")
     groups: list[Group] = []
     restricting: list[Sid] = []
-    privileges = 0
+    privileges, deny_only_user = 0, False
     for word in words:
         if word in _PRIVILEGES:
             privileges |= _PRIVILEGES[word]
+        elif word == "user=deny":
+            deny_only_user = True
         elif word.endswith("=restrict"):
             restricting.append(_member(word.removesuffix("=restrict")))
         else:
             groups.append(_group(word))
-    return Token(user, groups, privileges, restricting)
+    return Token(user, groups, privileges, restricting, deny_only_user)
 
 
 class Questions:

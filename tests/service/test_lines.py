@@ -16,7 +16,9 @@ NAMES = ["a", "b", "c%20d", "%C3%A9", "50%", "x%2Fy", "%FF", "n%00l", "", "é", 
 SIDS = ["BA", "BU", "WD", rig.USER, "S-1-5-18", "QQ", "S-1", "CO", "OW"]
 RIGHTS = ["FR", "FA", "0x1", "GR", "", "QQ", "0x02000000", "0x00200001", "0", "017", "WDWO"]
 FLAGS = ["", "OICI", "CI", "OINP", "ID", "IO", "XX"]
-WORDS = ["BU", "BU=deny", "WD=off", "AU=restrict", "+security", "+take", "WD=", "=deny", "x", "BU=deny=off"]
+WORDS = [
+    "BU", "BU=deny", "WD=off", "AU=restrict", "+security", "+take", "user=deny", "WD=", "=deny", "x", "BU=deny=off",
+]
 
 
 class Chance(random.Random):
@@ -45,7 +47,7 @@ class Chance(random.Random):
         )
         reader = self.choice(("0",) * 12 + ("1", "x", "00", "18446744073709551616"))
         user, mask = self.choice(SIDS), self.choice(RIGHTS)
-        groups = self.sample(WORDS[:6] if self.random() < 0.9 else WORDS, self.choice((0, 0, 1, 2)))
+        groups = self.sample(WORDS[:7] if self.random() < 0.9 else WORDS, self.choice((0, 0, 1, 2)))
         words = {
             "addc": [self.path(), self.sddl()], "addo": [self.path(), self.sddl()],
             "owner": [self.path(), user], "group": [self.path(), user],
