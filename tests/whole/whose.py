@@ -121,10 +121,9 @@ def token_of(line: Dict[str, Any]) -> second.Token:
 class Changed:
     """OLD and NEW, and what the model says of them."""
 
-    def __init__(self, question: access.Question, texts: Tuple[str, str]):
-        self.question = question
-        self.both = [parsing.descriptor(text, DOMAIN) for text in texts]
-        self.was, self.now = (Asked(descriptor, question) for descriptor in self.both)
+    def __init__(self, question: access.Question, both: List[model.Descriptor]):
+        self.question, self.both = question, both
+        self.was, self.now = (Asked(descriptor, question) for descriptor in both)
 
     def is_shown(self, line: Dict[str, Any]) -> bool:
         """Whether the token of a line gains or loses all of its rights."""
@@ -143,6 +142,10 @@ class Changed:
             said[line["answer"]] |= int(line["mask"], 16)
         return now & ~was & ~said["gained"] | was & ~now & ~said["lost"]
 
+    def left(self, lines: List[Dict[str, Any]]) -> str:
+        """What the lines miss, and those that are of nobody."""
+        return f"{hex(self.missed(lines))} {[line for line in lines if not self.is_shown(line)]}"
+
 
 def with_list(text: str, other: str) -> str:
     """The descriptor with the DACL of the other one."""
@@ -153,5 +156,59 @@ def with_list(text: str, other: str) -> str:
 def changes(program: str, question: access.Question, old: str, new: str) -> Tuple[List[Dict[str, Any]], str]:
     """The lines of `compare`, and by the model what they miss, and those that are of nobody."""
     lines = [line for line in lines_of(program, question, "--object", "compare", old, new) if line["answer"] != "same"]
-    changed = Changed(question, (old, new))
-    return lines, f"{hex(changed.missed(lines))} {[line for line in lines if not changed.is_shown(line)]}"
+    return lines, Changed(question, [parsing.descriptor(text, DOMAIN) for text in (old, new)]).left(lines)
+
+
+# ---- what is made in a container
+
+OWNER_RIGHTS = "S-1-3-4"
+ANYBODY = {is_container: second.Node(is_container, second.CREATOR_OWNER, second.CREATOR_GROUP, ())
+           for is_container in (False, True)}
+#: What the lines of each begin with, and which containers and objects it is inherited by, one below the other.
+CHILDREN = ((("new", "objects"), (False,)), (("new", "containers"), (True,)),
+            (("below", "objects"), (True, False)), (("below", "containers"), (True, True)))
+
+
+def is_handed_on(entry: Any) -> bool:
+    return bool(entry.flags & (second.OI | second.CI))
+
+
+def is_unsaid(entry: Any) -> bool:
+    """Whether what a child inherits of the entry isn't looked at."""
+    if isinstance(entry, model.Opaque) or entry.kind not in access.ALLOWS | access.DENIES:
+        return True
+    limits = entry.kind in access.CALLBACKS and entry.sid == OWNER_RIGHTS
+    return limits or any(entry.types)
+
+
+def handed_on(entry: Any, is_container: bool, mapping: Tuple[int, ...]) -> List[Any]:
+    """The entries of a child: with the flags and the masks that a plain entry hands on."""
+    plain = second.Entry("A", entry.flags, entry.mask, evaluate.parts(entry.sid))
+    copies = second.handed_on(plain, ANYBODY[is_container], dict(zip(access.GENERIC, mapping)))
+    return [entry._replace(flags=copy.flags, mask=copy.mask) for copy in copies]
+
+
+def child_of(descriptor: model.Descriptor, line: Tuple[bool, ...], mapping: Tuple[int, ...]) -> model.Descriptor:
+    """What is made in a container, of an owner for whom CREATOR OWNER stands."""
+    entries = access.entries_of(descriptor.dacl)
+    for is_container in line:
+        entries = tuple(copy for entry in entries if is_handed_on(entry)
+                        for copy in handed_on(entry, is_container, mapping))
+    return descriptor._replace(owner="S-1-3-0", dacl=model.AccessList(2, entries))
+
+
+def of_children(program: str, question: access.Question, old: str, new: str) -> Tuple[List[Dict[str, Any]], List[str]]:
+    """The lines of `compare` of containers, and by the model what is wrong with those of what is made in them."""
+    asked = question._replace(types=(), principal_self=None)
+    lines = lines_of(program, asked, "compare", old, new)
+    both = [parsing.descriptor(text, DOMAIN) for text in (old, new)]
+    entries = [entry for descriptor in both for entry in access.entries_of(descriptor.dacl)]
+    is_left = any(is_handed_on(entry) and is_unsaid(entry) for entry in entries) and both[0].dacl != both[1].dacl
+    wrong = ["left out"] if is_left != any(line["answer"] == "object alone" for line in lines) else []
+    stops = any(entry.flags & second.NP for entry in entries)
+    for (name, kind), path in CHILDREN if not is_left else ():
+        where = name if stops else "new"
+        said = [{**line, "answer": line["answer"].removesuffix(" below")} for line in lines if line.get(where) == kind]
+        found = Changed(asked, [child_of(descriptor, path, question.mapping) for descriptor in both]).left(said)
+        wrong += [f"{name} {kind}: {found}"] if found != "0x0 []" else []
+    return lines, wrong

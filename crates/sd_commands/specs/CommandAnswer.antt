@@ -30,7 +30,7 @@ use Rattle.sd_check.specs.declared.token.GroupState.{GroupState}
 use Rattle.sd_answer.specs.Compare.{gains_and_losses}
 use Rattle.sd_answer.specs.Descendants.{descendants_lines, inheritance_lines}
 use Rattle.sd_line.specs.Mask.{IsMaskErrorIn, IsMaskIn}
-use Rattle.sd_answer.specs.Parts.{entries_in, parts_in}
+use Rattle.sd_answer.specs.Parts.{parts_in}
 use Rattle.sd_line.specs.Rights.{rights_line}
 use Rattle.sd_answer.specs.Why.{why_lines}
 use Rattle.sd_answer.specs.Word.{AreGroups, IsFirstNoGroup, IsFirstNoWord, IsToken, texts}
@@ -39,7 +39,8 @@ use Rattle.sd_commands.specs.Logon.{fits_logon, words_for}
 use Rattle.sd_commands.specs.Object.{leaves_out, looked_at}
 use Rattle.sd_commands.specs.Labels.{label_changes}
 use Rattle.sd_commands.specs.Limits.{ChangeHasLimits, sacl_left_out}
-use Rattle.sd_commands.specs.ObjectTypes.{ChangeHasTypes, NotingTypes, has_types, is_of_whole}
+use Rattle.sd_commands.specs.ObjectTypes.{ChangeHasTypes, NotingTypes, has_types, is_of_whole, types_left_out}
+use Rattle.sd_commands.specs.ObjectTypes.{types_note}
 use Rattle.sd_commands.specs.Required.{missing_dacl}
 use Rattle.sd_usage.specs.declared.row.TextCommand.{TextCommand}
 use Rattle.sd_usage.specs.declared.row.TextCommand.TheVariants as questions
@@ -65,14 +66,14 @@ use Rattle.sd_commands.specs.Answer.{value_line, AnswerValue, answer_of, IsAnswe
 use Rattle.sd_commands.specs.Answer.{AnswersFit, IsFaultOf, IsFound, Noting, Telling, IsMissingDacl, descriptor_line}
 use Rattle.sd_commands.specs.Chain.{types_of}
 use Rattle.sd_commands.specs.Conditions.{hides, shown_by}
-use Rattle.sd_commands.specs.ForEveryone.{AnswersOfEveryone, marks_of, view_of}
-use Rattle.sd_commands.specs.declared.for_everyone.View.TheVariants.{Marked}
+use Rattle.sd_commands.specs.ForEveryone.{AnswersOfEveryone, marks_of}
+use Rattle.sd_commands.specs.Handed.{ChildrenAreLeftOut, HandedValue, children_left_out, handed_in, handed_or}
 use Rattle.sd_acl.specs.declared.descriptor.DaclOf.TheVariants.{Absent}
 use Rattle.sd_specialize.specs.Everyone.{conditional_fault}
 use Rattle.sd_specialize.specs.Marked.{conditionals, unmarked_place}
 use Rattle.sd_whole.specs.declared.ace.TypedAce.{TypedAce}
 use Rattle.sd_commands.specs.FromBinary.{AnswersFromBinary}
-use Rattle.sd_commands.specs.Whole.{IsEntryFault, is_compare, takes_whole}
+use Rattle.sd_commands.specs.Whole.{IsEntryFault, takes_whole}
 use Rattle.sd_commands.specs.WholeLint.{AnswersWholeFindings}
 use Rattle.sd_commands.specs.WholeText.{AnswersOfWhole, AnswersWholeText}
 use Rattle.sd_commands.specs.WholeVerdict.{IsUndecided, IsWholeVerdict, everyone_context, verdict_outcome}
@@ -295,30 +296,40 @@ AreOwnChanges settings old new base lines =
     × AreGains settings.mapping base (parts_in new) (parts_in old) lost
     × (lines ≡ gains_and_losses None (parts_in old) (parts_in new) gained lost)
 
--- what tokens gain and lose of all that is made in the object, if it is a container
-abbrev pub AreDescendantLines : Settings → DescriptorValue → DescriptorValue → List (SidValue × GroupState)
-    → List LineOf → Type 0
-AreDescendantLines settings old new base lines =
+-- of a child no SID is known for which PRINCIPAL SELF stands
+abbrev pub of_child : Settings → Settings
+of_child settings = record settings { principal_self = None }
+
+-- what tokens gain and lose of all that is made in the object, if it is a container, with conditions in the place of
+-- markers
+abbrev pub AreDescendantLines : Settings → HandedValue → List (SidValue × GroupState) → List LineOf → Type 0
+AreDescendantLines settings handed base lines =
     (changes : List DescendantChange)
-    × AreDescendantChanges settings.mapping base (entries_in old.dacl) (entries_in new.dacl) changes
-    × (lines ≡ descendants_lines changes)
+    × AreDescendantChanges settings.mapping base handed.old handed.new changes
+    × (lines ≡ shown_by (of_child settings) handed.marks (descendants_lines changes))
 
--- what tokens gain and lose, whether the list inherits where it did not, and these lines, with conditions in the place
--- of markers; or that nothing of it changes
-abbrev pub PrintsComparison : Settings → List TypedAce → List LineOf → DescriptorValue → DescriptorValue
+-- what tokens gain and lose, with conditions in the place of markers, whether the list inherits where it did not, and
+-- these lines; or that nothing of it changes
+abbrev pub PrintsComparison : Settings → List TypedAce → HandedValue → List LineOf → DescriptorValue → DescriptorValue
     → List (SidValue × GroupState) → AnswerValue → Type 0
-PrintsComparison settings marks last old new base answer =
+PrintsComparison settings marks handed last old new base answer =
     (own : List LineOf) × (below : List LineOf) × AreOwnChanges settings old new base own
-    × AreDescendantLines settings old new base below
-    × IsFound (line_of (form SAME) []) (shown_by settings marks
-    (((own ++ below) ++ inheritance_lines old.protected new.protected) ++ last)) answer
+    × AreDescendantLines settings handed base below
+    × IsFound (line_of (form SAME) [])
+    (((shown_by settings marks own ++ below) ++ inheritance_lines old.protected new.protected) ++ last) answer
 
--- what tokens gain and lose by the descriptors as they are looked at, and whether something was left out of them
-abbrev pub AnswersComparison : Settings → List TypedAce → List LineOf → DescriptorValue → DescriptorValue
+-- what tokens gain and lose by the descriptors as they are looked at
+abbrev pub PrintsSeen : Settings → List TypedAce → Option HandedValue → List LineOf → DescriptorValue → DescriptorValue
     → List (SidValue × GroupState) → AnswerValue → Type 0
-AnswersComparison settings marks last old new base = AnswersUnhidden marks base
+PrintsSeen settings marks handed last old new base =
+    PrintsComparison settings marks (handed_or handed marks old new) last old new base
+
+-- and whether something was left out of them
+abbrev pub AnswersComparison : Settings → List TypedAce → Option HandedValue → List LineOf → DescriptorValue
+    → DescriptorValue → List (SidValue × GroupState) → AnswerValue → Type 0
+AnswersComparison settings marks handed last old new base = AnswersUnhidden (handed_or handed marks old new).marks base
     (Telling (object_note (leaves_out settings.object old || leaves_out settings.object new))
-    (PrintsComparison settings marks last (looked_at settings.object old) (looked_at settings.object new) base))
+    (PrintsSeen settings marks handed last (looked_at settings.object old) (looked_at settings.object new) base))
 
 -- ---- whole descriptors in words
 
@@ -356,7 +367,7 @@ AnswersOn settings about.Verdict arguments d = AnswersUser settings Short argume
 AnswersOn settings about.Why arguments d = AnswersUser settings Explained arguments (Plain d)
 AnswersOn settings about.Who arguments d = AnswersWho settings [] [] arguments d
 AnswersOn settings about.Compare arguments old = AnswersOfArgument (codes "NEW") settings (argument arguments 0)
-    (λ new. AnswersOfBase settings (drop 1 arguments) (AnswersComparison settings [] [] old new))
+    (λ new. AnswersOfBase settings (drop 1 arguments) (AnswersComparison settings [] None [] old new))
 AnswersOn settings about.Lint arguments d = AnswersOfBase settings arguments (AnswersFindings settings d)
 AnswersOn settings about.Print arguments d = IsDone (descriptor_line d)
 AnswersOn settings about.Sort arguments d = IsSorted settings d
@@ -375,14 +386,14 @@ AnswersPlainly settings question text arguments =
 
 -- what `who` answers: where an entry has a condition, if that is met; and of the whole object alone types are left out
 abbrev pub AnswersWhoOfWhole : Settings → List ℕ → List (Bor (List ℕ)) → AnswerValue → Type 0
-AnswersWhoOfWhole settings text arguments = AnswersOfEveryone (codes "SDDL") all_left_out Marked Absent settings text
+AnswersWhoOfWhole settings text arguments = AnswersOfEveryone (codes "SDDL") all_left_out Absent settings text
     (λ whole d. NotingTypes settings (has_types whole.dacl && is_of_whole (types_of settings.chain))
     (λ left_out. AnswersWho settings (conditionals whole.dacl) left_out arguments d))
 
 -- what `lint` answers of the object itself, for the object types asked about: of the whole object alone types are left
 -- out
 abbrev pub AnswersLintOfWhole : Settings → List ℕ → List (Bor (List ℕ)) → AnswerValue → Type 0
-AnswersLintOfWhole settings text words = AnswersOfEveryone (codes "SDDL") all_left_out Marked Absent settings text
+AnswersLintOfWhole settings text words = AnswersOfEveryone (codes "SDDL") all_left_out Absent settings text
     (λ whole d. NotingTypes settings (has_types whole.dacl) (λ left_out. AnswersOfBase settings words (λ base.
     AnswersUnhidden (conditionals whole.dacl) base (AnswersWholeFindings settings whole left_out d base))))
 
@@ -391,15 +402,23 @@ abbrev pub AnswersUnlessUnmarked : List ℕ → Option ℕ → (AnswerValue → 
 AnswersUnlessUnmarked argument None Answers = Answers
 AnswersUnlessUnmarked argument (Some place) Answers = IsUndecided argument (conditional_fault place)
 
--- what `compare` answers of two, by one list of markers: also whether the label is another, and what of the SACLs and
--- which types are left out
+-- whether the label is another, and what of the SACLs, of types and of children is left out
+abbrev pub AreLastLines : Settings → (depends : Bool) → (is_left : Bool) → (old new : WholeDescriptor) → List LineOf
+    → Type 0
+AreLastLines settings depends is_left old new lines =
+    (limited : Bool) × ChangeHasLimits limited (not settings.object) old new
+    × (lines ≡ ((label_changes old new ++ sacl_left_out limited) ++ types_left_out settings depends)
+    ++ children_left_out (not settings.object && is_left))
+
+-- what `compare` answers of two, by one list of markers
 abbrev pub AnswersCompareMarked : Settings → (old : WholeDescriptor) → DescriptorValue → (new : WholeDescriptor)
     → DescriptorValue → List (Bor (List ℕ)) → AnswerValue → Type 0
 AnswersCompareMarked settings old plain_old new plain_new words answer =
-    (limited : Bool) × ChangeHasLimits limited (not settings.object) old new
-    × (depends : Bool) × ChangeHasTypes depends old new × NotingTypes settings depends
-    (λ left_out. AnswersOfBase settings words (AnswersComparison settings (marks_of old.dacl new.dacl)
-    ((label_changes old new ++ sacl_left_out limited) ++ left_out) plain_old plain_new)) answer
+    (is_left : Bool) × ChildrenAreLeftOut is_left old.dacl new.dacl
+    × (depends : Bool) × ChangeHasTypes depends old new
+    × (last : List LineOf) × AreLastLines settings depends is_left old new last
+    × Telling (types_note settings depends) (AnswersOfBase settings words (AnswersComparison settings
+    (marks_of old.dacl new.dacl) (handed_in settings.object is_left old.dacl new.dacl) last plain_old plain_new)) answer
 
 -- that, where neither has a SID that is a marker of the other's conditions
 abbrev pub AnswersCompareOfBoth : Settings → (old : WholeDescriptor) → DescriptorValue → (new : WholeDescriptor)
@@ -412,13 +431,13 @@ AnswersCompareOfBoth settings old plain_old new plain_new words =
 -- what it answers of OLD
 abbrev pub AnswersCompareTo : Settings → WholeDescriptor → DescriptorValue → List (Bor (List ℕ)) → AnswerValue → Type 0
 AnswersCompareTo settings old plain_old arguments =
-    AnswersOfEveryone (codes "NEW") all_but_label (view_of settings.object) old.dacl settings (argument arguments 0)
+    AnswersOfEveryone (codes "NEW") all_but_label old.dacl settings (argument arguments 0)
     (λ new plain_new. AnswersCompareOfBoth settings old plain_old new plain_new (drop 1 arguments))
 
 -- what it answers
 abbrev pub AnswersCompareOfWhole : Settings → List ℕ → List (Bor (List ℕ)) → AnswerValue → Type 0
 AnswersCompareOfWhole settings text arguments =
-    AnswersOfEveryone (codes "OLD") all_but_label (view_of settings.object) Absent settings text
+    AnswersOfEveryone (codes "OLD") all_but_label Absent settings text
     (λ old plain_old. AnswersCompareTo settings old plain_old arguments)
 
 -- what a command answers of all that the text is: a verdict, whom rights are granted to, who gains and loses some, what
@@ -435,7 +454,7 @@ AnswersWholly settings question text arguments = AnswersWholeText settings quest
 -- the descriptor, and others at its plain part
 abbrev pub AnswersDescriptor : Settings → DescriptorCommand → List ℕ → List (Bor (List ℕ)) → AnswerValue → Type 0
 AnswersDescriptor settings question text arguments answer =
-    MatchBool (settings.whole && (takes_whole settings.below settings.object question || is_compare question))
+    MatchBool (settings.whole && takes_whole settings.below settings.object question)
     (AnswersWholly settings question text arguments answer) (AnswersPlainly settings question text arguments answer)
 
 -- what a command answers to a text and the arguments after it

@@ -9,6 +9,7 @@ pub mod Diagnostic
 pub mod Escaped
 pub mod Findings
 pub mod ForEveryone
+pub mod Handed
 pub mod FromBinary
 pub mod Kinds
 pub mod Labels

@@ -95,22 +95,17 @@ abbrev pub WritesWhole : List ℕ → Settings → WholeDescriptor → AnswerVal
 WritesWhole argument settings d = AnswersFit argument (missing_dacl settings.require_dacl d.dacl)
     (IsDone (text_line (encode_lower (whole_wire_of d))))
 
--- the command looks at all that a whole descriptor has: it gives a verdict, prints of the object alone to whom rights
--- are granted, who gains and loses some, or what is doubtful, or prints, sorts or writes the descriptor
+-- the command looks at all that a whole descriptor has: it gives a verdict, prints who gains and loses rights, or of
+-- the object alone to whom some are granted or what is doubtful, or prints, sorts or writes the descriptor
 abbrev pub takes_whole : (below : Bool) → (object : Bool) → DescriptorCommand → Bool
 takes_whole below object about.Verdict = true
 takes_whole below object about.Why = true
 takes_whole below object about.Who = not below
-takes_whole below object about.Compare = object
+takes_whole below object about.Compare = true
 takes_whole below object about.Lint = object
 takes_whole below object about.Print = true
 takes_whole below object about.Sort = true
 takes_whole below object about.ToBinary = true
-
--- `compare` looks at a container's label, too
-abbrev pub is_compare : DescriptorCommand → Bool
-is_compare about.Compare = true
-is_compare question = false
 
 -- ---- an entry that no question takes
 

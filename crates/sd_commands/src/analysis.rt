@@ -1,21 +1,25 @@
 //! The answers to `who` and `compare`: whom rights are granted to, and what a change of a descriptor grants and takes.
-ghost use Rattle.std.specs.Prelude.{◌<◌, IfOk, length};
-ghost use Rattle.sd_acl.specs.Descriptor.{descriptor_of};
+ghost use Rattle.std.specs.Prelude.{◌≡◌, ◌<◌, IfOk, length};
+ghost use Rattle.sd_acl.specs.Descriptor.{DescriptorValue, descriptor_of};
 ghost use Rattle.sd_answer.specs.Word.{IsFirstNoGroup, texts};
 ghost use Rattle.sd_commands.specs.Analysis.{AreBelowLines, AreWhoLines};
 ghost use Rattle.sd_commands.specs.Answer.{answer_of};
 ghost use Rattle.sd_commands.specs.CommandAnswer.{AnswersComparison, AnswersOfBase, AnswersOn, AreDescendantLines};
 ghost use Rattle.sd_commands.specs.CommandAnswer.{IsHidden};
 ghost use Rattle.sd_specialize.specs.Marked.{lent_marks};
-ghost use Rattle.sd_commands.specs.CommandAnswer.{AnswersWho, AreOwnChanges, IsGroupFault, PrintsComparison, PrintsWho};
+ghost use Rattle.sd_commands.specs.CommandAnswer.{AnswersWho, AreOwnChanges, IsGroupFault, PrintsSeen, PrintsWho};
+ghost use Rattle.sd_commands.specs.CommandAnswer.{of_child};
+ghost use Rattle.sd_commands.specs.Conditions.{shown_by};
+ghost use Rattle.sd_commands.specs.Handed.{handed_or, lent_handed};
 
 use crate::command_answer::{Answer, Answered, found};
 use crate::conditions::hides;
 use crate::descriptor::{Given, note_left_out_sacl, note_object};
+use crate::handed::Handed;
 use crate::object::{either_leaves_out, looked_at};
-use crate::settings::CommandContext;
+use crate::settings::{CommandContext, Settings};
 use crate::words::{argument, items_from};
-use sd_acl::Descriptor;
+use sd_acl::{Ace, Descriptor};
 use sd_analysis::{Base, compare, compare_descendants, who, who_descendants};
 use sd_answer::{
     SAME, TokenError, dacl_ref, descriptor_ref, entries_in, push_descendants, push_descendants_who,
@@ -149,26 +153,29 @@ impl CommandContext<'_> {
             left_out,
         } = part;
         let words = items_from(arguments, 1);
-        let answer = self.compare_with_base(old, descriptor, &[], Vec::new(self.alloc), words)?;
+        let last = Vec::new(self.alloc);
+        let answer = self.compare_with_base(old, descriptor, &[], None, last, words)?;
         Ok(note_left_out_sacl(self.alloc, "NEW", left_out, answer)?)
     }
 
-    /// The comparison for the base that the words are, where markers stand for these conditions, with these lines at
-    /// its end; or the fault of the first word that is no group.
+    /// The comparison for the base that the words are, where markers stand for these conditions, what is made in a
+    /// container inherits from these entries, and these lines are at its end; or the fault of the first word that is no
+    /// group.
     pub(crate) fn compare_with_base(
         &self,
         old: Descriptor,
         new: Descriptor,
         marks: &[&TypedAce],
+        handed: Option<&Handed<'_>>,
         last: Vec<Line>,
         words: &[&str],
     ) -> Answered
         ensures { IfOk result (λ answer. AnswersOfBase self.now.settings.now words.now
-            (AnswersComparison self.now.settings.now (lent_marks marks.now) last.items (descriptor_of old)
-            (descriptor_of new)) (answer_of answer)) }
+            (AnswersComparison self.now.settings.now (lent_marks marks.now) (lent_handed handed.entry) last.items
+            (descriptor_of old) (descriptor_of new)) (answer_of answer)) }
     {
         match read_base(self.alloc, self.settings.aliases, words) {
-            Ok(groups) => self.comparison_seen(old, new, marks, last, &groups),
+            Ok(groups) => self.comparison_seen(old, new, marks, handed, last, &groups),
             Err(TokenError::NoWord { place }) => self.group_fault(words, place),
             Err(TokenError::Memory) => Err(AllocError),
         }
@@ -181,20 +188,22 @@ impl CommandContext<'_> {
         old: Descriptor,
         new: Descriptor,
         marks: &[&TypedAce],
+        handed: Option<&Handed<'_>>,
         last: Vec<Line>,
         groups: &[(Sid, GroupState)],
     ) -> Answered
-        ensures { IfOk result (λ answer. AnswersComparison self.now.settings.now (lent_marks marks.now) last.items
-            (descriptor_of old) (descriptor_of new) groups.now (answer_of answer)) }
+        ensures { IfOk result (λ answer. AnswersComparison self.now.settings.now (lent_marks marks.now)
+            (lent_handed handed.entry) last.items (descriptor_of old) (descriptor_of new) groups.now
+            (answer_of answer)) }
     {
-        if hides(marks, groups) {
+        if hides(marks_in(handed, marks), groups) {
             return self.hidden();
         }
         let (alloc, is_object) = (self.alloc, self.settings.object);
         let left_out = either_leaves_out(is_object, &old, &new);
         let old = looked_at(alloc, is_object, old)?;
         let new = looked_at(alloc, is_object, new)?;
-        let answer = self.comparison(&old, &new, marks, last, groups)?;
+        let answer = self.comparison(&old, &new, marks, handed, last, groups)?;
         note_object(alloc, left_out, answer)
     }
 
@@ -203,19 +212,21 @@ impl CommandContext<'_> {
         old: &Descriptor,
         new: &Descriptor,
         marks: &[&TypedAce],
+        handed: Option<&Handed<'_>>,
         mut last: Vec<Line>,
         groups: &[(Sid, GroupState)],
     ) -> Answered
-        ensures { IfOk result (λ answer. PrintsComparison self.now.settings.now (lent_marks marks.now) last.items
-            (descriptor_of old.now) (descriptor_of new.now) groups.now (answer_of answer)) }
+        ensures { IfOk result (λ answer. PrintsSeen self.now.settings.now (lent_marks marks.now)
+            (lent_handed handed.entry) last.items (descriptor_of old.now) (descriptor_of new.now) groups.now
+            (answer_of answer)) }
     {
         let base = Base { groups };
-        let mut lines = self.own_changes(old, new, &base)?;
-        let mut below = self.descendant_changes(old, new, &base)?;
+        let own = self.own_changes(old, new, &base)?;
+        let mut lines = self.shown_by(marks, own)?;
+        let mut below = self.changes_below(old, new, marks, handed, &base)?;
         lines.append(&mut below)?;
         push_inheritance(self.alloc, &mut lines, old.protected, new.protected)?;
         lines.append(&mut last)?;
-        let lines = self.shown_by(marks, lines)?;
         found(self.alloc, lines, SAME)
     }
 
@@ -237,19 +248,68 @@ impl CommandContext<'_> {
     }
 
     /// What they gain and lose of all that is made in it, if it is a container.
-    fn descendant_changes(
+    fn changes_below(
         &self,
         old: &Descriptor,
         new: &Descriptor,
+        marks: &[&TypedAce],
+        handed: Option<&Handed<'_>>,
         base: &Base<'_>,
     ) -> Result<Vec<Line>, AllocError>
-        ensures { IfOk result (λ lines. AreDescendantLines self.now.settings.now (descriptor_of old.now)
-            (descriptor_of new.now) base.now lines.items) }
+        ensures { IfOk result (λ lines. AreDescendantLines self.now.settings.now
+            (handed_or (lent_handed handed.entry) (lent_marks marks.now) (descriptor_of old.now)
+            (descriptor_of new.now)) base.now lines.items) }
     {
-        let (old, new) = (entries_in(&old.dacl), entries_in(&new.dacl));
+        match handed {
+            Some(handed) => {
+                self.descendant_changes(&handed.old, &handed.new, &handed.marks, base)
+            }
+            None => {
+                self.descendant_changes(entries_in(&old.dacl), entries_in(&new.dacl), marks, base)
+            }
+        }
+    }
+
+    fn descendant_changes(
+        &self,
+        old: &[Ace],
+        new: &[Ace],
+        marks: &[&TypedAce],
+        base: &Base<'_>,
+    ) -> Result<Vec<Line>, AllocError>
+        ensures { IfOk result (λ lines. AreDescendantLines self.now.settings.now
+            (record { old = old.now; new = new.now; marks = lent_marks marks.now }) base.now lines.items) }
+    {
         let changes = compare_descendants(self.alloc, old, new, &self.settings.mapping, base)?;
         let mut lines = Vec::new(self.alloc);
         push_descendants(self.alloc, &mut lines, &changes)?;
-        Ok(lines)
+        self.shown_of_child(marks, lines)
+    }
+
+    /// The lines of a child, with these conditions in the place of their markers: PRINCIPAL SELF is the child's own.
+    fn shown_of_child(&self, marks: &[&TypedAce], lines: Vec<Line>) -> Result<Vec<Line>, AllocError>
+        ensures { IfOk result (λ shown. shown.items
+            ≡ shown_by (of_child self.now.settings.now) (lent_marks marks.now) lines.items) }
+    {
+        let settings = Settings {
+            principal_self: None,
+            ..*self.settings
+        };
+        let of_child = CommandContext {
+            alloc: self.alloc,
+            settings: &settings,
+        };
+        of_child.shown_by(marks, lines)
+    }
+}
+
+/// The conditions for which markers stand: those of what is made in a container, where these are given.
+fn marks_in<'a>(handed: Option<&'a Handed<'a>>, marks: &'a [&'a TypedAce]) -> &'a [&'a TypedAce]
+    ensures { (old new : DescriptorValue) → lent_marks result.now
+        ≡ (handed_or (lent_handed handed.entry) (lent_marks marks.now) old new).marks }
+{
+    match handed {
+        Some(handed) => &handed.marks,
+        None => marks,
     }
 }

@@ -13,7 +13,7 @@ use crate::descriptor::{Given, note_left_out_sacl};
 use crate::diagnostic::{fault_text, sddl_fault_text, told_line, word_argument};
 use crate::settings::{CommandContext, Settings};
 use crate::verdict::{Form, Subject};
-use crate::whole::{is_compare, takes_whole};
+use crate::whole::takes_whole;
 use crate::words::argument;
 use sd_acl::Descriptor;
 use sd_answer::{fault_line, sddl_fault_line};
@@ -201,7 +201,7 @@ impl CommandContext<'_> {
             (answer_of answer)) }
     {
         let (below, object) = (self.settings.below, self.settings.object);
-        let looks_at_all = takes_whole(below, object, question) || is_compare(question);
+        let looks_at_all = takes_whole(below, object, question);
         if self.settings.whole && looks_at_all {
             return self.answer_wholly(question, sddl, arguments);
         }

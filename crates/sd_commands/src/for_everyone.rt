@@ -1,8 +1,7 @@
 //! The plain descriptor that an argument's text is whoever asks, under `--whole`.
-ghost use Rattle.std.specs.Prelude.{◌≡◌, IfErr, IfOk, Ok};
+ghost use Rattle.std.specs.Prelude.{◌≡◌, IfOk};
 ghost use Rattle.sd_acl.specs.Descriptor.{descriptor_of};
-ghost use Rattle.sd_commands.specs.ForEveryone.{IsForEveryone, IsOfEveryone, IsPlainFor, IsSeen, IsUndecidedBy};
-ghost use Rattle.sd_commands.specs.ForEveryone.{marks_of, seen_as, view_of};
+ghost use Rattle.sd_commands.specs.ForEveryone.{IsForEveryone, IsOfEveryone, IsPlainFor, marks_of};
 ghost use Rattle.sd_commands.specs.WholeVerdict.{everyone_context};
 ghost use Rattle.sd_specialize.specs.Marked.{lent_marks, marked};
 ghost use Rattle.sd_specialize.specs.Specialize.{Gives};
@@ -12,9 +11,9 @@ use crate::command_answer::Answer;
 use crate::descriptor::{missing_dacl, note_sacl};
 use crate::settings::CommandContext;
 use sd_acl::Descriptor;
-use sd_specialize::{SpecializeError, SpecializeFault, conditionals, marked_for_everyone};
+use sd_specialize::{SpecializeError, conditionals, marked_for_everyone};
 use sd_text::TextError;
-use sd_whole::{OddEntry, PlainError, TypedAce, WholeAcl, WholeDescriptor};
+use sd_whole::{TypedAce, WholeAcl, WholeDescriptor};
 use sd_whole_parse::read_whole_sddl;
 use std::alloc::AllocError;
 
@@ -25,23 +24,6 @@ pub(crate) struct PlainForEveryone {
     pub(crate) whole: WholeDescriptor,
 }
 
-/// As what a whole descriptor is looked at.
-#[derive(Clone, Copy)]
-pub(crate) enum View {
-    /// As an object, where markers stand for conditions.
-    Marked,
-    /// As a container, also by what is made in it.
-    Below,
-}
-
-impl View {
-    pub(crate) fn of(object: bool) -> View
-        ensures { result ≡ view_of object }
-    {
-        if object { View::Marked } else { View::Below }
-    }
-}
-
 /// What an argument is whoever asks.
 #[derive(Drop)]
 pub(crate) enum ForEveryone {
@@ -50,30 +32,20 @@ pub(crate) enum ForEveryone {
     Refused(Answer),
 }
 
-/// Why a whole descriptor is no plain one.
-pub(crate) enum Unplain {
-    /// An entry depends on who asks, or the list gets too large.
-    Undecided(SpecializeFault),
-    /// An entry of a container is no allow and no deny of a plain list.
-    Odd(OddEntry),
-    Memory,
-}
-
 impl CommandContext<'_> {
-    /// What the argument of this name is whoever asks ([MS-DTYP] 2.5.1.1, 2.5.3.2), as what it is looked at, with
-    /// markers behind those of a list before it, and of whose SACL this is left out. The only error is out of memory.
+    /// What the argument of this name is whoever asks ([MS-DTYP] 2.5.1.1, 2.5.3.2), with markers behind those of a list
+    /// before it, and of whose SACL this is left out. The only error is out of memory.
     pub(crate) fn of_everyone(
         &self,
         name: &str,
         what: &str,
-        view: View,
         before: &WholeAcl,
         sddl: &str,
     ) -> Result<ForEveryone, AllocError>
-        ensures { IfOk result (IsOfEveryone name.now what.now view before.now self.now.settings.now sddl.now) }
+        ensures { IfOk result (IsOfEveryone name.now what.now before.now self.now.settings.now sddl.now) }
     {
         match read_whole_sddl(self.alloc, self.settings.aliases, sddl) {
-            Ok(descriptor) => self.for_everyone(name, what, view, before, descriptor),
+            Ok(descriptor) => self.for_everyone(name, what, before, descriptor),
             Err(TextError::Fault { fault, place }) => {
                 let answer = self.sddl_fault(name, sddl, fault, place)?;
                 Ok(ForEveryone::Refused(answer))
@@ -87,14 +59,13 @@ impl CommandContext<'_> {
         &self,
         name: &str,
         what: &str,
-        view: View,
         before: &WholeAcl,
         descriptor: WholeDescriptor,
     ) -> Result<ForEveryone, AllocError>
-        ensures { IfOk result (IsForEveryone name.now what.now view before.now self.now.settings.now descriptor) }
+        ensures { IfOk result (IsForEveryone name.now what.now before.now self.now.settings.now descriptor) }
     {
         let is_there = has_sacl(&descriptor);
-        match self.plain_for(name, view, before, descriptor)? {
+        match self.plain_for(name, before, descriptor)? {
             ForEveryone::Plain(plain) => Ok(ForEveryone::Plain(plain)),
             ForEveryone::Refused(answer) => {
                 let answer = note_sacl(self.alloc, name, what, is_there, answer)?;
@@ -107,45 +78,20 @@ impl CommandContext<'_> {
     fn plain_for(
         &self,
         name: &str,
-        view: View,
         before: &WholeAcl,
         whole: WholeDescriptor,
     ) -> Result<ForEveryone, AllocError>
-        ensures { IfOk result (IsPlainFor name.now view before.now self.now.settings.now whole) }
+        ensures { IfOk result (IsPlainFor name.now before.now self.now.settings.now whole) }
     {
         if let Some(missing) = missing_dacl(self.settings, &whole.dacl) {
             return Ok(ForEveryone::Refused(self.fault("nodacl", name, missing)?));
         }
-        match self.seen_as(view, before, &whole) {
+        match self.marked(before, &whole) {
             Ok(descriptor) => { Ok(ForEveryone::Plain(PlainForEveryone { descriptor, whole })) }
-            Err(Unplain::Undecided(fault)) => {
+            Err(SpecializeError::Fault(fault)) => {
                 Ok(ForEveryone::Refused(self.undecided(name, fault)?))
             }
-            Err(Unplain::Odd(odd)) => Ok(ForEveryone::Refused(self.entry_fault(name, odd)?)),
-            Err(Unplain::Memory) => Err(AllocError),
-        }
-    }
-
-    /// The plain descriptor that the whole one is: of a container its plain part, which what is made in it inherits
-    /// ([MS-DTYP] 2.5.3.4).
-    fn seen_as(
-        &self,
-        view: View,
-        before: &WholeAcl,
-        descriptor: &WholeDescriptor,
-    ) -> Result<Descriptor, Unplain>
-        ensures plain { IfOk result (λ plain.
-            seen_as view before.now self.now.settings.now descriptor.now ≡ Ok (descriptor_of plain)) }
-        ensures none { IfErr result
-            (IsSeen (seen_as view before.now self.now.settings.now descriptor.now)) }
-    {
-        match view {
-            View::Marked => undecided(self.marked(before, descriptor)),
-            View::Below => match descriptor.plain_part(self.alloc) {
-                Ok(part) => Ok(part.descriptor),
-                Err(PlainError::Odd(odd)) => Err(Unplain::Odd(odd)),
-                Err(PlainError::Memory) => Err(Unplain::Memory),
-            },
+            Err(SpecializeError::Memory) => Err(AllocError),
         }
     }
 
@@ -176,17 +122,6 @@ impl CommandContext<'_> {
         let mut own = conditionals(self.alloc, dacl)?;
         marks.append(&mut own)?;
         Ok(marks)
-    }
-}
-
-/// Where there is none, that it can't be decided.
-fn undecided(found: Result<Descriptor, SpecializeError>) -> Result<Descriptor, Unplain>
-    ensures { IsUndecidedBy found result }
-{
-    match found {
-        Ok(plain) => Ok(plain),
-        Err(SpecializeError::Fault(fault)) => Err(Unplain::Undecided(fault)),
-        Err(SpecializeError::Memory) => Err(Unplain::Memory),
     }
 }
 

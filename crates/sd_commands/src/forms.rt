@@ -10,3 +10,9 @@ pub const MAY_BE_GRANTED: LineForm = (
     "risky grant by conditions",
     "{sid} may be granted {right}, by conditions",
 );
+
+// What an answer about a container leaves out.
+pub const OBJECT_ALONE: LineForm = (
+    "object alone",
+    "of the object alone: what is made in it is left out",
+);

@@ -24,6 +24,7 @@ mod diagnostic;
 mod escaped;
 mod for_everyone;
 mod forms;
+mod handed;
 mod kinds;
 mod labels;
 mod laws;

@@ -32,8 +32,8 @@ pub struct Settings {
     pub kind: Option<ObjectKind>,
     /// How the user logged on, if that is said.
     pub logon: Option<Logon>,
-    /// Whether descriptors may have a SACL and entries of every type: `verdict` and `why` look at both, `who` without
-    /// `below` and `compare` and `lint` with `object` at entries of every type, `compare` at the label too, and other
+    /// Whether descriptors may have a SACL and entries of every type: `verdict` and `why` look at both, `compare`,
+    /// `who` without `below` and `lint` with `object` at entries of every type, `compare` at the label too, and other
     /// questions at neither.
     pub whole: bool,
     /// Under `whole`, the object types that those are asked about.

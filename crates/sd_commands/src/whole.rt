@@ -6,7 +6,7 @@ ghost use Rattle.sd_commands.specs.Answer.{IsTold, answer_of};
 ghost use Rattle.sd_commands.specs.FromBinary.{AnswersWhole};
 ghost use Rattle.sd_commands.specs.Whole.{AnswersHeader, left_out_names, left_out_note};
 ghost use Rattle.sd_commands.specs.Whole.{AnswersText, PrintsWhole, WritesWhole};
-ghost use Rattle.sd_commands.specs.Whole.{acl_name, entry_place, is_compare, no_text_line, no_text_place};
+ghost use Rattle.sd_commands.specs.Whole.{acl_name, entry_place, no_text_line, no_text_place};
 ghost use Rattle.sd_commands.specs.Whole.{takes_whole, told_no_text};
 ghost use Rattle.sd_commands.specs.WholeText.{AnswersWholeOn, AnswersWholeText};
 
@@ -156,25 +156,17 @@ pub(crate) fn told_before(mut note: String, mut answer: Answer) -> Answered
     Ok(answer)
 }
 
-/// Whether the command looks at all that a whole descriptor has ([MS-DTYP] 2.5.1.1): it gives a verdict, prints to whom
-/// rights are granted, but not of what is made below the object, compares those of an object and no container or prints
-/// what is doubtful in that, or prints, sorts or writes the descriptor.
+/// Whether the command looks at all that a whole descriptor has ([MS-DTYP] 2.5.1.1): it gives a verdict, compares two,
+/// prints to whom rights are granted, but not of what is made below the object, or of an object and no container what
+/// is doubtful, or prints, sorts or writes the descriptor.
 pub fn takes_whole(below: bool, object: bool, question: DescriptorCommand) -> bool
     ensures { result ≡ takes_whole below object question }
 {
     match question {
         DescriptorCommand::Who => !below,
-        DescriptorCommand::Compare => object,
         DescriptorCommand::Lint => object,
         _ => true,
     }
-}
-
-/// Whether it is `compare`, which looks at a container's label, too.
-pub(crate) fn is_compare(question: DescriptorCommand) -> bool
-    ensures { result ≡ is_compare question }
-{
-    matches!(question, DescriptorCommand::Compare)
 }
 
 fn no_text_line(alloc: Global, why: NoText) -> Result<Line, AllocError>

@@ -4,18 +4,21 @@ ghost use Rattle.std.specs.Prelude.{IfOk};
 ghost use Rattle.sd_acl.specs.Descriptor.{descriptor_of};
 ghost use Rattle.sd_commands.specs.Answer.{answer_of};
 ghost use Rattle.sd_commands.specs.CommandAnswer.{AnswersCompareOfBoth, AnswersCompareOfWhole, AnswersCompareTo};
-ghost use Rattle.sd_commands.specs.CommandAnswer.{AnswersCompareMarked, AnswersWhoOfWhole};
+ghost use Rattle.sd_commands.specs.CommandAnswer.{AnswersCompareMarked, AnswersWhoOfWhole, AreLastLines};
 
 use crate::command_answer::Answered;
 use crate::descriptor::{ALL_BUT_LABEL, ALL_LEFT_OUT, note_left_out_sacl, note_sacl};
-use crate::for_everyone::{ForEveryone, PlainForEveryone, View, has_sacl};
+use crate::for_everyone::{ForEveryone, PlainForEveryone, has_sacl};
+use crate::handed::{children_are_left_out, children_left_out};
 use crate::labels::label_changes;
 use crate::limits::{change_has_limits, sacl_left_out};
 use crate::object_types::{change_has_types, note_types, types_left_out, who_has_types};
 use crate::settings::CommandContext;
 use crate::words::{argument, items_from};
+use sd_line::Line;
 use sd_specialize::{conditional_fault, conditionals};
-use sd_whole::WholeAcl;
+use sd_whole::{WholeAcl, WholeDescriptor};
+use std::alloc::AllocError;
 
 impl CommandContext<'_> {
     /// Whom rights are granted to by all that the text is ([MS-DTYP] 2.5.1.1), but its SACL: where an entry has a
@@ -25,7 +28,7 @@ impl CommandContext<'_> {
             (answer_of answer)) }
     {
         let before = WholeAcl::Absent;
-        let plain = match self.of_everyone("SDDL", ALL_LEFT_OUT, View::Marked, &before, sddl)? {
+        let plain = match self.of_everyone("SDDL", ALL_LEFT_OUT, &before, sddl)? {
             ForEveryone::Plain(plain) => plain,
             ForEveryone::Refused(answer) => return Ok(answer),
         };
@@ -44,8 +47,8 @@ impl CommandContext<'_> {
         ensures { IfOk result (λ answer. AnswersCompareOfWhole self.now.settings.now sddl.now arguments.now
             (answer_of answer)) }
     {
-        let (view, before) = (View::of(self.settings.object), WholeAcl::Absent);
-        let old = match self.of_everyone("OLD", ALL_BUT_LABEL, view, &before, sddl)? {
+        let before = WholeAcl::Absent;
+        let old = match self.of_everyone("OLD", ALL_BUT_LABEL, &before, sddl)? {
             ForEveryone::Plain(plain) => plain,
             ForEveryone::Refused(answer) => return Ok(answer),
         };
@@ -58,8 +61,8 @@ impl CommandContext<'_> {
         ensures { IfOk result (λ answer. AnswersCompareTo self.now.settings.now old.whole (descriptor_of old.descriptor)
             arguments.now (answer_of answer)) }
     {
-        let (view, text) = (View::of(self.settings.object), argument(arguments, 0));
-        let new = match self.of_everyone("NEW", ALL_BUT_LABEL, view, &old.whole.dacl, text)? {
+        let text = argument(arguments, 0);
+        let new = match self.of_everyone("NEW", ALL_BUT_LABEL, &old.whole.dacl, text)? {
             ForEveryone::Plain(plain) => plain,
             ForEveryone::Refused(answer) => return Ok(answer),
         };
@@ -96,14 +99,35 @@ impl CommandContext<'_> {
         let (plain_old, plain_new) = (old.descriptor, new.descriptor);
         let (old, new) = (old.whole, new.whole);
         let depends = change_has_types(&old, &new);
-        let limited = change_has_limits(self.alloc, !self.settings.object, &old, &new)?;
-        let mut last = label_changes(self.alloc, &old, &new)?;
-        let mut limits = sacl_left_out(self.alloc, limited)?;
-        let mut types = types_left_out(self.alloc, self.settings, depends)?;
+        let is_left = children_are_left_out(&old.dacl, &new.dacl);
+        let last = self.last_lines(&old, &new, depends, is_left)?;
+        let marks = self.marks_of(&old.dacl, &new.dacl)?;
+        let handed = self.handed_in(is_left, &old.dacl, &new.dacl)?;
+        let handed = handed.as_ref();
+        let answer = self.compare_with_base(plain_old, plain_new, &marks, handed, last, words)?;
+        note_types(self.alloc, self.settings, depends, answer)
+    }
+
+    /// Whether the label is another, and what of the SACLs, of types and of children is left out.
+    fn last_lines(
+        &self,
+        old: &WholeDescriptor,
+        new: &WholeDescriptor,
+        depends: bool,
+        is_left: bool,
+    ) -> Result<Vec<Line>, AllocError>
+        ensures { IfOk result (λ lines. AreLastLines self.now.settings.now depends is_left old.now new.now
+            lines.items) }
+    {
+        let (alloc, settings) = (self.alloc, self.settings);
+        let limited = change_has_limits(alloc, !settings.object, old, new)?;
+        let mut last = label_changes(alloc, old, new)?;
+        let mut limits = sacl_left_out(alloc, limited)?;
+        let mut types = types_left_out(alloc, settings, depends)?;
+        let mut children = children_left_out(alloc, !settings.object && is_left)?;
         last.append(&mut limits)?;
         last.append(&mut types)?;
-        let marks = self.marks_of(&old.dacl, &new.dacl)?;
-        let answer = self.compare_with_base(plain_old, plain_new, &marks, last, words)?;
-        note_types(self.alloc, self.settings, depends, answer)
+        last.append(&mut children)?;
+        Ok(last)
     }
 }

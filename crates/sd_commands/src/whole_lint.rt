@@ -12,7 +12,7 @@ ghost use Rattle.sd_specialize.specs.Marked.{conditionals};
 use crate::command_answer::{Answered, found};
 use crate::conditions::hides;
 use crate::descriptor::{ALL_LEFT_OUT, note_left_out_sacl, note_object};
-use crate::for_everyone::{ForEveryone, PlainForEveryone, View, has_sacl};
+use crate::for_everyone::{ForEveryone, PlainForEveryone, has_sacl};
 use crate::object::{leaves_out, looked_at};
 use crate::object_types::{has_types, note_types, types_left_out};
 use crate::settings::CommandContext;
@@ -35,7 +35,7 @@ impl CommandContext<'_> {
             (answer_of answer)) }
     {
         let before = WholeAcl::Absent;
-        let plain = match self.of_everyone("SDDL", ALL_LEFT_OUT, View::Marked, &before, sddl)? {
+        let plain = match self.of_everyone("SDDL", ALL_LEFT_OUT, &before, sddl)? {
             ForEveryone::Plain(plain) => plain,
             ForEveryone::Refused(answer) => return Ok(answer),
         };

@@ -49,7 +49,7 @@ use Rattle.sd_commands.specs.Answer.{AnswerValue, IsFaultOf, IsTold}
 use Rattle.sd_commands.specs.CommandAnswer.{AnswersOn, AnswersPlainly, AnswersQuestion, AnswersWholly, IsRefusedArgument, IsWordFault, argument}
 use Rattle.sd_commands.specs.Logon.{fits_logon, words_for}
 use Rattle.sd_commands.specs.Required.{missing_dacl}
-use Rattle.sd_commands.specs.Whole.{is_compare, takes_whole}
+use Rattle.sd_commands.specs.Whole.{takes_whole}
 use Rattle.sd_commands.specs.WholeVerdict.{verdict_outcome}
 use Rattle.sd_commands.specs.declared.command_answer.Outcome.TheVariants as outcomes
 use Rattle.sd_commands.specs.declared.logon.Logon.{Logon}
@@ -281,7 +281,7 @@ module _ (settings : Settings) (text mask : List ℕ) (wanted : List SidValue) (
     plainly_nothing answer (inr refused) = absurd (refused_not answer refused)
 
     question_nothing : (answer : AnswerValue) → AnswersQuestion settings (Descriptor Why) text arguments answer → GrantsNothing answer
-    question_nothing answer answers = plainly_nothing answer (subst (λ (w : Bool). MatchBool (w && (takes_whole settings.below settings.object Why || is_compare Why))
+    question_nothing answer answers = plainly_nothing answer (subst (λ (w : Bool). MatchBool (w && takes_whole settings.below settings.object Why)
         (AnswersWholly settings Why text arguments answer) (AnswersPlainly settings Why text arguments answer)) is.whole answers)
 
 -- a user who has none of the wanted SIDs is granted nothing, whatever `why` answers

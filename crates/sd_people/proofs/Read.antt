@@ -24,7 +24,7 @@ use Rattle.sd_usage.specs.declared.row.TextCommand.TheVariants.{Descriptor}
 use Rattle.sd_commands.specs.Answer.{AnswerValue, IsTold}
 use Rattle.sd_commands.specs.CommandAnswer.{AnswersOn, AnswersPlainly, AnswersQuestion, AnswersWholly, argument}
 use Rattle.sd_commands.specs.Logon.{fits_logon, words_for}
-use Rattle.sd_commands.specs.Whole.{is_compare, takes_whole}
+use Rattle.sd_commands.specs.Whole.{takes_whole}
 use Rattle.sd_commands.specs.declared.logon.Logon.{Logon}
 use Rattle.sd_commands.specs.declared.settings.Settings.{Settings}
 use Rattle.sd_whole_parse.specs.Part.{IsPart}
@@ -95,7 +95,7 @@ module _ (settings : Settings) (text mask : List ℕ) (reading : Reading) (is : 
     plainly = inl (descriptor_of reading.descriptor, false, (part, is.taken), (answer, refl, on_user))
 
     pub answered : AnswersQuestion settings (Descriptor Why) text arguments answer
-    answered = subst (λ (w : Bool). MatchBool (w && (takes_whole settings.below settings.object Why || is_compare Why))
+    answered = subst (λ (w : Bool). MatchBool (w && takes_whole settings.below settings.object Why)
         (AnswersWholly settings Why text arguments answer) (AnswersPlainly settings Why text arguments answer)) (sym is.whole) plainly
 
 -- ---- the groups of a user without words

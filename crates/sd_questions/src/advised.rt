@@ -110,12 +110,8 @@ fn push_left_out(
     let what = match question {
         TextCommand::Types
         | TextCommand::Descriptor(DescriptorCommand::Verdict | DescriptorCommand::Why) => POLICIES,
-        TextCommand::Descriptor(DescriptorCommand::Compare) if options.has(OptionName::Object) => {
-            ALL_BUT_LABELS
-        }
-        TextCommand::Descriptor(
-            DescriptorCommand::Who | DescriptorCommand::Compare | DescriptorCommand::Lint,
-        ) => SACLS,
+        TextCommand::Descriptor(DescriptorCommand::Compare) => ALL_BUT_LABELS,
+        TextCommand::Descriptor(DescriptorCommand::Who | DescriptorCommand::Lint) => SACLS,
         _ => return Ok(()),
     };
     let note = told_line(alloc, "SDDL", what)?;
@@ -134,9 +130,8 @@ fn push_types(
         TextCommand::Descriptor(DescriptorCommand::Who) => {
             is_of_whole && !options.has(OptionName::Below)
         }
-        TextCommand::Descriptor(DescriptorCommand::Compare | DescriptorCommand::Lint) => {
-            options.has(OptionName::Object)
-        }
+        TextCommand::Descriptor(DescriptorCommand::Compare) => true,
+        TextCommand::Descriptor(DescriptorCommand::Lint) => options.has(OptionName::Object),
         _ => false,
     };
     if depends {
@@ -291,10 +286,7 @@ fn part_row(
 /// The row of advice for an entry that is no allow and no deny.
 fn odd_row(question: DescriptorCommand, odd: OddEntry) -> RemedyRow {
     match (question, odd.kind) {
-        (
-            DescriptorCommand::Compare | DescriptorCommand::Lint,
-            OddKind::ObjectAce | OddKind::ConditionalAce,
-        ) => OBJECT_ENTRY,
+        (DescriptorCommand::Lint, OddKind::ObjectAce | OddKind::ConditionalAce) => OBJECT_ENTRY,
         _ => ODD_ENTRY,
     }
 }

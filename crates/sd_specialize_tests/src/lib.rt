@@ -5,6 +5,8 @@
 #[cfg(test)]
 mod access_tests;
 #[cfg(test)]
+mod children_tests;
+#[cfg(test)]
 mod marked_tests;
 #[cfg(test)]
 mod rows;

@@ -168,11 +168,12 @@ user, as arguments of 'sdstore verdict' after the descriptor and the mask:
   new objects: gained 0x1 by S-1-1-0
 The last is about what is made in it, if it is a container, and left out with '--object'.
 'everyone' is any user that neither descriptor names.
-With '--whole' and '--object' the lines are about the object types of '--type', or without one about
-the whole object, as in Active Directory. With '--whole' the last lines may be:
+With '--whole' the lines are about the object types of '--type', or without one about the whole
+object, as in Active Directory, and the last ones may be:
   label: was high no-write-up, is medium no-write-up
   of the DACL and the label alone: the rest of the SACL is left out
   of the whole object alone: object types are left out
+  of the object alone: what is made in it is left out
 
 Statuses:
   0  same

@@ -36,7 +36,7 @@ MASK, and prints entries with names of that kind alone",
         "\
 takes descriptors with a SACL and with entries of every type. What prints a descriptor prints all of
 it, and what has no text is a fault; 'verdict', 'why' and 'types' look at the label, the claims, the
-object types and the conditions, 'compare' at the label, and 'who' without '--below' and 'compare' and
+object types and the conditions, 'compare' at the label, and 'compare', 'who' without '--below' and
 'lint' with '--object' at the object types and the conditions; other questions and a script leave the
 SACL out, which is reported on standard error, of a script by the answer 'ok differs', and an object
 or a conditional entry in a DACL is a fault there",

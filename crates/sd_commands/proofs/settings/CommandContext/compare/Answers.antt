@@ -9,5 +9,5 @@ returns c = inl (
   descriptor_of c.in-Descriptor.part.descriptor,
   c.in-Descriptor.part.left_out,
   rw (c.argument.ensures, c.in-Descriptor.is) at c.in_ok-part.ensures,
-  (answer_of c.in_ok-answer.answer, c.in_ok-note_left_out_sacl.ensures, rw (c.new.ensures.items, c.items_from-words.ensures.rest) at c.in_ok-answer.ensures),
+  (answer_of c.in_ok-answer.answer, c.in_ok-note_left_out_sacl.ensures, rw (c.new-last.ensures.items, c.items_from-words.ensures.rest) at c.in_ok-answer.ensures),
 )

@@ -1,22 +1,30 @@
 use Rattle.std.specs.Borrow.{Bor}
+use Rattle.std.specs.Prelude.{option_copied, option_map}
 use Rattle.sd_acl.specs.Descriptor.{DescriptorValue, descriptor_of}
 use Rattle.sd_line.specs.Line.{LineOf}
 use Rattle.sd_whole.specs.declared.ace.TypedAce.{TypedAce}
 use Rattle.sd_commands.specs.Answer.{AnswerValue}
+use Rattle.sd_commands.specs.Handed.{HandedValue, handed_of, lent_handed}
+use Rattle.sd_commands.specs.declared.handed.Handed.{Handed}
 use Rattle.sd_commands.specs.declared.settings.Settings.{Settings}
-use Rattle.sd_commands.proofs.Cited.{IfOk-weaker, List, answer_of, ap, ap₂, subst, ℕ, ◌++◌, ◌∙◌, ◌≡◌}
+use Rattle.sd_commands.proofs.Cited.{IfOk-weaker, List, None, Option, Some, answer_of, ap, subst, ℕ, ◌∙◌, ◌≡◌}
 use Rattle.sd_commands.specs.CommandAnswer.{AnswersComparison, AnswersOfBase}
 use Rattle.sd_specialize.specs.Marked.{lent_marks}
 use Rattle.sd_commands.proofs.settings.CommandContext.compare_marked.Goals as goal
 
--- by other names of the same conditions and lines it is the same answer
+-- what is lent is what is owned
+lent : (handed : Option (Bor Handed)) (own : Option Handed) → option_copied handed ≡ own → lent_handed handed ≡ option_map handed_of own
+lent None own is = ap (option_map handed_of) is
+lent (Some handed) own is = ap (option_map handed_of) is
+
+-- by other names of the same conditions and entries it is the same answer
 alike : (settings : Settings) (words : List (Bor (List ℕ))) (old new : DescriptorValue) (answer : AnswerValue)
-    (some these : List TypedAce) (lines last : List LineOf) → some ≡ these → lines ≡ last
-    → AnswersOfBase settings words (AnswersComparison settings some lines old new) answer
-    → AnswersOfBase settings words (AnswersComparison settings these last old new) answer
-alike settings words old new answer some these lines last same ends said =
-    subst (λ all. AnswersOfBase settings words (AnswersComparison settings all last old new) answer) same
-    (subst (λ all. AnswersOfBase settings words (AnswersComparison settings some all old new) answer) ends said)
+    (some these : List TypedAce) (one handed : Option HandedValue) (last : List LineOf) → some ≡ these → one ≡ handed
+    → AnswersOfBase settings words (AnswersComparison settings some one last old new) answer
+    → AnswersOfBase settings words (AnswersComparison settings these handed last old new) answer
+alike settings words old new answer some these one handed last same inherits said =
+    subst (λ all. AnswersOfBase settings words (AnswersComparison settings all handed last old new) answer) same
+    (subst (λ all. AnswersOfBase settings words (AnswersComparison settings some all last old new) answer) inherits said)
 
 pub returns : goal.returns
 returns c =
@@ -24,17 +32,18 @@ returns c =
     let old = descriptor_of c.args.old.descriptor in
     let new = descriptor_of c.args.new.descriptor in
     let inner = answer_of c.in_ok-answer.answer in
-    let first = c.in_ok-append.ensures.items ∙ ap₂ (λ own more. own ++ more) c.in_ok-last.ensures c.in_ok-limits.ensures in
-    let last = c.in_ok-append-2.ensures.items ∙ ap₂ (λ own more. own ++ more) first c.in_ok-types.ensures in
     let marks = ap lent_marks c.deref.ensures.value ∙ c.in_ok-marks.ensures in
+    let handed = lent _ _ c.as_ref-handed.ensures.value ∙ c.in_ok-handed.ensures in
     IfOk-weaker c.note_types.result _ _ (λ answer told. (
-      c.in_ok-limited.limited,
-      c.in_ok-limited.ensures,
+      c.children_are_left_out-is_left.result,
+      c.children_are_left_out-is_left.ensures,
       c.change_has_types-depends.result,
       c.change_has_types-depends.ensures,
+      c.in_ok-last.last.items,
+      c.in_ok-last.ensures,
       (
         inner,
         told,
-        alike settings c.args.words.now old new inner _ _ _ _ marks last c.in_ok-answer.ensures,
+        alike settings c.args.words.now old new inner _ _ _ _ _ marks handed c.in_ok-answer.ensures,
       ),
     )) c.note_types.ensures

@@ -6,7 +6,6 @@ use Rattle.sd_commands.specs.Answer.{IsTold}
 use Rattle.sd_commands.specs.CommandAnswer.{AnswersOfBase, AnswersUnhidden}
 use Rattle.sd_commands.specs.Diagnostic.{all_left_out, sacl_note}
 use Rattle.sd_commands.specs.ForEveryone.{IsOfEveryone}
-use Rattle.sd_commands.specs.declared.for_everyone.View.TheVariants.{Marked}
 use Rattle.sd_acl.specs.declared.descriptor.DaclOf.TheVariants.{Absent}
 use Rattle.sd_commands.specs.ObjectTypes.{NotingTypes, has_types, types_left_out, types_note}
 use Rattle.sd_commands.specs.WholeLint.{AnswersWholeFindings}
@@ -22,11 +21,11 @@ returns c =
     let inner = answer_of c.in_ok-answer-2.answer in
     let left_out = c.in_ok-left_out.ensures ∙ ap (types_left_out settings) c.has_types-depends.ensures in
     IfOk-weaker c.note_left_out_sacl.result _ _
-    (λ noted told. taken (codes "SDDL") all_left_out Marked Absent settings c.args.sddl.now
+    (λ noted told. taken (codes "SDDL") all_left_out Absent settings c.args.sddl.now
     (λ whole d. NotingTypes settings (has_types whole.dacl) (λ lines. AnswersOfBase settings words
     (λ base. AnswersUnhidden (conditionals whole.dacl) base (AnswersWholeFindings settings whole lines d base))))
     (answer_of noted) plain inner
-    (subst (IsOfEveryone (codes "SDDL") all_left_out Marked Absent settings c.args.sddl.now) c.in-Plain.is c.in_ok-plain.ensures) (
+    (subst (IsOfEveryone (codes "SDDL") all_left_out Absent settings c.args.sddl.now) c.in-Plain.is c.in_ok-plain.ensures) (
       first,
       subst (λ depends. IsTold (types_note settings depends) first inner) c.has_types-depends.ensures c.in_ok-answer-2.ensures,
       subst (λ lines. AnswersOfBase settings words (λ base. AnswersUnhidden (conditionals plain.whole.dacl) base

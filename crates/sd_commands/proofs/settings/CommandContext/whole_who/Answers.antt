@@ -7,7 +7,6 @@ use Rattle.sd_commands.specs.Chain.{types_of}
 use Rattle.sd_commands.specs.CommandAnswer.{AnswersWho}
 use Rattle.sd_commands.specs.Diagnostic.{all_left_out, sacl_note}
 use Rattle.sd_commands.specs.ForEveryone.{IsOfEveryone}
-use Rattle.sd_commands.specs.declared.for_everyone.View.TheVariants.{Marked}
 use Rattle.sd_acl.specs.declared.descriptor.DaclOf.TheVariants.{Absent}
 use Rattle.sd_commands.specs.ObjectTypes.{NotingTypes, has_types, is_of_whole, types_left_out, types_note}
 use Rattle.sd_specialize.specs.Marked.{conditionals, lent_marks}
@@ -22,10 +21,10 @@ returns c =
     let inner = answer_of c.in_ok-answer-2.answer in
     let left_out = c.in_ok-left_out.ensures ∙ ap (types_left_out settings) c.who_has_types-depends.ensures in
     IfOk-weaker c.note_left_out_sacl.result _ _
-    (λ noted told. taken (codes "SDDL") all_left_out Marked Absent settings c.args.sddl.now
+    (λ noted told. taken (codes "SDDL") all_left_out Absent settings c.args.sddl.now
     (λ whole d. NotingTypes settings (has_types whole.dacl && is_of_whole (types_of settings.chain)) (λ lines. AnswersWho settings (conditionals whole.dacl) lines arguments d))
     (answer_of noted) plain inner
-    (subst (IsOfEveryone (codes "SDDL") all_left_out Marked Absent settings c.args.sddl.now) c.in-Plain.is c.in_ok-plain.ensures) (
+    (subst (IsOfEveryone (codes "SDDL") all_left_out Absent settings c.args.sddl.now) c.in-Plain.is c.in_ok-plain.ensures) (
       first,
       subst (λ depends. IsTold (types_note settings depends) first inner) c.who_has_types-depends.ensures c.in_ok-answer-2.ensures,
       subst (λ lines. AnswersWho settings (conditionals plain.whole.dacl) lines arguments (descriptor_of plain.descriptor) first) left_out
