@@ -3,9 +3,10 @@ lines of `who` grant just the rights that the model grants it, and those of `com
 loses; and the token of each line gains or loses the rights, where just the conditions that the line has let entries
 apply."""
 
+import dataclasses
 import json
 import subprocess
-from typing import Any, Dict, List, Tuple
+from typing import Any, Dict, Iterable, List, Optional, Tuple
 
 import access
 import evaluate
@@ -89,15 +90,46 @@ def compared(program: str, question: access.Question, text: str) -> Tuple[List[D
 # ---- compare
 
 
+#: Whether it is of an allow or a deny, the SID of its entry, and its condition.
+Marker = Tuple[str, str, bytes]
+
+
+def marker_of(entry: model.Entry) -> Marker:
+    return "D" if entry.kind in access.DENIES else "A", entry.sid, entry.data
+
+
+def markers_in(descriptor: model.Descriptor) -> List[Marker]:
+    """Those of the effective entries with a condition."""
+    return [marker_of(entry) for entry in access.entries_of(descriptor.dacl)
+            if isinstance(entry, model.Entry) and entry.kind in access.CALLBACKS and access.is_effective(entry)]
+
+
 class Marking(access.Specializing):
-    """An entry with a condition is for who has just its SID and condition, as a word of a line."""
+    """An entry with a condition is for who has its SID and condition, as a word of a line; a plain one is also for who
+    has a marker of its SID, but for an allow not for that of a deny, who may have the SID for denies alone."""
+
+    def __init__(self, question: access.Question, facts: Any, markers: Iterable[Marker] = ()):
+        super().__init__(question, facts)
+        self.markers = list(dict.fromkeys(markers))
 
     def entry(self, number: int, entry: Any) -> second.Entry:
         if entry.kind not in access.CALLBACKS:
             return super().entry(number, entry)
-        kind = "D" if entry.kind in access.DENIES else "A"
+        marker = marker_of(entry)
         mask = access.mapped(entry.mask, self.question.mapping) if self.has_type(entry) else 0
-        return second.Entry(kind, 0, mask, (kind, entry.sid, entry.data))
+        return second.Entry(marker[0], 0, mask, marker)
+
+    def entries(self, acl: Any) -> Optional[List[second.Entry]]:
+        found = super().entries(acl)
+        return found and [each for entry in found for each in (entry, *self.copies(entry))]
+
+    def copies(self, entry: second.Entry) -> List[second.Entry]:
+        return [dataclasses.replace(entry, sid=marker) for marker in self.markers
+                if entry.sid == self.trustee(marker[1]) and not (entry.kind == "A" and marker[0] == "D")]
+
+    def trustee(self, sid: str) -> Any:
+        named = self.question.principal_self
+        return evaluate.parts(spelling.sid(named) if named and sid == access.PRINCIPAL_SELF else sid)
 
 
 def named(word: str) -> Tuple[Any, str]:
@@ -121,15 +153,15 @@ def token_of(line: Dict[str, Any]) -> second.Token:
 class Changed:
     """OLD and NEW, and what the model says of them."""
 
-    def __init__(self, question: access.Question, both: List[model.Descriptor]):
-        self.question, self.both = question, both
+    def __init__(self, question: access.Question, both: List[model.Descriptor], markers: Iterable[Marker] = ()):
+        self.question, self.both, self.markers = question, both, list(markers)
         self.was, self.now = (Asked(descriptor, question) for descriptor in both)
 
     def is_shown(self, line: Dict[str, Any]) -> bool:
         """Whether the token of a line gains or loses all of its rights."""
         token, bits, found = token_of(line), int(line["mask"], 16), []
         for descriptor, asked in zip(self.both, (self.was, self.now)):
-            entries = Marking(self.question, asked.facts).entries(descriptor.dacl)
+            entries = Marking(self.question, asked.facts, self.markers).entries(descriptor.dacl)
             owner = evaluate.parts(descriptor.owner) if descriptor.owner else None
             found.append(access.Plain(owner, entries, token, 0).grants(bits))
         return found == ([0, bits] if line["answer"] == "gained" else [bits, 0])
@@ -156,7 +188,8 @@ def with_list(text: str, other: str) -> str:
 def changes(program: str, question: access.Question, old: str, new: str) -> Tuple[List[Dict[str, Any]], str]:
     """The lines of `compare`, and by the model what they miss, and those that are of nobody."""
     lines = [line for line in lines_of(program, question, "--object", "compare", old, new) if line["answer"] != "same"]
-    return lines, Changed(question, [parsing.descriptor(text, DOMAIN) for text in (old, new)]).left(lines)
+    both = [parsing.descriptor(text, DOMAIN) for text in (old, new)]
+    return lines, Changed(question, both, [marker for descriptor in both for marker in markers_in(descriptor)]).left(lines)
 
 
 # ---- what is made in a container

@@ -66,7 +66,7 @@ use Rattle.sd_commands.specs.Answer.{value_line, AnswerValue, answer_of, IsAnswe
 use Rattle.sd_commands.specs.Answer.{AnswersFit, IsFaultOf, IsFound, Noting, Telling, IsMissingDacl, descriptor_line}
 use Rattle.sd_commands.specs.Chain.{types_of}
 use Rattle.sd_commands.specs.Conditions.{hides, shown_by}
-use Rattle.sd_commands.specs.ForEveryone.{AnswersOfEveryone, marks_of}
+use Rattle.sd_commands.specs.ForEveryone.{AnswersOfEveryone, compared_as, marks_of}
 use Rattle.sd_commands.specs.Handed.{ChildrenAreLeftOut, HandedValue, children_left_out, handed_in, handed_or}
 use Rattle.sd_acl.specs.declared.descriptor.DaclOf.TheVariants.{Absent}
 use Rattle.sd_specialize.specs.Everyone.{conditional_fault}
@@ -410,7 +410,7 @@ AreLastLines settings depends is_left old new lines =
     × (lines ≡ ((label_changes old new ++ sacl_left_out limited) ++ types_left_out settings depends)
     ++ children_left_out (not settings.object && is_left))
 
--- what `compare` answers of two, by one list of markers
+-- what `compare` answers of two, by one list of markers, with copies for each
 abbrev pub AnswersCompareMarked : Settings → (old : WholeDescriptor) → DescriptorValue → (new : WholeDescriptor)
     → DescriptorValue → List (Bor (List ℕ)) → AnswerValue → Type 0
 AnswersCompareMarked settings old plain_old new plain_new words answer =
@@ -418,7 +418,8 @@ AnswersCompareMarked settings old plain_old new plain_new words answer =
     × (depends : Bool) × ChangeHasTypes depends old new
     × (last : List LineOf) × AreLastLines settings depends is_left old new last
     × Telling (types_note settings depends) (AnswersOfBase settings words (AnswersComparison settings
-    (marks_of old.dacl new.dacl) (handed_in settings.object is_left old.dacl new.dacl) last plain_old plain_new)) answer
+    (marks_of old.dacl new.dacl) (handed_in settings.object is_left old.dacl new.dacl) last
+    (compared_as settings old new plain_old) (compared_as settings old new plain_new))) answer
 
 -- that, where neither has a SID that is a marker of the other's conditions
 abbrev pub AnswersCompareOfBoth : Settings → (old : WholeDescriptor) → DescriptorValue → (new : WholeDescriptor)

@@ -2,6 +2,7 @@
 -- ([MS-DTYP] 2.5.3.2).
 use Rattle.std.specs.Prelude.{◌≡◌, ℕ, List, ◌++◌, None, Result, Ok, Err}
 use Rattle.sd_acl.specs.Descriptor.{DescriptorValue, descriptor_of}
+use Rattle.sd_specialize.specs.Copies.{with_copies}
 use Rattle.sd_specialize.specs.Marked.{conditionals, marked}
 use Rattle.sd_specialize.specs.declared.fault.SpecializeFault.{SpecializeFault}
 use Rattle.sd_whole.specs.Plain.{has_sacl}
@@ -25,6 +26,10 @@ marks_of before dacl = conditionals before ++ conditionals dacl
 -- the plain descriptor that the whole one is, or the entry that depends on who asks
 abbrev pub seen_as : (before : WholeAcl) → Settings → WholeDescriptor → Result DescriptorValue SpecializeFault
 seen_as before settings d = marked (everyone_context settings) (marks_of before d.dacl) d
+
+-- the plain one of either as `compare` looks at it: with copies of its entries for the markers of both
+abbrev pub compared_as : Settings → (old new : WholeDescriptor) → DescriptorValue → DescriptorValue
+compared_as settings old new plain = with_copies (everyone_context settings) (marks_of old.dacl new.dacl) plain
 
 -- what is answered of that, where the whole one is the argument of this name, or which entry it is
 abbrev pub AnswersSeen : List ℕ → Result DescriptorValue SpecializeFault

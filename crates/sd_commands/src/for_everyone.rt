@@ -3,6 +3,7 @@ ghost use Rattle.std.specs.Prelude.{◌≡◌, IfOk};
 ghost use Rattle.sd_acl.specs.Descriptor.{descriptor_of};
 ghost use Rattle.sd_commands.specs.ForEveryone.{IsForEveryone, IsOfEveryone, IsPlainFor, marks_of};
 ghost use Rattle.sd_commands.specs.WholeVerdict.{everyone_context};
+ghost use Rattle.sd_specialize.specs.Copies.{with_copies};
 ghost use Rattle.sd_specialize.specs.Marked.{lent_marks, marked};
 ghost use Rattle.sd_specialize.specs.Specialize.{Gives};
 ghost use Rattle.sd_whole.specs.Plain.{has_sacl};
@@ -11,7 +12,9 @@ use crate::command_answer::Answer;
 use crate::descriptor::{missing_dacl, note_sacl};
 use crate::settings::CommandContext;
 use sd_acl::Descriptor;
-use sd_specialize::{SpecializeError, conditionals, marked_for_everyone};
+use sd_specialize::{
+    Conditions, Context, SpecializeError, conditionals, marked_for_everyone, with_copies,
+};
 use sd_text::TextError;
 use sd_whole::{TypedAce, WholeAcl, WholeDescriptor};
 use sd_whole_parse::read_whole_sddl;
@@ -122,6 +125,23 @@ impl CommandContext<'_> {
         let mut own = conditionals(self.alloc, dacl)?;
         marks.append(&mut own)?;
         Ok(marks)
+    }
+
+    /// The plain descriptor in which markers stand for these conditions, with copies of its entries for them.
+    pub(crate) fn with_copies(
+        &self,
+        marks: &[&TypedAce],
+        descriptor: Descriptor,
+    ) -> Result<Descriptor, AllocError>
+        ensures { IfOk result (λ more. descriptor_of more ≡ with_copies (everyone_context self.now.settings.now)
+            (lent_marks marks.now) (descriptor_of descriptor)) }
+    {
+        let context = Context {
+            conditions: Conditions::Unknown,
+            chain: self.settings.chain.types(),
+            principal_self: self.settings.principal_self,
+        };
+        with_copies(self.alloc, &context, marks, descriptor)
     }
 }
 

@@ -102,6 +102,8 @@ impl CommandContext<'_> {
         let is_left = children_are_left_out(&old.dacl, &new.dacl);
         let last = self.last_lines(&old, &new, depends, is_left)?;
         let marks = self.marks_of(&old.dacl, &new.dacl)?;
+        let plain_old = self.with_copies(&marks, plain_old)?;
+        let plain_new = self.with_copies(&marks, plain_new)?;
         let handed = self.handed_in(is_left, &old.dacl, &new.dacl)?;
         let handed = handed.as_ref();
         let answer = self.compare_with_base(plain_old, plain_new, &marks, handed, last, words)?;
