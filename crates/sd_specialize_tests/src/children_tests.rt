@@ -60,7 +60,7 @@ fn children_inherit_plain_entries(rt: HostRuntime) -> Result<(), Fail> {
         );
         count = count.saturating_add(1);
     }
-    assert!(rt; count == 16, "{count}");
+    assert!(rt; count == 15, "{count}");
     Ok(())
 }
 
