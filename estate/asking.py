@@ -72,7 +72,8 @@ def asking_as(
 ) -> list[str]:
     """The user, the rights, and what the user has: the groups of its account, or those that are assumed."""
     if people is not None:
-        require_own_groups(words, only_given)
+        # (user=deny is about the user itself)
+        require_own_groups((word for word in words if word != "user=deny"), only_given)
         own, *groups = (sid.full for sid in people.sids(user))
         return [own, mask, *groups, *words]
     assumed = questions.assumed_groups((user, *words), only_given, table)

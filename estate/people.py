@@ -67,7 +67,7 @@ def require_own_groups(words: Iterable[str], only_given: bool) -> None:
     if only_given:
         raise Invalid("--only-given: by --accounts each user has the groups of a logon: leave out one of both")
     for word in words:
-        if word != "user=deny" and not word.startswith("+") and word.partition("=")[2] in _OF_GROUPS:
+        if not word.startswith("+") and word.partition("=")[2] in _OF_GROUPS:
             raise Invalid(
                 f"{word}: by --accounts each user has the groups of the file: a line 'member GROUP USER' of it adds "
                 "one, and 'sdstore --accounts' takes others"

@@ -129,7 +129,7 @@ class Asked(Case):
             ((*find, "alice", "0x1", "--only-given", *accounts), "--only-given: by --accounts each user has"),
             ((*who, "--only-given", *accounts), "--only-given: by --accounts each user has"),
             ((*who, "AU", *accounts), "AU: by --accounts each user has the groups of the file"),
-            ((*who, "user=deny", *accounts), "sdstore who: fault token"),
+            ((*who, "user=deny", *accounts), "user=deny: by --accounts each user has the groups of the file"),
             (("review", "tree", "/", "AU", *accounts), "AU: by --accounts each user has the groups of the file"),
             ((*who, "--accounts", "lost"), "lost: line 2: it says that accounts are missing"),
             ((*who, "--accounts", "bad"), "bad: line 2: the name is missing, or has a control character"),
