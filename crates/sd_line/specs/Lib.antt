@@ -7,5 +7,6 @@ pub mod Mask
 pub mod MaskNames
 pub mod Names
 pub mod Printed
+pub mod Request
 pub mod Rights
 pub mod Spelling
