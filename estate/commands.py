@@ -36,7 +36,7 @@ from workbook import is_workbook, require_workbooks
 from atomic_file import atomic_file
 from writing import Move, apply, backward, check_target, forward
 
-ATTRIBUTES = {"ntfs": Attribute.NTFS, "samba": Attribute.SAMBA}
+ATTRIBUTES = {"ntfs": Attribute.NTFS, "samba": Attribute.SAMBA, "smb": Attribute.SMB}
 
 
 def read(arguments: argparse.Namespace, table: Table) -> int:
@@ -121,6 +121,8 @@ def plan(arguments: argparse.Namespace, table: Table) -> int:
 
 
 def _planned(script: Script, volume: Volume, arguments: argparse.Namespace, table: Table) -> Plan:
+    if not volume.attribute.is_written:
+        raise Invalid(f"{volume.name}: a share that is mounted by cifs is read alone: 'estate icacls' writes a file for it")
     made = Plan(script, volume, table, Leave(arguments.replace_differing, arguments.leave_unread))
     made.make()
     if made.stops:

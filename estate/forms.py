@@ -17,10 +17,17 @@ class Attribute(enum.Enum):
 
     NTFS = "system.ntfs_acl"
     SAMBA = "security.NTACL"
+    #: Of Linux' cifs, for a share of a server; the attribute without `full` lacks the SACL.
+    SMB = "system.cifs_ntsd_full"
+
+    @property
+    def is_written(self) -> bool:
+        """Whether a write replaces it. A server makes of what it is sent what it will."""
+        return self is not Attribute.SMB
 
     def place_in(self, blob: bytes) -> int:
         """The offset of the descriptor's header in the attribute, or a ValueError."""
-        return 0 if self is Attribute.NTFS else _place_in_ntacl(blob)
+        return _place_in_ntacl(blob) if self is Attribute.SAMBA else 0
 
 
 def _place_in_ntacl(blob: bytes) -> int:

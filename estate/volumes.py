@@ -85,8 +85,8 @@ class Volume:
                 if error.errno in (errno.ENODATA, errno.ENOTSUP):
                     continue
             return attribute
-        names = " nor ".join(attribute.value for attribute in Attribute)
-        raise Invalid(f"{self.name}: it has neither {names}; if folders in it have one, name it by --attribute")
+        names = ", ".join(attribute.value for attribute in Attribute)
+        raise Invalid(f"{self.name}: it has none of {names}; if folders in it have one, name it by --attribute")
 
     def walk(self, exclusion: Exclusion, root: str | None = None) -> Iterator[Found]:
         """Each node, as Found says; a folder that is excluded isn't opened. A volume that disappears is Failed. `root`

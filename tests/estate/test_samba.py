@@ -91,7 +91,7 @@ class Samba(Case):
         os.removexattr(self.share, "security.NTACL")
         (self.share / "file").touch()
         self.by_samba("write", [f"4 {self.at(('file',))} {root.hex()}"])
-        self.runs(2, "read", self.share, "script", says="it has neither system.ntfs_acl nor security.NTACL")
+        self.runs(2, "read", self.share, "script", says="it has none of system.ntfs_acl, security.NTACL")
         self.runs(2, "read", "--attribute", "samba", self.share, "script", says="--root gives it a descriptor")
         self.runs(0, "read", "--attribute", "samba", "--root", "O:BAG:SYD:P", self.share, "script")
         lines = (self.room / "script").read_text().splitlines()
