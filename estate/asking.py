@@ -13,6 +13,7 @@ from errors import EstateError, Failed, Invalid
 from gaps import Coverage
 from people import People, require_own_groups
 from script import Script, read_script
+from shares import require_rights, share_of
 from served import Served
 from table import Table, plural, say
 
@@ -27,8 +28,11 @@ class Asked:
     """A script that questions are about, with the users of a file of accounts if there is one. It is loaded once, and
     so is the tree of `sdstore serve`."""
 
-    def __init__(self, script: Script, people: People | None, only_given: bool, table: Table) -> None:
-        self._script, self._people, self._only_given, self._table = script, people, only_given, table
+    def __init__(
+        self, script: Script, people: People | None, share: str | None, only_given: bool, table: Table
+    ) -> None:
+        self._script, self._people, self._share = script, people, share
+        self._only_given, self._table = only_given, table
         self._served: Served | None = None
 
     def close(self) -> None:
@@ -45,6 +49,8 @@ class Asked:
 
     def _who(self, path_text: str, mask: str, *words: str) -> int:
         """Whom a node grants rights, of all possible users, and of those of the file of accounts."""
+        if self._share is not None:
+            raise Invalid("who: --share is for questions about one user: ask find, or leave it out")
         if self._people is not None:
             require_own_groups(words, self._only_given)
         path = questions.node_of(self._script, path_text)
@@ -58,12 +64,14 @@ class Asked:
         return answered(self._table, "answered", text, counts_of(users, lines=count), about)
 
     def _find(self, path_text: str, user: str, mask: str, *words: str) -> int:
-        """The nodes that grant a user rights."""
+        """The nodes that grant a user rights, if the share grants them too."""
         path = questions.node_of(self._script, path_text)
         about = self._script.covered(path)
         asked = asking_as(user, mask, words, self._people, self._only_given, self._table)
         self._served = self._served or Served(len(self._script.nodes), self._script.remade())
-        count = questions.find(self._served.answer, path, asked, self._table)
+        count = 0
+        if is_granted_by_share(self._share, asked, self._table):
+            count = questions.find(self._served.answer, path, asked, self._table)
         return answered(self._table, "found", plural(count, "node"), {"nodes": count}, about)
 
 
@@ -80,10 +88,18 @@ def asking_as(
     return [user, mask, *words, *assumed]
 
 
+def is_granted_by_share(share: str | None, asked: list[str], table: Table) -> bool:
+    """Rows that say why the share grants what is asked for, or doesn't, and whether it does; without a share none."""
+    if share is None:
+        return True
+    require_rights(asked[1])
+    return questions.is_granted_by(share, asked, table)
+
+
 @contextmanager
 def _asked(arguments: argparse.Namespace, table: Table) -> Iterator[Asked]:
     with read_script(arguments.script) as script, people_in(arguments.accounts) as people:
-        asked = Asked(script, people, arguments.only_given, table)
+        asked = Asked(script, people, share_of(arguments.share), arguments.only_given, table)
         try:
             yield asked
         finally:

@@ -72,6 +72,7 @@ def _parser() -> argparse.ArgumentParser:
     ask.add_argument("script", metavar="SCRIPT")
     _add_only_given(ask)
     _add_people(ask)
+    _add_share(ask)
     _add_why(command("why", commands.why, "print whether a node of a volume grants a user rights, by all that it has"))
     _add_review(command("review", commands.review, "print what a script's changes grant and take away, node by node"))
     _add_diff(command("diff", diffing.diff, "print what changed between two scripts, and who gains and loses by it"))
@@ -159,6 +160,7 @@ def _add_who(who: argparse.ArgumentParser) -> None:
     who.add_argument("path", metavar="PATH", help="a node, as SCRIPT spells it")
     who.add_argument("mask", metavar="MASK", help="rights, as sdstore takes them: FR, 0x2")
     who.add_argument("words", metavar="ARG", nargs="*", help="groups that all users have, as sdstore who takes them")
+    who.set_defaults(share=None)
     _add_only_given(who)
     _add_people(who)
 
@@ -175,6 +177,14 @@ def _add_only_given(parser: argparse.ArgumentParser) -> None:
     )
 
 
+def _add_share(parser: argparse.ArgumentParser) -> None:
+    parser.add_argument(
+        "--share",
+        metavar="SDDL",
+        help="the descriptor of the share by which the user comes: only what it grants too is granted",
+    )
+
+
 def _add_user(parser: argparse.ArgumentParser) -> None:
     parser.add_argument("user", metavar="USER", help="the user's SID, or with --accounts its name")
     _add_people(parser)
@@ -187,6 +197,7 @@ def _add_find(find: argparse.ArgumentParser) -> None:
     find.add_argument("mask", metavar="MASK", help="rights, as sdstore takes them: FR, 0x2")
     find.add_argument("words", metavar="ARG", nargs="*", help="groups and privileges, as sdstore verdict takes them")
     _add_only_given(find)
+    _add_share(find)
 
 
 def _add_why(why: argparse.ArgumentParser) -> None:
@@ -199,6 +210,7 @@ def _add_why(why: argparse.ArgumentParser) -> None:
     )
     _add_attribute(why)
     _add_only_given(why)
+    _add_share(why)
 
 
 def _add_review(review: argparse.ArgumentParser) -> None:

@@ -13,7 +13,7 @@ import people as people_of
 import questions
 import schema as schema_file
 from answers import LEFT_OUT, answered, counts_of, of_users, people_in
-from asking import asking_as
+from asking import asking_as, is_granted_by_share
 from errors import Invalid, Stopped
 from exclusion import Exclusion
 from forms import Attribute
@@ -29,6 +29,7 @@ from progress import Progress
 from report import Report
 from reading import Counts, Reading
 from script import Script, read_script
+from shares import share_of
 from table import Table, plural, say
 from texts import Assumed, TextFile
 from volumes import Volume
@@ -191,12 +192,15 @@ def lint(arguments: argparse.Namespace, table: Table) -> int:
 
 
 def why(arguments: argparse.Namespace, table: Table) -> int:
-    """Whether a node of a volume grants a user rights, by the descriptor that the disk has, and for which reasons."""
+    """Whether a node of a volume grants a user rights, by the descriptor that the disk has, and for which reasons; and
+    the share."""
+    share = share_of(arguments.share)
     with _volume(arguments.folder, arguments) as volume:
         text = questions.text_on(volume, arguments.path)
     with people_in(arguments.accounts) as people:
         words = asking_as(arguments.user, arguments.mask, arguments.words, people, arguments.only_given, table)
-    is_granted = questions.why(text, arguments.path, words, table)
+    is_granted = is_granted_by_share(share, words, table)
+    is_granted = questions.why(text, arguments.path, words, table) and is_granted
     text = "granted" if is_granted else "denied"
     return answered(table, "answered", text, {"granted": int(is_granted)}, Coverage(1, []), 0 if is_granted else 1)
 

@@ -269,10 +269,24 @@ def text_on(volume: Volume, path_text: str) -> str:
 def why(descriptor: str, path_text: str, words: list[str], table: Table) -> bool:
     """A row for each line of `sdstore --whole why` about the descriptor of a node, and whether the rights are granted:
     by object entries, conditions and the label too."""
+    is_granted, lines = _reasons(descriptor, words)
+    for line in lines:
+        table.row("why", {"path": spelled(_path_of(path_text)), "reason": line})
+    return is_granted
+
+
+def is_granted_by(share: str, words: list[str], table: Table) -> bool:
+    """A row for each such line about the descriptor of a share, and whether it grants the rights."""
+    _require_words(words)
+    is_granted, lines = _reasons(share, words)
+    for line in lines:
+        table.row("share", {"reason": line})
+    return is_granted
+
+
+def _reasons(descriptor: str, words: list[str]) -> tuple[bool, list[str]]:
     lines = _ran(["--whole", "--stdin", "why", "--", *words], [descriptor]).splitlines()
     verdict = lines[0].split(" ")[0] if lines else ""
     if verdict not in ("granted", "denied"):
         raise Invalid(f"sdstore why: {' '.join(lines)}")
-    for line in lines:
-        table.row("why", {"path": spelled(_path_of(path_text)), "reason": line})
-    return verdict == "granted"
+    return verdict == "granted", lines
