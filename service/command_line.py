@@ -12,7 +12,7 @@ from config import read_config
 from errors import Failed, ServiceError
 from following import seed
 from loading import Loaded
-from serving import serve
+from serving import look_at, serve
 from tree import MAPPINGS
 
 _DESCRIPTION = "Serves a tree of Windows security descriptors: checks, edits, and a journal that loses none."
@@ -63,6 +63,8 @@ def _parser() -> argparse.ArgumentParser:
     init.add_argument("--mapping", choices=tuple(MAPPINGS), default="file", help="what the generic rights stand for")
     run = command("run", _run, "serve a store")
     run.add_argument("config", type=Path, metavar="CONFIG", help="the configuration, a TOML file")
+    check = command("check", _check, "read a configuration, its certificates and accounts, as run does, and serve nothing")
+    check.add_argument("config", type=Path, metavar="CONFIG")
     verify = command("verify", _verify, "replay a journal, and compare it with its snapshots")
     verify.add_argument("where", type=Path, metavar="FOLDER", help="a store's folder, which may be served, or a backup")
     backup = command("backup", _backup, "copy a store, which may be served, into a file")
@@ -90,6 +92,12 @@ def _init(arguments: argparse.Namespace) -> int:
 
 def _run(arguments: argparse.Namespace) -> int:
     return serve(arguments.config)
+
+
+def _check(arguments: argparse.Namespace) -> int:
+    look_at(arguments.config)
+    print(f"{arguments.config}: taken; neither the store nor the places to listen were looked at")
+    return 0
 
 
 def _verify(arguments: argparse.Namespace) -> int:

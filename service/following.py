@@ -76,16 +76,16 @@ def feed_of(source: Source, name: str, store: str = "") -> Feed:
     """The feed of the service of this name, or of a replica that has this store."""
     if source.stream:
         return stream_of(source, name)
-    tls, where = _context(source), source.unix or source.tcp
+    tls, where = context_of(source), source.unix or source.tcp
     return LeaderFeed(Client(where, tls, timeout=source.max_age_seconds), store)
 
 
 def stream_of(source: Source, name: str) -> Stream:
-    connect = functools.partial(_connected, source, _context(source))
+    connect = functools.partial(_connected, source, context_of(source))
     return Stream(Redis(connect), source.stream, name, source.lease_seconds)
 
 
-def _context(source: Source) -> ssl.SSLContext | None:
+def context_of(source: Source) -> ssl.SSLContext | None:
     """What TCP requires. Failed: a certificate isn't readable."""
     if source.unix:
         return None

@@ -13,9 +13,10 @@ from typing import Any
 
 import formats
 from accounts import Accounts, FileReader, read_accounts
+from certificates import Certificates
 from config import Config, read_config
 from errors import Failed, Invalid, Mismatch, ServiceError
-from following import make_replica
+from following import context_of, make_replica
 from journal import DATABASE, Journal
 from listening import Listener
 from loading import Loaded, load
@@ -40,6 +41,19 @@ def serve(file: Path) -> int:
     log = Log(sys.stderr.fileno())
     with contextlib.closing(log):
         return _serve_with(file, config, log)
+
+
+def look_at(file: Path) -> None:
+    """Reads what `serve` reads before it opens the store: the configuration, certificates and accounts. A ServiceError
+    says what it would end with."""
+    config = read_config(file)
+    for listen in config.listen:
+        if listen.certificate:
+            Certificates.read(listen)
+    if config.source is not None:
+        context_of(config.source)
+    if config.accounts is not None:
+        read_accounts(config.accounts)
 
 
 def _serve_with(file: Path, config: Config, log: Log) -> int:

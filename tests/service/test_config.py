@@ -2,10 +2,12 @@
 
 import re
 import unittest
+from collections.abc import Iterator
+from dataclasses import fields
 
 import rig
 
-from config import Source, read_config
+from config import Limits, Listen, Source, read_config
 from errors import Invalid
 
 LISTEN = '[[listen]]\nunix = "lines"\nprotocol = "lines"\nallow = { "uid:0" = "edit" }\n'
@@ -44,6 +46,13 @@ REJECTED = (
 )
 
 
+def paired(names: str, values: str) -> Iterator[tuple[str, str]]:
+    """Each name of a row of the page's table with its value: there is one for all, or one for each."""
+    several = values.split(", ")
+    for place, name in enumerate(names.split("`, `")):
+        yield name, several[place] if len(several) > 1 else values
+
+
 class Configs(rig.Case):
     def read(self, more: str) -> object:
         self.config.write_text(f'folder = "x"\n{LISTEN}{more}')
@@ -65,6 +74,18 @@ class Configs(rig.Case):
         self.assertEqual(read_config(self.config).listen[3].name, "0.0.0.0:7391")
         self.assertEqual(str(read_config(self.config).accounts), "/etc/sdstored/accounts")
         self.assertEqual(read_config(self.config).source, Source("/run/redis/redis-server.sock", stream="sdstored"))
+
+    def test_the_table(self) -> None:
+        """Of the page: each limit with what it is unless given, and each other key that isn't rejected."""
+        text = (rig.TOP / "docs/SERVICE.md").read_text().partition("\n## The configuration\n")[2].partition("\n## ")[0]
+        rows = re.findall(r"^\| `(.+?)` \| (.*?) \|", text, re.MULTILINE)
+        found = {name: value for names, values in rows for name, value in paired(names, values)}
+        limits = {each.name: f"{each.default:,}" for each in fields(Limits)}
+        self.assertEqual({name: found[f"limits.{name}"] for name in limits}, limits)
+        known = {f"limits.{name}" for name in limits} | {f"leader.{each.name}" for each in fields(Source)}
+        known |= {f"redis.{each.name}" for each in fields(Source)} | {f"listen.{each.name}" for each in fields(Listen)}
+        known = known - {"leader.stream", "leader.lease_seconds"} | {"folder", "accounts.file", "log.denials"}
+        self.assertEqual(set(found), known)
 
     def test_sources(self) -> None:
         redis = self.read('[redis]\nunix = "x"\nlease_seconds = 3').source

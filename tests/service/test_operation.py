@@ -103,8 +103,16 @@ class Operation(rig.Case):
         self.assertEqual([each.name for each in self.room.iterdir()], [])
         self.configure()
         rig.run("run", self.config, status=3)
+        self.assertIn("neither the store nor the places to listen were looked at", rig.run("check", self.config).stdout)
+        for more, status, says in (('[accounts]\nfile = "none"', 3, "none: No such file"), ("[more]", 2, "'more' is unknown"),
+                                   ('[leader]\ntcp = "[::1]:1"\ncertificate = "a"\nkey = "b"\nauthority = "none"', 3,
+                                    "the source's certificates")):
+            with self.subTest(more):
+                self.configure(more=more)
+                self.assertIn(says, rig.run("check", self.config, status=status).stderr)
         self.config.write_text("folder = 7")
-        self.assertIn("listen: a value of the type list", rig.run("run", self.config, status=2).stderr)
+        for command in ("run", "check"):
+            self.assertIn("listen: a value of the type list", rig.run(command, self.config, status=2).stderr)
 
     def test_a_stop_beside_a_source_that_does_not_answer(self) -> None:
         """It ends a service soon, though its leader is gone, or is connected to and silent, or its Redis is."""
