@@ -31,6 +31,7 @@ use Rattle.sd_answer.specs.Compare.{gains_and_losses}
 use Rattle.sd_answer.specs.Descendants.{descendants_lines, inheritance_lines}
 use Rattle.sd_line.specs.Mask.{IsMaskErrorIn, IsMaskIn}
 use Rattle.sd_answer.specs.Parts.{parts_in}
+use Rattle.sd_line.specs.Request.{requested}
 use Rattle.sd_line.specs.Rights.{rights_line}
 use Rattle.sd_answer.specs.Why.{why_lines}
 use Rattle.sd_answer.specs.Word.{AreGroups, IsFirstNoGroup, IsFirstNoWord, IsToken, texts}
@@ -215,10 +216,10 @@ AnswersWithLogon settings form on user asked words answer =
     (all : List (Bor (List ℕ))) × (texts all ≡ words_for settings.logon (texts words))
     × AnswersWords settings form on user asked all answer
 
--- what is answered of a user whose mask and words these arguments are
+-- what is answered of a user whose mask and words these arguments are: the mask asks for rights of the settings' kind
 abbrev pub AnswersMask : Settings → Form → List (Bor (List ℕ)) → Judged → SidValue → AnswerValue → Type 0
 AnswersMask settings form arguments on user = AnswersOfMask settings (argument arguments 1)
-    (λ asked. AnswersWithLogon settings form on user asked (drop 2 arguments))
+    (λ asked. AnswersWithLogon settings form on user (requested settings.kind asked) (drop 2 arguments))
 
 -- what is answered of any user: who can't have logged on as is said is a fault
 abbrev pub AnswersFitting : Settings → Form → List (Bor (List ℕ)) → Judged → SidValue → AnswerValue → Type 0

@@ -15,7 +15,7 @@ use crate::words::{argument, items_from};
 use sd_acl::Descriptor;
 use sd_answer::{TokenError, read_token, verdict_line, why_lines};
 use sd_check::{Token, Verdict, check};
-use sd_line::read_mask_in;
+use sd_line::{read_mask_in, requested};
 use sd_sid::{Mask, Sid};
 use sd_text::read_sid_text_in;
 use sd_whole::WholeDescriptor;
@@ -72,7 +72,10 @@ impl CommandContext<'_> {
     {
         let mask = argument(arguments, 1);
         match read_mask_in(self.settings.spelling, mask) {
-            Ok(asked) => self.with_words(form, on, user, asked, items_from(arguments, 2)),
+            Ok(asked) => {
+                let asked = requested(self.settings.kind, asked);
+                self.with_words(form, on, user, asked, items_from(arguments, 2))
+            }
             Err(error) => self.text_fault("mask", "MASK", mask, error),
         }
     }
