@@ -31,6 +31,7 @@ use Rattle.sd_text.specs.declared.fault.TextError.{TextError}
 use Rattle.sd_text.specs.declared.fault.TextError.TheVariants.{Fault, Memory}
 use Rattle.sd_line.specs.Line.{LineOf, is_of}
 use Rattle.sd_line.specs.Mask.{AreJoined, IsErrorFrom, IsMaskErrorIn, IsMaskIn, IsWordErrorAt, IsWordMask, rights_word}
+use Rattle.sd_line.specs.Request.{requested}
 use Rattle.sd_line.specs.declared.names.ObjectKind.{ObjectKind}
 use Rattle.sd_line.specs.declared.spelling.Spelling.{Spelling}
 use Rattle.sd_line.specs.declared.spelling.Spelling.TheVariants.{Number, Names}
@@ -254,7 +255,7 @@ module _ (settings : Settings) (text mask : List ℕ) (wanted : List SidValue) (
     user_nothing inner answers =
         let mask = of_mask inner (at_true _ (fits_logon settings.logon user) fits (of_sid inner answers)) in
         let words = mask.1 in
-        verdict_nothing mask.0 inner
+        verdict_nothing (requested settings.kind mask.0) inner
         (of_words words.0 inner (words.1 ∙ ap (λ (l : Option Logon). words_for l (texts (drop 2 arguments))) is.logon ∙ are.2) words.2)
 
     one_descriptor : (other : DescriptorValue) (left : Bool) → IsPart settings.aliases settings.whole text other left → other ≡ is.descriptor

@@ -9,6 +9,7 @@ use Rattle.sd_check.specs.declared.token.GroupState.TheVariants.{Enabled}
 use Rattle.sd_text.specs.Grammar.{Spells}
 use Rattle.sd_text.specs.Sddl.{sddl_in}
 use Rattle.sd_line.specs.Mask.{IsMaskIn}
+use Rattle.sd_line.specs.Request.{requested}
 use Rattle.sd_answer.specs.Why.{why_lines}
 use Rattle.sd_commands.specs.Answer.{AnswerValue, IsAnswer}
 use Rattle.sd_commands.specs.Required.{missing_dacl}
@@ -48,6 +49,7 @@ token_with user groups = plain_token user (map enabled groups)
 
 -- the answer is the verdict on what is read for the token, and why
 abbrev pub SaysWhy : Settings → Reading → TokenValue → AnswerValue → Type 0
-SaysWhy settings reading token = let d = descriptor_of reading.descriptor in
-    IsAnswer (why_lines settings.mapping d token reading.asked) []
-    (verdict_outcome (verdict d.owner (dacl_entries d.dacl) settings.mapping token reading.asked))
+SaysWhy settings reading token =
+    let d = descriptor_of reading.descriptor in let asked = requested settings.kind reading.asked in
+    IsAnswer (why_lines settings.mapping d token asked) []
+    (verdict_outcome (verdict d.owner (dacl_entries d.dacl) settings.mapping token asked))

@@ -10,7 +10,7 @@ use sd_acl::{Dacl, Descriptor};
 use sd_answer::why_lines;
 use sd_check::{GroupState, Privileges, Token, check};
 use sd_commands::{Answer, Settings, outcome_of};
-use sd_line::read_mask_in;
+use sd_line::{read_mask_in, requested};
 use sd_sid::{Mask, Sid};
 use sd_text::read_sddl_in;
 use std::alloc::{AllocError, Global};
@@ -66,8 +66,9 @@ impl Reading {
         ensures { IfOk result (λ answer. SaysWhy settings.now self.now token.now (answer_of answer)) }
     {
         let mapping = &settings.mapping;
-        let verdict = check(&self.descriptor, mapping, token, self.asked);
-        let lines = why_lines(alloc, mapping, &self.descriptor, token, self.asked)?;
+        let asked = requested(settings.kind, self.asked);
+        let verdict = check(&self.descriptor, mapping, token, asked);
+        let lines = why_lines(alloc, mapping, &self.descriptor, token, asked)?;
         let (told, outcome) = (String::new(alloc), outcome_of(&verdict));
         Ok(Answer {
             lines,
