@@ -270,6 +270,7 @@ pub record AreScriptOptions (options : OptionsValue) (script_options : ScriptOpt
   pub limits : GivesLimits options (Ok script_options.limits)
   pub paths : script_options.notation.paths ≡ (if has options Percent then paths.Percent else paths.Plain)
   pub spelling : script_options.notation.spelling ≡ spelling_of options
+  pub kind : script_options.notation.kind ≡ kind_given (given options Mapping)
   pub domain : GivesDomain (given options Domain) script_options.notation.aliases.domain
   pub later : script_options.notation.aliases.later ≡ has options Aliases
   pub whole : script_options.notation.whole ≡ has options Whole

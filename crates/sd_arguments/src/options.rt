@@ -265,6 +265,7 @@ impl<'a> Options<'a> {
             limits,
             notation: Notation {
                 spelling: settings.spelling,
+                kind: settings.kind,
                 aliases: settings.aliases,
                 whole: settings.whole,
                 output: self.output(),

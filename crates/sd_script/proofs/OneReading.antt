@@ -1,6 +1,9 @@
 -- A line is read as one thing, or has one fault.
 use Rattle.sd_script.proofs.Cited.{Aliases, AreGroups, Argument, Arguments, Asks, Bool, Dacl, DescriptorValue, Err, Groups, Imported, Listed, IsMaskIn, IsNumber, IsPath, IsToken, LineFault, List, Mask, Names, Node, None, Notation, Number, Ok, Option, Path, PathSpelling, Percent, Plain, Reading, Result, ScriptCommand, Sid, Some, SomeOr, Spelling, Spells, Then, Token, [], ap, asks, asks_where, between_pluses, cases_Bool, command_of, dacl_of, descriptor, descriptor_in, false, groups_one, import_of, inl, inr, is_untimely, line_asks, mask_text, no_fault, node_of, one_fault, one_joined, one_value, reading, reads, reads_where, sddl_in, sid_text_in, sym, token_one, true, words_of, ℕ, ◌∙◌, ◌∷◌, ◌≡◌, ◌▸◌}
-use Rattle.sd_script.specs.Argument.{list_of}
+use Rattle.sd_script.specs.Argument.{list_of, mask}
+use Rattle.sd_script.specs.Command.{Requested}
+use Rattle.sd_script.specs.Fault.{Just}
+use Rattle.sd_line.specs.Request.{requested}
 use Rattle.sd_line.specs.declared.spelling.Spelling.TheVariants as spellings
 use Rattle.sd_script.specs.declared.fault.LineFault.TheVariants as faults
 use Rattle.sd_text.proofs.Parts.{found_is, stopped_is}
@@ -103,12 +106,17 @@ described-one : {A : Type 0} (notation : Notation) (word : List ℕ) (f : Descri
 described-one notation word f =
     Then-one (descriptor notation word) (λ d read. read ≡ f d) (one_descriptor notation.aliases notation.whole word) (λ d r s x y. x ∙ sym y)
 
+mask-one : (notation : Notation) (word : List ℕ) → IsOne (mask notation word)
+mask-one notation word = SomeOr-one (IsMaskIn notation.spelling word) faults.Mask (one_mask notation.spelling word)
+
 argument-one : (notation : Notation) (argument : Argument) → IsOne (reading notation argument)
 argument-one notation (Number word) = SomeOr-one (IsNumber word) faults.Number (λ a b x y. sym x.1 ∙ y.1)
 argument-one notation (Path word) = SomeOr-one (IsPath notation.paths word) faults.Path (one_path notation.paths word)
 argument-one notation (Sid word) =
     SomeOr-one (Spells (sid_text_in notation.aliases) word) faults.Sid (one_value (sid_text_in notation.aliases) word)
-argument-one notation (Mask word) = SomeOr-one (IsMaskIn notation.spelling word) faults.Mask (one_mask notation.spelling word)
+argument-one notation (Mask word) = mask-one notation word
+argument-one notation (Requested word) =
+    Then-one (mask notation word) (λ asked. Just (requested notation.kind asked)) (mask-one notation word) (λ asked r s x y. x ∙ sym y)
 argument-one notation (Node word) = described-one notation word node_of
 argument-one notation (Dacl word) = described-one notation word dacl_of
 argument-one notation (Imported word) = described-one notation word import_of

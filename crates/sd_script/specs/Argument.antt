@@ -19,10 +19,11 @@ use Rattle.sd_path.specs.Names.{Names}
 use Rattle.sd_edit.specs.declared.node.NodeDacl.{NodeDacl}
 use Rattle.sd_edit.specs.declared.node.NodeDacl.TheVariants.{List as Entries}
 use Rattle.sd_edit.specs.declared.opening.RootSpec.{RootSpec}
-use Rattle.sd_script.specs.Fault.{Reading, SomeOr, Then}
+use Rattle.sd_script.specs.Fault.{Reading, Just, SomeOr, Then}
 use Rattle.sd_script.specs.Paths.{IsPath}
 use Rattle.sd_check.specs.declared.token.GroupState.{GroupState}
 use Rattle.sd_line.specs.Mask.{IsMaskIn}
+use Rattle.sd_line.specs.Request.{requested}
 use Rattle.sd_answer.specs.Word.{AreGroups, IsToken}
 use Rattle.sd_script.specs.declared.fault.LineFault.{LineFault}
 use Rattle.sd_script.specs.declared.fault.LineFault.TheVariants.{Number, Path, Sid, Sddl, Entry, Parts, Mask, Token}
@@ -48,6 +49,10 @@ sid notation word = SomeOr (Spells (sid_text_in notation.aliases) word) Sid
 
 abbrev pub mask : Notation → List ℕ → Reading ℕ
 mask notation word = SomeOr (IsMaskIn notation.spelling word) Mask
+
+-- the rights that a mask asks for
+abbrev pub request_in : Notation → List ℕ → Reading ℕ
+request_in notation word = Then (mask notation word) (λ asked. Just (requested notation.kind asked))
 
 -- the token of a user and words
 abbrev pub token : Notation → SidValue → List (List ℕ) → Reading TokenValue

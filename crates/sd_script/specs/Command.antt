@@ -19,8 +19,8 @@ use Rattle.sd_inheritance.specs.declared.kind.NodeKind.TheVariants.{Container, O
 use Rattle.sd_edit.specs.declared.opening.RootSpec.{RootSpec}
 use Rattle.sd_edit.specs.declared.request.Request.{Request}
 use Rattle.sd_edit.specs.declared.request.Request.TheVariants as requests
-use Rattle.sd_script.specs.Argument.{number, path, sid, mask, token, base, node, dacl, imported}
-use Rattle.sd_script.specs.Argument.{given_with, list}
+use Rattle.sd_script.specs.Argument.{number, path, sid, mask, request_in, token, base, node, dacl}
+use Rattle.sd_script.specs.Argument.{given_with, imported, list}
 use Rattle.sd_script.specs.Fault.{Reading, Just, Then, UnlessMemory}
 use Rattle.sd_script.specs.Lines.{words_of}
 use Rattle.sd_answer.specs.Word.{texts}
@@ -51,7 +51,7 @@ use Rattle.sd_script.specs.declared.view.ViewRequest.TheVariants as views
 
 -- an argument, by its kind
 pub data Argument : Type 0 where
-  Number Path Sid Mask Node Dacl Imported Listed : List ℕ → Argument
+  Number Path Sid Mask Requested Node Dacl Imported Listed : List ℕ → Argument
   Token : SidValue → List (List ℕ) → Argument
   Groups : List (List ℕ) → Argument
 
@@ -61,6 +61,7 @@ Value (Number word) = ℕ
 Value (Path word) = Names
 Value (Sid word) = SidValue
 Value (Mask word) = ℕ
+Value (Requested word) = ℕ
 Value (Node word) = RootSpec × Bool
 Value (Dacl word) = NodeDacl × Bool
 Value (Imported word) = RootSpec × Given
@@ -73,6 +74,7 @@ reading notation (Number word) = number word
 reading notation (Path word) = path notation.paths word
 reading notation (Sid word) = sid notation word
 reading notation (Mask word) = mask notation word
+reading notation (Requested word) = request_in notation word
 reading notation (Node word) = node notation word
 reading notation (Dacl word) = dacl notation word
 reading notation (Imported word) = imported notation word
@@ -126,7 +128,7 @@ poses questions.Find reader p t asked = AskingNode reader p (nodes.Find (Grantin
 
 unfoldable pub posed : TokenQuestion → List ℕ → List ℕ → List ℕ → List ℕ → List (List ℕ) → Arguments
 posed question reader at user asked words =
-    Number reader ▸ λ i. Path at ▸ λ p. Sid user ▸ λ s. Mask asked ▸ λ m. Token s words ▸ λ t.
+    Number reader ▸ λ i. Path at ▸ λ p. Sid user ▸ λ s. Requested asked ▸ λ m. Token s words ▸ λ t.
     Asks (poses question i p t m)
 
 -- an edit by the descriptor of a text, which has all that the text says, or something of it was left out

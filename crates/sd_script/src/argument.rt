@@ -2,7 +2,7 @@
 ghost use Rattle.std.specs.Prelude.{◌≡◌, [], Err, IfErr, IfOk, Ok};
 ghost use Rattle.sd_acl.specs.Descriptor.{descriptor_of};
 ghost use Rattle.sd_script.specs.Argument.{base, dacl, descriptor, list, mask, node, number, path};
-ghost use Rattle.sd_script.specs.Argument.{sid, token};
+ghost use Rattle.sd_script.specs.Argument.{request_in, sid, token};
 ghost use Rattle.sd_script.specs.Fault.{UnlessMemory};
 ghost use Rattle.sd_answer.specs.Word.{texts};
 
@@ -13,7 +13,7 @@ use crate::view::Groups;
 use sd_acl::{AceList, Dacl, Descriptor};
 use sd_answer::{TokenError, read_base, read_token};
 use sd_check::Token;
-use sd_line::read_mask_in;
+use sd_line::{read_mask_in, requested};
 use sd_sid::{Mask, Sid};
 use sd_text::read_sid_text_in;
 use sd_tree::{NodeDacl, Path, RootSpec};
@@ -53,6 +53,13 @@ impl Parser {
         ensures { mask self.notation word.now result }
     {
         read_mask_in(self.notation.spelling, word).map_err(|_| LineFault::Mask)
+    }
+
+    /// The rights that a mask asks for.
+    pub(crate) fn request(self, word: &str) -> Result<Mask, LineFault>
+        ensures { request_in self.notation word.now result }
+    {
+        Ok(requested(self.notation.kind, self.mask(word)?))
     }
 
     /// The token of a user and of words.

@@ -287,7 +287,7 @@ impl Parser {
         let reader = number_in(reader)?;
         let path = self.path(path)?;
         let user = self.sid(user)?;
-        let asked = self.mask(mask)?;
+        let asked = self.request(mask)?;
         let token = self.token(user, words)?;
         Ok(Some(question.about(self.alloc, reader, path, token, asked)?))
     }

@@ -6,7 +6,7 @@ ghost use Rattle.sd_line.specs.declared.print.Output.TheVariants.{Text};
 ghost use Rattle.sd_line.specs.declared.spelling.Spelling.TheVariants.{Number};
 
 use crate::paths::PathSpelling;
-use sd_line::{Output, Spelling, Style};
+use sd_line::{ObjectKind, Output, Spelling, Style};
 use sd_sid::GenericMapping;
 use sd_text::Aliases;
 use sd_tree::Limits;
@@ -29,6 +29,8 @@ pub struct Notation {
     pub paths: PathSpelling,
     /// How masks are spelled, also in what is printed ([MS-DTYP] 2.4.3).
     pub spelling: Spelling,
+    /// The kind of object whose rights a request asks for.
+    pub kind: Option<ObjectKind>,
     /// Which aliases of SIDs an SDDL, a user and a word may have ([MS-DTYP] 2.5.1.1, sid-token).
     pub aliases: Aliases,
     /// Whether an SDDL may have a SACL, which is left out, and entries of every type ([MS-DTYP] 2.5.1.1).
@@ -38,12 +40,13 @@ pub struct Notation {
 }
 
 impl Notation {
-    /// Paths are spelled so, and masks as numbers; no domain's alias and none of newer versions of Windows is known, a
-    /// SACL is a fault, and answers are printed as they are.
+    /// Paths are spelled so, and masks as numbers, of no kind of object; no domain's alias and none of newer versions
+    /// of Windows is known, a SACL is a fault, and answers are printed as they are.
     pub fn plain(paths: PathSpelling) -> Notation
         ensures { result ≡ record {
           paths = paths;
           spelling = Number;
+          kind = None;
           aliases = in_domain None;
           whole = false;
           output = Text;
@@ -52,6 +55,7 @@ impl Notation {
         Notation {
             paths,
             spelling: Spelling::Number,
+            kind: None,
             aliases: Aliases::in_domain(None),
             whole: false,
             output: Output::Text,
