@@ -79,8 +79,8 @@ byte, and reports it on standard error",
         },
         "\
 the descriptor is that of an object and of no container, as of a file: the flags OI and CI of its
-entries say nothing, and are left out, also where plain entries are printed; 'compare' and 'lint'
-take object and conditional entries then under '--whole'",
+entries say nothing, and are left out, also where plain entries are printed; then 'lint' takes object
+and conditional entries under '--whole'",
     ),
     (
         "--risks",
