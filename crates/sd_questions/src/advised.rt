@@ -4,7 +4,9 @@ ghost use Rattle.sd_commands.specs.Answer.{answer_of};
 ghost use Rattle.sd_questions.specs.TextAnswer.{Advising, AnswersText};
 ghost use Rattle.sd_arguments.specs.CommandLine.{request_of};
 
-use crate::found::{found_in_descriptor, found_in_mask, found_in_user, found_in_word};
+use crate::found::{
+    found_in_descriptor, found_in_group, found_in_mask, found_in_user, found_in_word,
+};
 use crate::notes::notes_on;
 use crate::remedies::{
     ALL_BUT_LABELS, CHILDREN, EACH, HEX, NO_BITS, NO_CHILDREN, OBJECT_ENTRY, ODD_ENTRY, OTHER_USER,
@@ -341,7 +343,7 @@ fn argument_row(
                 return found_in_mask(settings, mask);
             }
             match first_no_word(alloc, settings, sid, words) {
-                Some(place) => word_row(settings, settings.whole, words, place),
+                Some(place) => found_in_word(settings.whole, settings.aliases, words.get(place)?),
                 None => None,
             }
         }
@@ -364,7 +366,7 @@ fn argument_row(
 
 fn group_row(alloc: Global, settings: &Settings, words: &[&str]) -> Option<RemedyRow> {
     match read_base(alloc, settings.aliases, words) {
-        Err(TokenError::NoWord { place }) => word_row(settings, false, words, place),
+        Err(TokenError::NoWord { place }) => found_in_group(settings.aliases, words.get(place)?),
         _ => None,
     }
 }
@@ -380,9 +382,4 @@ fn first_no_word(alloc: Global, settings: &Settings, user: Sid, words: &[&str]) 
         TokenError::NoWord { place } => Some(place),
         TokenError::Memory => None,
     }
-}
-
-fn word_row(settings: &Settings, whole: bool, words: &[&str], place: usize) -> Option<RemedyRow> {
-    let word = words.get(place)?;
-    found_in_word(whole, settings.aliases, word)
 }

@@ -201,6 +201,16 @@ pub(crate) fn found_in_mask(settings: &Settings, text: &str) -> Option<RemedyRow
     }
 }
 
+/// What was found in place of a group that every token in question has.
+pub(crate) fn found_in_group(known: Aliases, text: &str) -> Option<RemedyRow> {
+    let bytes = text.as_bytes();
+    match bytes {
+        [b'+' | b'-' | b'@', ..] => Some(GROUP),
+        _ if bytes.contains(&b'=') || bytes.contains(&b':') => Some(GROUP),
+        _ => found_in_sid(known, text),
+    }
+}
+
 /// What was found in place of a WORD, under `--whole` of a WORD that may say more than a token.
 pub(crate) fn found_in_word(whole: bool, known: Aliases, text: &str) -> Option<RemedyRow> {
     let bytes = text.as_bytes();

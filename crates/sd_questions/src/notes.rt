@@ -8,7 +8,7 @@ use sd_acl::{Ace, AceFlags};
 use sd_answer::entries_in;
 use sd_arguments::TextRequest;
 use sd_commands::{Settings, told_line};
-use sd_line::{ObjectKind, read_mask_in};
+use sd_line::{read_mask_in, requested};
 use sd_sid::{Mask, Sid};
 use sd_text::print_full_sid;
 use sd_usage::{DescriptorCommand, TextCommand};
@@ -19,8 +19,8 @@ use std::alloc::{AllocError, Global};
 /// CR, the one flag of an entry that plain lists don't have (CRITICAL_ACE_FLAG).
 const CRITICAL: u8 = 0x20;
 
-/// KEY_WOW64_64KEY and KEY_WOW64_32KEY, which RegOpenKeyEx takes beside a key's rights.
-const VIEWS: Mask = Mask(0x300);
+/// What the bits are that a request for a registry key leaves out.
+const VIEW: &str = "KEY_WOW64_64KEY and KEY_WOW64_32KEY say which view is opened and are no rights";
 
 /// The notes on an answer that is no fault. The only error is out of memory.
 pub(crate) fn notes_on(
@@ -39,7 +39,7 @@ pub(crate) fn notes_on(
             push_flag(alloc, settings, text, &mut notes)?;
             push_limits(alloc, settings, false, text, &mut notes)?;
             push_mask(alloc, mask, words, &mut notes)?;
-            push_view(alloc, settings, mask, &mut notes)?;
+            push_view(alloc, settings, mask, true, &mut notes)?;
             push_lacking(alloc, settings, text, request.arguments, &mut notes)?;
             push_repeated(alloc, settings, request.arguments, &mut notes)?;
         }
@@ -48,7 +48,7 @@ pub(crate) fn notes_on(
             push_limits(alloc, settings, false, text, &mut notes)?;
             if let [_user, mask, words @ ..] = asked {
                 push_mask(alloc, mask, words, &mut notes)?;
-                push_view(alloc, settings, mask, &mut notes)?;
+                push_view(alloc, settings, mask, true, &mut notes)?;
             }
             push_lacking_of_nodes(alloc, settings, text, request.arguments, &mut notes)?;
             push_repeated(alloc, settings, asked, &mut notes)?;
@@ -57,7 +57,7 @@ pub(crate) fn notes_on(
             push_empty(alloc, text, &mut notes)?;
             push_limits(alloc, settings, true, text, &mut notes)?;
             push_mask(alloc, mask, words, &mut notes)?;
-            push_view(alloc, settings, mask, &mut notes)?;
+            push_view(alloc, settings, mask, false, &mut notes)?;
             push_children(alloc, settings, text, &mut notes)?;
         }
         (TextCommand::Descriptor(DescriptorCommand::Compare), [new, ..]) => {
@@ -248,25 +248,29 @@ fn push_mask(
     notes.push_str(note.as_str())
 }
 
-/// Notes that the mask asks for a view of the registry, which is no right of a key.
+/// Notes that the mask has bits that are no rights of a registry key, and that a request leaves them out.
 fn push_view(
     alloc: Global,
     settings: &Settings,
     mask: &str,
+    is_request: bool,
     notes: &mut String,
 ) -> Result<(), AllocError> {
-    if settings.kind != Some(ObjectKind::Key) {
+    let Ok(asked) = read_mask_in(settings.spelling, mask) else {
+        return Ok(());
+    };
+    let rights = requested(settings.kind, asked);
+    if rights == asked {
         return Ok(());
     }
-    match read_mask_in(settings.spelling, mask) {
-        Ok(asked) if !asked.common(VIEWS).is_empty() => {
-            let what =
-                "KEY_WOW64_64KEY and KEY_WOW64_32KEY say which view is opened and are no rights: leave them out";
-            let note = told_line(alloc, "MASK", what)?;
-            notes.push_str(note.as_str())
-        }
-        _ => Ok(()),
-    }
+    let ending = match (is_request, rights.is_empty()) {
+        (false, _) => "leave them out",
+        (true, false) => "they were left out of the request",
+        (true, true) => "they were left out of the request, which is empty",
+    };
+    let what = format!(in alloc; "{VIEW}: {ending}")?;
+    let note = told_line(alloc, "MASK", what.as_str())?;
+    notes.push_str(note.as_str())
 }
 
 /// Whether a mask has five or more decimal digits: so many have masks in hexadecimal.

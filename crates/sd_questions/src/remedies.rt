@@ -182,8 +182,14 @@ pub(crate) const PRIVILEGE: RemedyRow = (
 
 pub(crate) const STATE: RemedyRow = (
     "another state",
-    "SID, SID=deny, SID=off or SID=restrict",
+    "SID, SID=deny, SID=off, SID=restrict or user=deny",
     "write one of these",
+);
+
+pub(crate) const GROUP: RemedyRow = (
+    "no group",
+    "SID, SID=deny or SID=off",
+    "a question about all tokens takes groups alone",
 );
 
 pub(crate) const CLAIM: RemedyRow = (

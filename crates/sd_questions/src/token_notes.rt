@@ -7,7 +7,7 @@ use sd_check::{Verdict, check};
 use sd_claim::Claim;
 use sd_client::read_client;
 use sd_commands::{Settings, answer_question, told_line};
-use sd_line::{Output, Style, Tag, push_printed_line, read_mask_in};
+use sd_line::{Output, Style, Tag, push_printed_line, read_mask_in, requested};
 use sd_sid::{Mask, Sid};
 use sd_text::{Aliases, read_sddl_in, read_sid_text_in};
 use sd_usage::TextCommand;
@@ -36,6 +36,7 @@ pub(crate) fn push_lacking(
     ) else {
         return Ok(());
     };
+    let asked = requested(settings.kind, asked);
     let fuller = with_everyone(alloc, known, words)?;
     let (Some(verdict), Some(other)) = (
         verdict_in(alloc, settings, text, sid, asked, words),
