@@ -25,17 +25,20 @@ _KEPT_WORDS, _KEPT_MASKS, _MASK_LENGTH = 65_536, 1_024, 64
 _STATES = {"": hudarin.ENABLED, "=deny": hudarin.DENY_ONLY, "=off": hudarin.DISABLED}
 #: FILE_DELETE_CHILD of folders (winnt.h).
 _DELETE_CHILD = 0x40
+#: KEY_WOW64_64KEY and KEY_WOW64_32KEY (winnt.h), which say which view of the registry is opened and are no rights.
+_VIEWS = 0x300
 #: The values of checks are few: to look one up takes less time than to make it.
 _checked = functools.lru_cache(4096)(Checked)
 _PRIVILEGES = {"+security": hudarin.SECURITY, "+take": hudarin.TAKE_OWNERSHIP}
 
 
 class Tokens:
-    """Tokens and masks by the words that spell them; the last used tokens are kept. With accounts a user has the groups
-    that these say, and no words."""
+    """Tokens and requests by the words that spell them; the last used tokens are kept. With accounts a user has the
+    groups that these say, and no words. A request for a registry key is without the bits of a view."""
 
-    def __init__(self, accounts: Accounts | None = None) -> None:
+    def __init__(self, accounts: Accounts | None = None, mapping: Mapping = hudarin.FILES) -> None:
         self.accounts = accounts
+        self._left_out = _VIEWS if mapping == hudarin.KEYS else 0
         #: Each with its size.
         self._kept: OrderedDict[tuple[str, ...], tuple[Token, int]] = OrderedDict()
         self._masks: dict[str, int] = {}
@@ -104,7 +107,7 @@ class Tokens:
         return Token(sids[0], sids[1:]), len(sids)
 
     def _mask(self, word: str) -> int:
-        bits = mask_of(word)
+        bits = mask_of(word) & ~self._left_out
         if len(self._masks) == _KEPT_MASKS:
             self._masks.clear()
         if len(word) <= _MASK_LENGTH:
@@ -175,12 +178,12 @@ class Questions:
         accounts: Accounts | None = None,
     ) -> None:
         self.shown, self.store = shown, store
-        self.tokens, self.mapping = Tokens(accounts), mapping
+        self.tokens, self.mapping = Tokens(accounts, mapping), mapping
         self._deadline = deadline
 
     def take(self, accounts: Accounts) -> None:
         """All questions from here on are answered by these accounts. The tokens that are kept were by those before."""
-        self.tokens = Tokens(accounts)
+        self.tokens = Tokens(accounts, self.mapping)
 
     def gauges(self) -> dict[str, float]:
         accounts = self.tokens.accounts

@@ -83,6 +83,13 @@ class Words(unittest.TestCase):
         tokens = Tokens(Accounts(People(a=[]), 0, frozenset([Sid.from_text(rig.USER)])))
         self.assertEqual(fault(tokens, "FR", "a"), "fault user 3 NoUser")
 
+    def test_views_of_the_registry(self) -> None:
+        """KEY_WOW64_64KEY and KEY_WOW64_32KEY are no rights of a key; of other objects these bits are."""
+        for mapping, asked in (("key", 0x20019), ("file", 0x20319), ("service", 0x20319), ("process", 0x20319)):
+            tokens = Tokens(Accounts(People(a=[]), 0), MAPPINGS[mapping])
+            with self.subTest(mapping):
+                self.assertEqual([tokens.parsed("0x20319", ("a",))[1] for _ in range(2)], [asked, asked])
+
     def test_many_groups(self) -> None:
         """A user of more than 256 has what takes long answered by a thread, and of more than 2,048 nothing."""
         groups = [f"S-1-5-21-1-2-3-{at}" for at in range(MOST_WORDS + 1)]
