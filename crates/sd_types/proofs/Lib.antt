@@ -6,5 +6,6 @@ pub mod Asked
 pub mod Same
 pub mod Judged
 pub mod Nodes
+pub mod Remaining
 pub mod Steps
 pub mod Parts

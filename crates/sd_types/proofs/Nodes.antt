@@ -19,7 +19,7 @@ use Rattle.sd_types.specs.Laws.{NodeIsGrantedWhatItsLeavesAre, granted_on, most_
 use Rattle.sd_types.specs.Tree.{Chain, IsNode, leaves_under}
 use Rattle.sd_types.specs.Verdicts.{about, both, common, part_verdict, with_parts}
 
-and_assoc : (a b c : Bool) → ((a && b) && c) ≡ (a && (b && c))
+pub and_assoc : (a b c : Bool) → ((a && b) && c) ≡ (a && (b && c))
 and_assoc true b c = refl
 and_assoc false b c = refl
 

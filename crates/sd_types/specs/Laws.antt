@@ -1,11 +1,12 @@
 -- What follows from the rules, over all trees, lists and questions.
-use Rattle.std.specs.Prelude.{◌≡◌, ℕ, Bool, List, [], Ok}
+use Rattle.std.specs.Prelude.{◌≡◌, ℕ, Bool, List, [], Ok, map}
 use Rattle.std.specs.List.{list_all, list_any}
 use Rattle.sd_access.specs.Access.{context_for, taken_from}
 use Rattle.sd_acl.specs.Descriptor.{DescriptorValue}
 use Rattle.sd_acl.specs.declared.ace.Ace.{Ace}
 use Rattle.sd_acl.specs.declared.ace.AceKind.{AceKind}
 use Rattle.sd_check.specs.Check.{dacl_entries, first, is_allowed_by, is_granted, judged, most}
+use Rattle.sd_check.specs.declared.verdict.Verdict.{Verdict}
 use Rattle.sd_label.specs.Under.{granted_under, most_under}
 use Rattle.sd_sid.specs.Mapping.{MappingValue}
 use Rattle.sd_sid.specs.Mask.{holds, mask_of}
@@ -16,8 +17,9 @@ use Rattle.sd_specialize.specs.Specialize.{specialized, specialized_list}
 use Rattle.sd_whole.specs.declared.ace.WholeAce.{WholeAce}
 use Rattle.sd_whole.specs.declared.descriptor.WholeDescriptor.{WholeDescriptor}
 use Rattle.sd_types.specs.Propagation.{Saying, Tells, Told, allows, denies, first_for, nothing_told, sayings}
+use Rattle.sd_types.specs.Remaining.{AreTold, ToldInPasses, verdict_at}
 use Rattle.sd_types.specs.Tree.{Chain, IsNode, chains_of, leaves_under}
-use Rattle.sd_types.specs.Verdicts.{TreeQuestionValue, about, node_verdict}
+use Rattle.sd_types.specs.Verdicts.{TreeQuestionValue, about, node_verdict, tree_verdicts}
 use Rattle.sd_types.specs.declared.tree.TypeNode.{TypeNode}
 
 -- ---- propagation
@@ -70,3 +72,12 @@ NodeIsGrantedWhatItsLeavesAre =
     (λ b. list_all (λ n. granted_on q d (plain n) b) (leaves_under q.tree m))
     (mask_of (λ b. list_all (λ n. holds (most_on q d (plain n)) b) (leaves_under q.tree m)) 32)
     q.asked)
+
+-- ---- from propagation to the verdicts
+
+-- whatever the entries tell, gone through in each pass for each right, the verdicts on the nodes are those by it
+abbrev pub PropagationGivesTheVerdicts : Type 0
+PropagationGivesTheVerdicts =
+    (nodes : List TypeNode) (q : TreeQuestionValue) (d : WholeDescriptor) (told : ToldInPasses)
+    → q.tree ≡ chains_of nodes → AreTold q d told
+    → (verdicts : List Verdict) → tree_verdicts q d ≡ Ok verdicts → verdicts ≡ map (verdict_at q d told) q.tree

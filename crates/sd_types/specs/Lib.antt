@@ -1,4 +1,5 @@
 pub mod Tree
 pub mod Verdicts
 pub mod Propagation
+pub mod Remaining
 pub mod Laws

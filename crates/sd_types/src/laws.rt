@@ -1,6 +1,7 @@
 //! What follows from the rules. Each law is the contract of a function that does nothing.
 
-ghost use Rattle.sd_types.specs.Laws.{EachListIsGoneThrough, NodeIsGrantedWhatItsLeavesAre, PropagationGrantsTheSame};
+ghost use Rattle.sd_types.specs.Laws.{EachListIsGoneThrough, NodeIsGrantedWhatItsLeavesAre};
+ghost use Rattle.sd_types.specs.Laws.{PropagationGivesTheVerdicts, PropagationGrantsTheSame};
 
 /// A law: the entries of a DACL, gone through in order, with what each says handed down and up, grant a right to just
 /// those nodes of which each leaf is granted it by its chain ([MS-DTYP] 2.5.3.2, ObjectTypeList).
@@ -19,4 +20,11 @@ pub fn each_list_is_gone_through()
 #[tactic(auto, using(crate::proofs::Nodes::node_is_granted_what_its_leaves_are))]
 pub fn node_is_granted_what_its_leaves_are()
     ensures { NodeIsGrantedWhatItsLeavesAre }
+{}
+
+/// A law: gone through in each pass for each right, with what each says handed down and up, the entries of a DACL leave
+/// at each node just what the verdict on it is ([MS-DTYP] 2.5.3.2, ObjectTypeList).
+#[tactic(auto, using(crate::proofs::Remaining::propagation_gives_the_verdicts))]
+pub fn propagation_gives_the_verdicts()
+    ensures { PropagationGivesTheVerdicts }
 {}

@@ -18,7 +18,8 @@ mod tree;
 mod verdicts;
 
 pub use laws::{
-    each_list_is_gone_through, node_is_granted_what_its_leaves_are, propagation_grants_the_same,
+    each_list_is_gone_through, node_is_granted_what_its_leaves_are, propagation_gives_the_verdicts,
+    propagation_grants_the_same,
 };
 pub use question::TreeQuestion;
 pub use tree::{MAX_LEVEL, TreeError, TreeFault, TreeFaultKind, TypeNode, TypeTree};
