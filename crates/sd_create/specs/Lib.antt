@@ -1,0 +1,4 @@
+pub mod Entry
+pub mod Acl
+pub mod Create
+pub mod Laws
