@@ -337,15 +337,13 @@ REJECTED = r"""
 1 ExcludedOption | --base64 --loose frombin 00
 1 LacksWhole | --type 1 verdict D: SY 0x1
 1 LacksWhole | --type 1 --object compare D: D:
-2 LacksObject | --whole --type 1 compare D: D:
 1 LacksWhole | --schema f --type 1 who D: 0x1
 1 LacksWhole | --type 1 lint D:
 2 LacksObject | --whole --type 1 lint D:
-2 LacksObject | --whole --schema f compare D: D:
 2 LacksObject | --whole --schema f lint D:
 2 MisplacedOption | --whole --schema f sort D:
-1 LacksObject | --self PS --whole compare D: D:
-1 LacksObject | --self PS --whole each compare D:
+1 LacksObject | --self PS --whole lint D:
+1 LacksObject | --self PS --whole each lint
 3 LacksWhole | --stdin --names --self PS why SY 0x1
 2 ExcludedOption | --whole --self PS --below who D: 0x1
 11 TooManyTypes | --type 1 --type 2 --type 3 --type 4 --type 5 --type 6 --whole why D: SY 0x1

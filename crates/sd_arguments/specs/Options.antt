@@ -114,8 +114,8 @@ options_in = options_from None
 abbrev pub fits_beside : List ℕ → OptionsValue → Beside → Bool
 fits_beside name options Any = true
 fits_beside name options (Without other) = not (has options other)
-fits_beside name options (With one other also) =
-    has options one && not (has options other) && (not (takes_option name also) || has options also)
+fits_beside name options (With one other taken also) =
+    has options one && not (has options other) && (not (takes_option name taken) || has options also)
 
 -- the option may go before the command of this name, and beside the others
 abbrev pub goes_before : List ℕ → OptionsValue → ProgramOption → Bool

@@ -64,10 +64,10 @@ fn wrong_option(name: &str, options: Options<'_>, option: ProgramOption) -> Opti
     match option.beside {
         Beside::Without(other) if options.has(other) => Some(UsageErrorKind::ExcludedOption),
         Beside::With(one, ..) if !options.has(one) => Some(UsageErrorKind::LacksWhole),
-        Beside::With(_, other, _) if options.has(other) => Some(UsageErrorKind::ExcludedOption),
-        Beside::With(_, _, also) if takes_option(name, also) && !options.has(also) => Some(
-            UsageErrorKind::LacksObject,
-        ),
+        Beside::With(_, other, ..) if options.has(other) => Some(UsageErrorKind::ExcludedOption),
+        Beside::With(_, _, taken, also) if takes_option(name, taken) && !options.has(also) => {
+            Some(UsageErrorKind::LacksObject)
+        }
         _ => None,
     }
 }

@@ -1,6 +1,6 @@
 -- Where no effective entry has an ObjectType, the plain descriptor is the same for all object types; and where two have one
 -- owner and one list, so have their plain ones.
-use Rattle.sd_commands.proofs.Cited.{Bool, List, None, Option, Some, [], ap, ap₂, arith, false, if◌then◌else◌, inl, inr, list_any, not, option_map_or, refl, sym, true, ℕ, ◌&&◌, ◌++◌, ◌+◌, ◌∙◌, ◌∷◌, ◌≡◌, ◌||◌}
+use Rattle.sd_commands.proofs.Cited.{Bool, List, None, Option, Some, [], and-true, ap, ap₂, arith, false, if◌then◌else◌, inl, inr, list_any, map, not, option_map_or, refl, sym, true, ℕ, ◌&&◌, ◌++◌, ◌+◌, ◌∙◌, ◌∷◌, ◌≡◌, ◌||◌}
 use Rattle.std.proofs.lemmas.Bool.{cases_Bool}
 use Rattle.std.specs.Prelude.{Err, Ok, Result, is_some}
 use Rattle.std.specs.Bool.{beq}
@@ -22,8 +22,9 @@ use Rattle.sd_whole.specs.declared.descriptor.WholeDescriptor.{WholeDescriptor}
 use Rattle.sd_whole.specs.declared.kind.WholeKind.{WholeKind}
 use Rattle.sd_whole.specs.declared.kind.WholeKind.TheVariants as kinds
 use Rattle.sd_whole.specs.declared.types.Guid.{Guid}
+use Rattle.sd_specialize.specs.Children.{handed_entry, handed_sid, handed_typed, is_of_class, no_right}
 use Rattle.sd_specialize.specs.Context.{ContextValue}
-use Rattle.sd_specialize.specs.Entry.{allows_by_condition, allows_type, applies_as, deciding_for, decides, denies_by_condition, denies_type, effective_for, entry_for, plain_for, typed_for, without_part}
+use Rattle.sd_specialize.specs.Entry.{allows_by_condition, allows_type, applies_as, deciding_for, decides, denies_by_condition, denies_type, effective_for, entry_for, nobody, plain_for, typed_for, without_part}
 use Rattle.sd_specialize.proofs.LaterMarks.{later_marks_change_nothing}
 use Rattle.sd_specialize.specs.Everyone.{conditional_place, has_condition, is_conditional, unless_conditional}
 use Rattle.sd_specialize.specs.Laws.{asking}
@@ -32,7 +33,7 @@ use Rattle.sd_specialize.specs.Specialize.{acl_by, descriptor_by, entries_by, fi
 use Rattle.sd_specialize.specs.declared.fault.RefusedKind.{RefusedKind}
 use Rattle.sd_specialize.specs.declared.fault.RefusedKind.TheVariants.{PassesDiffer}
 use Rattle.sd_specialize.specs.declared.fault.SpecializeFault.{SpecializeFault}
-use Rattle.sd_commands.specs.ObjectTypes.{OneListForAllTypes, TypesChangeNothing, has_types, is_for_type}
+use Rattle.sd_commands.specs.ObjectTypes.{OneListForAllTypes, TypesChangeNoChild, TypesChangeNothing, has_types, is_for_type}
 
 -- ---- an entry without an ObjectType
 
@@ -73,13 +74,13 @@ unless_inherit_only true typed x a b none same = refl
 unless_inherit_only false false x a b none same = same refl
 unless_inherit_only false true x a b none same = absurd cc
 
-typed_alike : (c : ContextValue) (other : List Guid) (e : TypedAce) (k : Option AceKind) → is_for_type (Typed e) ≡ false
+typed_alike : (c : ContextValue) (other : List Guid) (e : TypedAce) (k : Option AceKind) → is_for_type false (Typed e) ≡ false
     → typed_for k (asking c other) e ≡ typed_for k c e
 typed_alike c other e None none =
     unless_inherit_only (for_children_alone e.flags.0) (is_some e.types.object) _ _ _ none (effective_alike c other e (decides e.kind))
 typed_alike c other e (Some kind) none = refl
 
-entry_alike : (c : ContextValue) (other : List Guid) (e : WholeAce) → is_for_type e ≡ false → entry_for (asking c other) e ≡ entry_for c e
+entry_alike : (c : ContextValue) (other : List Guid) (e : WholeAce) → is_for_type false e ≡ false → entry_for (asking c other) e ≡ entry_for c e
 entry_alike c other (Plain e) none = refl
 entry_alike c other (Typed e) none = typed_alike c other e (plain_kind e.kind) none
 entry_alike c other (Opaque e) none = refl
@@ -97,6 +98,8 @@ no_type has alone typed is none = grind (arith, is, none)
 
 module _ (c : ContextValue) (other : List Guid) (marks : List TypedAce) where
   of_types_alike : (kind : WholeKind) (e : TypedAce) → is_some e.types.object ≡ false → is_of_types kind (asking c other) e ≡ is_of_types kind c e
+  of_types_alike kinds.ObjectAllow e none = allow_alike c.chain other e.types.object none
+  of_types_alike kinds.ObjectDeny e none = deny_alike c.chain other e.types.object none
   of_types_alike kinds.CallbackObjectAllow e none = allow_alike c.chain other e.types.object none
   of_types_alike kinds.CallbackObjectDeny e none = deny_alike c.chain other e.types.object none
   of_types_alike _ e none = refl
@@ -106,7 +109,7 @@ module _ (c : ContextValue) (other : List Guid) (marks : List TypedAce) where
       (λ types. if types then plain_ace (decision_of e) e.flags.0 e.mask (marker (mark_place marks e)) else without_part c e.flags.0 e.sid)
       (of_types_alike e.kind e none)
 
-  marked_alike : (e : WholeAce) → is_for_type e ≡ false → marked_entry (asking c other) marks e ≡ marked_entry c marks e
+  marked_alike : (e : WholeAce) → is_for_type false e ≡ false → marked_entry (asking c other) marks e ≡ marked_entry c marks e
   marked_alike (Plain e) none = refl
   marked_alike (Typed e) none = elim (cases_Bool (is_conditional (Typed e))) [
     | inl is ↦ rw is (ap Ok (marked_for_alike e (no_type (has_condition e.kind) (for_children_alone e.flags.0) (is_some e.types.object) is none)))
@@ -116,15 +119,15 @@ module _ (c : ContextValue) (other : List Guid) (marks : List TypedAce) where
 
   -- ---- a list
 
-  entries_alike : (n : ℕ) (es : List WholeAce) → list_any is_for_type es ≡ false
+  entries_alike : (n : ℕ) (es : List WholeAce) → list_any (is_for_type false) es ≡ false
       → entries_by (marked_entry (asking c other) marks) n es ≡ entries_by (marked_entry c marks) n es
   entries_alike n [] none = refl
   entries_alike n (e ∷ es) none = ap₂
       (λ one more. numbered n one >>= λ first. (more >>= λ others. Ok (first ∷ others)))
-      (marked_alike e (none_here (is_for_type e) (list_any is_for_type es) none))
-      (entries_alike (n + 1) es (none_later (is_for_type e) (list_any is_for_type es) none))
+      (marked_alike e (none_here (is_for_type false e) (list_any (is_for_type false) es) none))
+      (entries_alike (n + 1) es (none_later (is_for_type false e) (list_any (is_for_type false) es) none))
 
-  acl_alike : (acl : WholeAcl) → has_types acl ≡ false → acl_by (marked_entry (asking c other) marks) acl ≡ acl_by (marked_entry c marks) acl
+  acl_alike : (acl : WholeAcl) → has_types false acl ≡ false → acl_by (marked_entry (asking c other) marks) acl ≡ acl_by (marked_entry c marks) acl
   acl_alike Absent none = refl
   acl_alike Null none = refl
   acl_alike (Entries list) none =
@@ -148,6 +151,33 @@ types_change_nothing c other marks d none =
     ap (λ b. unless_conditional (if option_map_or is_marker d.owner false || b then conditional_place d.dacl else None) (descriptor_by (marked_entry (asking c other) marks) d))
     (hindered_alike c other marks d.dacl)
     ∙ ap (λ found. unless_conditional (unmarked_place c d d) (found >>= λ dacl. Ok (with_dacl d dacl))) (acl_alike c other marks d.dacl none)
+
+-- ---- what children inherit
+
+module _ (class : Option Guid) (c : ContextValue) (other : List Guid) (marks : List TypedAce) where
+  handed_typed_alike : (k : Option AceKind) (e : TypedAce) → is_some e.types.object ≡ false → handed_typed k (asking c other) marks e ≡ handed_typed k c marks e
+  handed_typed_alike None e none = refl
+  handed_typed_alike (Some kind) e none = ap
+      (λ types. if types then plain_ace kind e.flags.0 e.mask (handed_sid marks e) else no_right e.flags.0 e.sid)
+      (of_types_alike c other marks e.kind e none)
+
+  handed_alike : (e : WholeAce) → is_for_type true e ≡ false → handed_entry class (asking c other) marks e ≡ handed_entry class c marks e
+  handed_alike (Plain e) none = refl
+  handed_alike (Typed e) none = ap (λ one. if is_of_class class e.types then one else no_right e.flags.0 nobody)
+      (handed_typed_alike (decides e.kind) e (sym (and-true (is_some e.types.object)) ∙ none))
+  handed_alike (Opaque e) none = refl
+
+  all_handed_alike : (es : List WholeAce) → list_any (is_for_type true) es ≡ false
+      → map (handed_entry class (asking c other) marks) es ≡ map (handed_entry class c marks) es
+  all_handed_alike [] none = refl
+  all_handed_alike (e ∷ es) none = ap₂ (λ one more. one ∷ more)
+      (handed_alike e (none_here (is_for_type true e) (list_any (is_for_type true) es) none))
+      (all_handed_alike es (none_later (is_for_type true e) (list_any (is_for_type true) es) none))
+
+pub types_change_no_child : TypesChangeNoChild
+types_change_no_child class c other marks Absent none = refl
+types_change_no_child class c other marks Null none = refl
+types_change_no_child class c other marks (Entries list) none = all_handed_alike class c other marks list.entries none
 
 -- ---- one owner and one list
 

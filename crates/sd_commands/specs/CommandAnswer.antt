@@ -1,6 +1,6 @@
 -- What a command about a descriptor answers, and whether it did what was asked for. The arguments are read from left to
 -- right, and the answer is the fault of the first that is invalid.
-use Rattle.std.specs.Prelude.{◌≡◌, ◌⊎◌, ℕ, Bool, not, ◌&&◌, ◌||◌, MatchBool, List, [], ◌∷◌, ◌++◌, codes}
+use Rattle.std.specs.Prelude.{◌≡◌, ◌⊎◌, ℕ, Bool, false, not, ◌&&◌, ◌||◌, MatchBool, List, [], ◌∷◌, ◌++◌, codes}
 use Rattle.std.specs.Prelude.{Option, Some, None, drop, option_map}
 use Rattle.std.specs.Prelude.{slice_get}
 use Rattle.std.specs.Option.{option_map_or}
@@ -23,12 +23,10 @@ use Rattle.sd_answer.specs.declared.forms.TheConstants.{SAME}
 use Rattle.sd_client.specs.Client.{ClientValue}
 use Rattle.sd_client.specs.Word.{IsClient, IsFirstNoClientWord}
 use Rattle.sd_analysis.specs.Compare.{AreGains}
-use Rattle.sd_analysis.specs.Descendants.{AreDescendantChanges}
-use Rattle.sd_analysis.specs.declared.descendants_compare.DescendantChange.{DescendantChange}
 use Rattle.sd_analysis.specs.declared.compare_report.Change.{Change}
 use Rattle.sd_check.specs.declared.token.GroupState.{GroupState}
 use Rattle.sd_answer.specs.Compare.{gains_and_losses}
-use Rattle.sd_answer.specs.Descendants.{descendants_lines, inheritance_lines}
+use Rattle.sd_answer.specs.Descendants.{inheritance_lines}
 use Rattle.sd_line.specs.Mask.{IsMaskErrorIn, IsMaskIn}
 use Rattle.sd_answer.specs.Parts.{parts_in}
 use Rattle.sd_line.specs.Request.{requested}
@@ -68,7 +66,8 @@ use Rattle.sd_commands.specs.Answer.{AnswersFit, IsFaultOf, IsFound, Noting, Tel
 use Rattle.sd_commands.specs.Chain.{types_of}
 use Rattle.sd_commands.specs.Conditions.{hides, shown_by}
 use Rattle.sd_commands.specs.ForEveryone.{AnswersOfEveryone, compared_as, marks_of}
-use Rattle.sd_commands.specs.Handed.{ChildrenAreLeftOut, HandedValue, children_left_out, handed_in, handed_or}
+use Rattle.sd_commands.specs.Handed.{AreDescendantLines, ChildrenAreLeftOut, HandedValue, children_left_out}
+use Rattle.sd_commands.specs.Handed.{handed_in, handed_or}
 use Rattle.sd_acl.specs.declared.descriptor.DaclOf.TheVariants.{Absent}
 use Rattle.sd_specialize.specs.Everyone.{conditional_fault}
 use Rattle.sd_specialize.specs.Marked.{conditionals, unmarked_place}
@@ -297,18 +296,6 @@ AreOwnChanges settings old new base lines =
     × AreGains settings.mapping base (parts_in new) (parts_in old) lost
     × (lines ≡ gains_and_losses None (parts_in old) (parts_in new) gained lost)
 
--- of a child no SID is known for which PRINCIPAL SELF stands
-abbrev pub of_child : Settings → Settings
-of_child settings = record settings { principal_self = None }
-
--- what tokens gain and lose of all that is made in the object, if it is a container, with conditions in the place of
--- markers
-abbrev pub AreDescendantLines : Settings → HandedValue → List (SidValue × GroupState) → List LineOf → Type 0
-AreDescendantLines settings handed base lines =
-    (changes : List DescendantChange)
-    × AreDescendantChanges settings.mapping base handed.old handed.new changes
-    × (lines ≡ shown_by (of_child settings) handed.marks (descendants_lines changes))
-
 -- what tokens gain and lose, with conditions in the place of markers, whether the list inherits where it did not, and
 -- these lines; or that nothing of it changes
 abbrev pub PrintsComparison : Settings → List TypedAce → HandedValue → List LineOf → DescriptorValue → DescriptorValue
@@ -388,14 +375,14 @@ AnswersPlainly settings question text arguments =
 -- what `who` answers: where an entry has a condition, if that is met; and of the whole object alone types are left out
 abbrev pub AnswersWhoOfWhole : Settings → List ℕ → List (Bor (List ℕ)) → AnswerValue → Type 0
 AnswersWhoOfWhole settings text arguments = AnswersOfEveryone (codes "SDDL") all_left_out Absent settings text
-    (λ whole d. NotingTypes settings (has_types whole.dacl && is_of_whole (types_of settings.chain))
+    (λ whole d. NotingTypes settings (has_types false whole.dacl && is_of_whole (types_of settings.chain))
     (λ left_out. AnswersWho settings (conditionals whole.dacl) left_out arguments d))
 
 -- what `lint` answers of the object itself, for the object types asked about: of the whole object alone types are left
 -- out
 abbrev pub AnswersLintOfWhole : Settings → List ℕ → List (Bor (List ℕ)) → AnswerValue → Type 0
 AnswersLintOfWhole settings text words = AnswersOfEveryone (codes "SDDL") all_left_out Absent settings text
-    (λ whole d. NotingTypes settings (has_types whole.dacl) (λ left_out. AnswersOfBase settings words (λ base.
+    (λ whole d. NotingTypes settings (has_types false whole.dacl) (λ left_out. AnswersOfBase settings words (λ base.
     AnswersUnhidden (conditionals whole.dacl) base (AnswersWholeFindings settings whole left_out d base))))
 
 -- what is answered where each condition of this argument can have a marker; or the first that can't is refused
@@ -416,10 +403,10 @@ abbrev pub AnswersCompareMarked : Settings → (old : WholeDescriptor) → Descr
     → DescriptorValue → List (Bor (List ℕ)) → AnswerValue → Type 0
 AnswersCompareMarked settings old plain_old new plain_new words answer =
     (is_left : Bool) × ChildrenAreLeftOut is_left old.dacl new.dacl
-    × (depends : Bool) × ChangeHasTypes depends old new
+    × (depends : Bool) × ChangeHasTypes depends (not settings.object) old new
     × (last : List LineOf) × AreLastLines settings depends is_left old new last
     × Telling (types_note settings depends) (AnswersOfBase settings words (AnswersComparison settings
-    (marks_of old.dacl new.dacl) (handed_in settings.object is_left old.dacl new.dacl) last
+    (marks_of old.dacl new.dacl) (handed_in settings is_left old.dacl new.dacl) last
     (compared_as settings old new plain_old) (compared_as settings old new plain_new))) answer
 
 -- that, where neither has a SID that is a marker of the other's conditions

@@ -1,28 +1,25 @@
 //! The answers to `who` and `compare`: whom rights are granted to, and what a change of a descriptor grants and takes.
 ghost use Rattle.std.specs.Prelude.{◌≡◌, ◌<◌, IfOk, length};
-ghost use Rattle.sd_acl.specs.Descriptor.{DescriptorValue, descriptor_of};
+ghost use Rattle.sd_acl.specs.Descriptor.{descriptor_of};
 ghost use Rattle.sd_answer.specs.Word.{IsFirstNoGroup, texts};
 ghost use Rattle.sd_commands.specs.Analysis.{AreBelowLines, AreWhoLines};
 ghost use Rattle.sd_commands.specs.Answer.{answer_of};
-ghost use Rattle.sd_commands.specs.CommandAnswer.{AnswersComparison, AnswersOfBase, AnswersOn, AreDescendantLines};
-ghost use Rattle.sd_commands.specs.CommandAnswer.{IsHidden};
+ghost use Rattle.sd_commands.specs.CommandAnswer.{AnswersComparison, AnswersOfBase, AnswersOn, IsHidden};
 ghost use Rattle.sd_specialize.specs.Marked.{lent_marks};
 ghost use Rattle.sd_commands.specs.CommandAnswer.{AnswersWho, AreOwnChanges, IsGroupFault, PrintsSeen, PrintsWho};
-ghost use Rattle.sd_commands.specs.CommandAnswer.{of_child};
-ghost use Rattle.sd_commands.specs.Conditions.{shown_by};
-ghost use Rattle.sd_commands.specs.Handed.{handed_or, lent_handed};
+ghost use Rattle.sd_commands.specs.Handed.{lent_handed};
 
 use crate::command_answer::{Answer, Answered, found};
 use crate::conditions::hides;
 use crate::descriptor::{Given, note_left_out_sacl, note_object};
-use crate::handed::Handed;
+use crate::handed::{Handed, marks_in};
 use crate::object::{either_leaves_out, looked_at};
-use crate::settings::{CommandContext, Settings};
+use crate::settings::CommandContext;
 use crate::words::{argument, items_from};
-use sd_acl::{Ace, Descriptor};
-use sd_analysis::{Base, compare, compare_descendants, who, who_descendants};
+use sd_acl::Descriptor;
+use sd_analysis::{Base, compare, who, who_descendants};
 use sd_answer::{
-    SAME, TokenError, dacl_ref, descriptor_ref, entries_in, push_descendants, push_descendants_who,
+    SAME, TokenError, dacl_ref, descriptor_ref, entries_in, push_descendants_who,
     push_gains_and_losses, push_inheritance, read_base, rights_asked, who_lines,
 };
 use sd_check::GroupState;
@@ -245,71 +242,5 @@ impl CommandContext<'_> {
         let mut lines = Vec::new(self.alloc);
         push_gains_and_losses(self.alloc, &mut lines, None, &old, &new, &comparison)?;
         Ok(lines)
-    }
-
-    /// What they gain and lose of all that is made in it, if it is a container.
-    fn changes_below(
-        &self,
-        old: &Descriptor,
-        new: &Descriptor,
-        marks: &[&TypedAce],
-        handed: Option<&Handed<'_>>,
-        base: &Base<'_>,
-    ) -> Result<Vec<Line>, AllocError>
-        ensures { IfOk result (λ lines. AreDescendantLines self.now.settings.now
-            (handed_or (lent_handed handed.entry) (lent_marks marks.now) (descriptor_of old.now)
-            (descriptor_of new.now)) base.now lines.items) }
-    {
-        match handed {
-            Some(handed) => {
-                self.descendant_changes(&handed.old, &handed.new, &handed.marks, base)
-            }
-            None => {
-                self.descendant_changes(entries_in(&old.dacl), entries_in(&new.dacl), marks, base)
-            }
-        }
-    }
-
-    fn descendant_changes(
-        &self,
-        old: &[Ace],
-        new: &[Ace],
-        marks: &[&TypedAce],
-        base: &Base<'_>,
-    ) -> Result<Vec<Line>, AllocError>
-        ensures { IfOk result (λ lines. AreDescendantLines self.now.settings.now
-            (record { old = old.now; new = new.now; marks = lent_marks marks.now }) base.now lines.items) }
-    {
-        let changes = compare_descendants(self.alloc, old, new, &self.settings.mapping, base)?;
-        let mut lines = Vec::new(self.alloc);
-        push_descendants(self.alloc, &mut lines, &changes)?;
-        self.shown_of_child(marks, lines)
-    }
-
-    /// The lines of a child, with these conditions in the place of their markers: PRINCIPAL SELF is the child's own.
-    fn shown_of_child(&self, marks: &[&TypedAce], lines: Vec<Line>) -> Result<Vec<Line>, AllocError>
-        ensures { IfOk result (λ shown. shown.items
-            ≡ shown_by (of_child self.now.settings.now) (lent_marks marks.now) lines.items) }
-    {
-        let settings = Settings {
-            principal_self: None,
-            ..*self.settings
-        };
-        let of_child = CommandContext {
-            alloc: self.alloc,
-            settings: &settings,
-        };
-        of_child.shown_by(marks, lines)
-    }
-}
-
-/// The conditions for which markers stand: those of what is made in a container, where these are given.
-fn marks_in<'a>(handed: Option<&'a Handed<'a>>, marks: &'a [&'a TypedAce]) -> &'a [&'a TypedAce]
-    ensures { (old new : DescriptorValue) → lent_marks result.now
-        ≡ (handed_or (lent_handed handed.entry) (lent_marks marks.now) old new).marks }
-{
-    match handed {
-        Some(handed) => &handed.marks,
-        None => marks,
     }
 }

@@ -11,6 +11,11 @@ pub const MAY_BE_GRANTED: LineForm = (
     "{sid} may be granted {right}, by conditions",
 );
 
+// Before a line about what is made in a container, where entries name classes of it.
+pub const OF_CLASS: &str = "class {class}: ";
+
+pub const OF_OTHERS: &str = "{classes} classes: ";
+
 // What an answer about a container leaves out.
 pub const OBJECT_ALONE: LineForm = (
     "object alone",

@@ -3,7 +3,7 @@
 ghost use Rattle.sd_commands.specs.Labels.{NoLineTakesAlike};
 ghost use Rattle.sd_commands.specs.Limits.{ConditionsAskAlike};
 ghost use Rattle.sd_commands.specs.Object.{ObjectDecidesAlike, ObjectHandsNothingOn};
-ghost use Rattle.sd_commands.specs.ObjectTypes.{OneListForAllTypes, TypesChangeNothing};
+ghost use Rattle.sd_commands.specs.ObjectTypes.{OneListForAllTypes, TypesChangeNoChild, TypesChangeNothing};
 ghost use Rattle.sd_commands.specs.Sort.{CanonicalStays, SortedIsCanonical};
 
 /// What `sort` prints is in canonical order, and a list that is in it stays as it is ([MS-DTYP] 2.4.5).
@@ -30,6 +30,12 @@ pub fn object_hands_nothing_on()
 #[tactic(auto, using(crate::proofs::TypesAlike::types_change_nothing))]
 pub fn types_change_nothing()
     ensures { TypesChangeNothing }
+{}
+
+/// Where no entry, for children alone or not, has an ObjectType, so is what children of each class inherit ([MS-DTYP]
+/// 2.5.3.4).
+pub fn types_change_no_child()
+    ensures { TypesChangeNoChild }
 {}
 
 /// Where a change leaves the owner and the DACL as they are, it changes nothing for any object type either: the plain

@@ -61,7 +61,7 @@ pub use diagnostic::{sid_reason, told_line};
 pub use escaped::escaped_word;
 pub use laws::{
     conditions_ask_alike, no_line_takes_alike, object_decides_alike, object_hands_nothing_on,
-    one_list_for_all_types, sorted_is_canonical, types_change_nothing,
+    one_list_for_all_types, sorted_is_canonical, types_change_no_child, types_change_nothing,
 };
 pub use logon::{Logon, fits_logon, logon_given, words_for};
 pub use mapping::{kind_given, mapping_given};

@@ -1,5 +1,5 @@
 //! Which object types an answer is about, where that depends on it.
-ghost use Rattle.std.specs.Prelude.{◌≡◌, ◌&&◌, ◌||◌, IfOk, string_bytes};
+ghost use Rattle.std.specs.Prelude.{◌≡◌, ◌&&◌, ◌||◌, IfOk, false, string_bytes};
 ghost use Rattle.std.specs.Bool.{Decides};
 ghost use Rattle.std.specs.List.{list_any};
 ghost use Rattle.sd_commands.specs.Answer.{IsTold, answer_of};
@@ -18,50 +18,53 @@ use sd_sid::Sid;
 use sd_whole::{WholeAce, WholeAcl, WholeDescriptor, for_children_alone};
 use std::alloc::{AllocError, Global};
 
-/// Whether an effective entry has an ObjectType ([MS-DTYP] 2.4.4.3): its part depends on the object types asked about.
-pub(crate) fn has_types(acl: &WholeAcl) -> bool
-    ensures { result ≡ has_types acl.now }
+/// Whether an effective entry has an ObjectType ([MS-DTYP] 2.4.4.3), or where children are looked at one for them: its
+/// part depends on the object types asked about.
+pub(crate) fn has_types(below: bool, acl: &WholeAcl) -> bool
+    ensures { result ≡ has_types below acl.now }
 {
     match acl {
         WholeAcl::Absent | WholeAcl::Null => false,
-        WholeAcl::List(list) => are_for_types(list.entries()),
+        WholeAcl::List(list) => are_for_types(below, list.entries()),
     }
 }
 
-fn are_for_types(entries: &[WholeAce]) -> bool
-    ensures { result ≡ list_any is_for_type entries.now }
+fn are_for_types(below: bool, entries: &[WholeAce]) -> bool
+    ensures { result ≡ list_any (is_for_type below) entries.now }
 {
-    entries.iter().any(is_for_type)
+    entries.iter().any(|entry| is_for_type(below, entry))
 }
 
-fn is_for_type(entry: &WholeAce) -> bool
-    ensures { result ≡ is_for_type entry.now }
+fn is_for_type(below: bool, entry: &WholeAce) -> bool
+    ensures { result ≡ is_for_type below entry.now }
 {
     match entry {
-        WholeAce::Typed(ace) => ace.types.object.is_some() && !for_children_alone(ace.flags),
+        WholeAce::Typed(ace) => {
+            ace.types.object.is_some() && (below || !for_children_alone(ace.flags))
+        }
         _ => false,
     }
 }
 
 /// Whether `who` depends on the object types, of which none is asked about.
 pub(crate) fn who_has_types(settings: &Settings, descriptor: &WholeDescriptor) -> bool
-    ensures { result ≡ (has_types descriptor.now.dacl && is_of_whole (types_of settings.now.chain)) }
+    ensures { result ≡ (has_types false descriptor.now.dacl && is_of_whole (types_of settings.now.chain)) }
 {
-    has_types(&descriptor.dacl) && is_of_whole(settings)
+    has_types(false, &descriptor.dacl) && is_of_whole(settings)
 }
 
 /// Whether `compare` depends on the object types asked about: not where both have one owner and one DACL.
-pub(crate) fn change_has_types(old: &WholeDescriptor, new: &WholeDescriptor) -> bool
-    ensures { ChangeHasTypes result old.now new.now }
+pub(crate) fn change_has_types(below: bool, old: &WholeDescriptor, new: &WholeDescriptor) -> bool
+    ensures { ChangeHasTypes result below old.now new.now }
 {
     let same = same_rights(old, new);
-    either_has_types(old, new) && !same
+    either_has_types(below, old, new) && !same
 }
 
-fn either_has_types(old: &WholeDescriptor, new: &WholeDescriptor) -> bool
-    ensures { result ≡ (has_types old.now.dacl || has_types new.now.dacl) }
+fn either_has_types(below: bool, old: &WholeDescriptor, new: &WholeDescriptor) -> bool
+    ensures { result ≡ (has_types below old.now.dacl || has_types below new.now.dacl) }
 {
-    has_types(&old.dacl) || has_types(&new.dacl)
+    has_types(below, &old.dacl) || has_types(below, &new.dacl)
 }
 
 /// Whether both have one owner and one DACL.

@@ -98,7 +98,7 @@ impl CommandContext<'_> {
     {
         let (plain_old, plain_new) = (old.descriptor, new.descriptor);
         let (old, new) = (old.whole, new.whole);
-        let depends = change_has_types(&old, &new);
+        let depends = change_has_types(!self.settings.object, &old, &new);
         let is_left = children_are_left_out(&old.dacl, &new.dacl);
         let last = self.last_lines(&old, &new, depends, is_left)?;
         let marks = self.marks_of(&old.dacl, &new.dacl)?;

@@ -40,7 +40,7 @@ impl CommandContext<'_> {
             ForEveryone::Refused(answer) => return Ok(answer),
         };
         let is_there = has_sacl(&plain.whole);
-        let depends = has_types(&plain.whole.dacl);
+        let depends = has_types(false, &plain.whole.dacl);
         let left_out = types_left_out(self.alloc, self.settings, depends)?;
         let answer = self.whole_lint_of_base(plain, left_out, words)?;
         let answer = note_types(self.alloc, self.settings, depends, answer)?;

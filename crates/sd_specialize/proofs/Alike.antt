@@ -77,6 +77,8 @@ module _ (c k : ContextValue) (types : c.chain ≡ k.chain) (self : c.principal_
   unconditional_alike (Opaque e) none = refl
 
   marked_for_alike : (marks : List TypedAce) (kind : WholeKind) (e : TypedAce) → e.kind ≡ kind → marked_for c marks e ≡ marked_for k marks e
+  marked_for_alike marks kinds.ObjectAllow e is = rw (is, types, self) refl
+  marked_for_alike marks kinds.ObjectDeny e is = rw (is, types, self) refl
   marked_for_alike marks kinds.CallbackObjectAllow e is = rw (is, types, self) refl
   marked_for_alike marks kinds.CallbackObjectDeny e is = rw (is, types, self) refl
   marked_for_alike marks _ e is = rw is refl

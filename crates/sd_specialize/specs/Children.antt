@@ -1,10 +1,12 @@
--- What children inherit of a whole DACL, for all tokens ([MS-DTYP] 2.5.3.4): plain entries, of which the plain rule
--- makes the list of what is made in the container. That rule looks at an entry's flags, mask and SID, and changes
--- nothing else of it. So an entry with a condition is handed on as one for its marker is, which stands in a child for
--- who has the SID and meets the condition there. PRINCIPAL SELF is the child's own SID, and stays as it is.
-use Rattle.std.specs.Prelude.{Bool, false, not, ◌&&◌, ◌||◌, List, [], Option, Some, None, is_some, map}
-use Rattle.std.specs.Prelude.{if◌then◌else◌}
+-- What children of a class inherit of a whole DACL, for all tokens ([MS-DTYP] 2.5.3.4): plain entries, of which the
+-- plain rule makes the list of what is made in the container. That rule looks at an entry's flags, mask and SID, and
+-- changes nothing else of it. So an entry with a condition is handed on as one for its marker is, which stands in a
+-- child for who has the SID and meets the condition there; and one with an ObjectType is for what is asked about of the
+-- child. PRINCIPAL SELF is the child's own SID, and stays as it is.
+use Rattle.std.specs.Prelude.{ℕ, Bool, false, not, ◌&&◌, ◌||◌, List, [], ◌∷◌, ◌++◌, Option, Some, None, is_some, fold}
+use Rattle.std.specs.Prelude.{if◌then◌else◌, map}
 use Rattle.std.specs.List.{filter_map, list_any}
+use Rattle.std.specs.Option.{option_to_list}
 use Rattle.sd_sid.specs.Sid.{SidValue, owner_rights, same_sid}
 use Rattle.sd_acl.specs.Ace.{passes_on}
 use Rattle.sd_acl.specs.declared.ace.Ace.{Ace}
@@ -16,10 +18,12 @@ use Rattle.sd_whole.specs.Reading.{WholeAcl}
 use Rattle.sd_whole.specs.declared.ace.TypedAce.{TypedAce}
 use Rattle.sd_whole.specs.declared.ace.WholeAce.{WholeAce}
 use Rattle.sd_whole.specs.declared.ace.WholeAce.TheVariants.{Plain, Typed, Opaque}
+use Rattle.sd_whole.specs.declared.types.Guid.{Guid}
 use Rattle.sd_whole.specs.declared.types.ObjectTypes.{ObjectTypes}
-use Rattle.sd_specialize.specs.Entry.{decides, nobody}
+use Rattle.sd_specialize.specs.Context.{ContextValue}
+use Rattle.sd_specialize.specs.Entry.{allows_type, decides, is_asked, nobody}
 use Rattle.sd_specialize.specs.Everyone.{has_condition}
-use Rattle.sd_specialize.specs.Marked.{is_marker, mark_place, marker}
+use Rattle.sd_specialize.specs.Marked.{is_marker, is_of_types, mark_place, marker}
 
 -- none where there is no list
 abbrev pub entries_of : WholeAcl → List WholeAce
@@ -33,19 +37,53 @@ entries_of (Entries list) = list.entries
 abbrev pub handed_sid : List TypedAce → TypedAce → SidValue
 handed_sid marks e = if has_condition e.kind then marker (mark_place marks e) else e.sid
 
--- with flags and mask as they are, also where it is inherit-only; what is no allow and no deny names no right
-abbrev pub handed_typed : Option AceKind → List TypedAce → TypedAce → Ace
-handed_typed None marks e = plain_ace plain.Allow e.flags.0 0 e.sid
-handed_typed (Some kind) marks e = plain_ace kind e.flags.0 e.mask (handed_sid marks e)
+-- an entry that names no right
+abbrev pub no_right : ℕ → SidValue → Ace
+no_right flags sid = plain_ace plain.Allow flags 0 sid
 
-abbrev pub handed_entry : List TypedAce → WholeAce → Ace
-handed_entry marks (Plain e) = plain_ace e.kind e.flags.0 e.mask e.sid
-handed_entry marks (Typed e) = handed_typed (decides e.kind) marks e
-handed_entry marks (Opaque e) = plain_ace plain.Allow e.flags.0 0 nobody
+-- with flags and mask as they are, also where it is inherit-only; what is for another object type names no right, nor
+-- what is no allow and no deny
+abbrev pub handed_typed : Option AceKind → ContextValue → List TypedAce → TypedAce → Ace
+handed_typed None c marks e = no_right e.flags.0 e.sid
+handed_typed (Some kind) c marks e =
+    if is_of_types e.kind c e then plain_ace kind e.flags.0 e.mask (handed_sid marks e) else no_right e.flags.0 e.sid
 
--- of a DACL each entry, by these marks
-abbrev pub handed_entries : List TypedAce → WholeAcl → List Ace
-handed_entries marks acl = map (handed_entry marks) (entries_of acl)
+-- a child of this class, or of one that no entry names, has the entry as effective: it has no InheritedObjectType, or
+-- that is the class (2.4.4.3)
+abbrev pub is_of_class : Option Guid → ObjectTypes → Bool
+is_of_class class types = allows_type (option_to_list class) types.inherited
+
+-- to a child of another class it is handed on as inherit-only: it has no part there, and limits no owner
+abbrev pub handed_entry : Option Guid → ContextValue → List TypedAce → WholeAce → Ace
+handed_entry class c marks (Plain e) = plain_ace e.kind e.flags.0 e.mask e.sid
+handed_entry class c marks (Typed e) =
+    if is_of_class class e.types then handed_typed (decides e.kind) c marks e else no_right e.flags.0 nobody
+handed_entry class c marks (Opaque e) = no_right e.flags.0 nobody
+
+-- of a DACL each entry, for children of the class, of which this is asked, by these marks
+abbrev pub handed_entries : Option Guid → ContextValue → List TypedAce → WholeAcl → List Ace
+handed_entries class c marks acl = map (handed_entry class c marks) (entries_of acl)
+
+-- ---- the classes of children
+
+-- the class that the entry names, if it is handed on
+abbrev pub handed_class : WholeAce → Option Guid
+handed_class (Plain e) = None
+handed_class (Typed e) = if passes_on e.flags.0 then e.types.inherited else None
+handed_class (Opaque e) = None
+
+-- classes, with one more, each once
+abbrev pub with_class : List Guid → Option Guid → List Guid
+with_class classes None = classes
+with_class classes (Some class) = if is_asked classes class then classes else classes ++ class ∷ []
+
+-- with those that these entries name, in the order of their first places
+abbrev pub with_classes : List Guid → List WholeAce → List Guid
+with_classes classes es = fold (λ found e. with_class found (handed_class e)) classes es
+
+-- that entries of two DACLs name
+abbrev pub handed_classes : (one other : WholeAcl) → List Guid
+handed_classes one other = with_classes (with_classes [] (entries_of one)) (entries_of other)
 
 -- ---- the conditions of children
 
@@ -70,14 +108,10 @@ hands_on_conditions acl = list_any is_handed_conditional (entries_of acl)
 
 -- ---- what the plain entries don't say
 
--- who inherits it depends on a child's class, or which part of the child it speaks of on a type (2.4.4.3)
-abbrev pub has_types : ObjectTypes → Bool
-has_types types = is_some types.object || is_some types.inherited
-
--- it is handed on, and has object types, or is no allow and no deny
+-- it is handed on, and is no allow and no deny
 abbrev pub is_unsaid : WholeAce → Bool
 is_unsaid (Plain e) = false
-is_unsaid (Typed e) = passes_on e.flags.0 && (has_types e.types || not (is_some (decides e.kind)))
+is_unsaid (Typed e) = passes_on e.flags.0 && not (is_some (decides e.kind))
 is_unsaid (Opaque e) = passes_on e.flags.0
 
 -- it is handed on, and is for a SID that is a marker; or limits the owner of a child, whatever its condition comes to

@@ -29,6 +29,7 @@ use Rattle.sd_whole.specs.declared.ace.WholeAce.TheVariants.{Plain, Typed, Opaqu
 use Rattle.sd_whole.specs.declared.descriptor.WholeDescriptor.{WholeDescriptor}
 use Rattle.sd_whole.specs.declared.kind.WholeKind.{WholeKind}
 use Rattle.sd_whole.specs.declared.kind.WholeKind.TheVariants.{CallbackDeny, CallbackObjectAllow, CallbackObjectDeny}
+use Rattle.sd_whole.specs.declared.kind.WholeKind.TheVariants.{ObjectAllow, ObjectDeny}
 use Rattle.sd_specialize.specs.Context.{ContextValue}
 use Rattle.sd_specialize.specs.Entry.{allows_type, denies_type, entry_for, trustee, without_part}
 use Rattle.sd_specialize.specs.Everyone.{conditional_place, is_conditional, unless_conditional}
@@ -87,6 +88,8 @@ mark_place marks e = position_or_len (same_mark e) marks
 
 -- an entry for an object type is for what is asked about
 abbrev pub is_of_types : WholeKind → ContextValue → TypedAce → Bool
+is_of_types ObjectAllow c e = allows_type c.chain e.types.object
+is_of_types ObjectDeny c e = denies_type c.chain e.types.object
 is_of_types CallbackObjectAllow c e = allows_type c.chain e.types.object
 is_of_types CallbackObjectDeny c e = denies_type c.chain e.types.object
 is_of_types _ c e = true

@@ -149,13 +149,13 @@ fn is_principal_self(sid: &Sid) -> bool
 }
 
 /// Whether the object type is one of those asked about.
-fn is_asked(chain: &[Guid], object: Guid) -> bool
+pub(crate) fn is_asked(chain: &[Guid], object: Guid) -> bool
     ensures { result ≡ is_asked chain.now object }
 {
     chain.iter().any(|asked| same_guid(asked, &object))
 }
 
-fn same_guid(one: &Guid, other: &Guid) -> bool
+pub(crate) fn same_guid(one: &Guid, other: &Guid) -> bool
     ensures { result ≡ bytes_eq one.now.bytes other.now.bytes }
 {
     one.as_slice() == other.as_slice()

@@ -30,7 +30,9 @@ mod part;
 mod rule;
 
 pub use check::check_dacl;
-pub use children::{handed_conditionals, handed_entries, hands_on_conditions, leaves_out_children};
+pub use children::{
+    handed_classes, handed_conditionals, handed_entries, hands_on_conditions, leaves_out_children,
+};
 pub use context::{Conditions, Context};
 pub use copies::with_copies;
 pub use descriptor::specialized;

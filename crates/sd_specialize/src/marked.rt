@@ -208,13 +208,17 @@ fn marked_for(marks: Marks<'_>, ace: &TypedAce) -> Ace
     }
 }
 
-/// Whether an entry with a condition is for what is asked about.
-fn is_of_types(context: &Context<'_>, ace: &TypedAce) -> bool
+/// Whether an entry is for the object types asked about ([MS-DTYP] 2.5.3.2).
+pub(crate) fn is_of_types(context: &Context<'_>, ace: &TypedAce) -> bool
     ensures { result ≡ is_of_types ace.now.kind (context_of context.now) ace.now }
 {
     match ace.kind {
-        WholeKind::CallbackObjectAllow => context.allows_type(ace.types.object),
-        WholeKind::CallbackObjectDeny => context.denies_type(ace.types.object),
+        WholeKind::ObjectAllow | WholeKind::CallbackObjectAllow => {
+            context.allows_type(ace.types.object)
+        }
+        WholeKind::ObjectDeny | WholeKind::CallbackObjectDeny => {
+            context.denies_type(ace.types.object)
+        }
         _ => true,
     }
 }

@@ -71,7 +71,11 @@ pub(crate) fn whole_of(
 }
 
 /// The object types of a text: each is read as that of an entry.
-fn chain_of(rt: &impl Abort, alloc: Global, text: &str) -> Result<Vec<Guid>, AllocError> {
+pub(crate) fn chain_of(
+    rt: &impl Abort,
+    alloc: Global,
+    text: &str,
+) -> Result<Vec<Guid>, AllocError> {
     let mut chain = Vec::new(alloc);
     for sign in text.split_whitespace() {
         let entry = format!(in alloc; "D:(OA;;GA;{sign};;WD)")?;

@@ -169,7 +169,8 @@ user, as arguments of 'sdstore verdict' after the descriptor and the mask:
 The last is about what is made in it, if it is a container, and left out with '--object'.
 'everyone' is any user that neither descriptor names.
 With '--whole' the lines are about the object types of '--type', or without one about the whole
-object, as in Active Directory, and the last ones may be:
+object, as in Active Directory. Where entries are passed on to a class of objects alone, those about
+what is made in it begin with 'class C: ' or 'other classes: '. The last ones may be:
   label: was high no-write-up, is medium no-write-up
   of the DACL and the label alone: the rest of the SACL is left out
   of the whole object alone: object types are left out

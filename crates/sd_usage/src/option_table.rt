@@ -2,6 +2,15 @@
 
 use crate::row::{Beside, OptionName, OptionRow, ProgramOption, Value};
 
+/// Of questions about a whole descriptor: of `who` without `--below`, and of `lint`, which alone takes `--risks`, with
+/// `--object`.
+const OF_WHOLE: Beside = Beside::With(
+    OptionName::Whole,
+    OptionName::Below,
+    OptionName::Risks,
+    OptionName::Object,
+);
+
 /// The options before a command, in the order in which help lists them.
 pub const OPTIONS: &[OptionRow] = &[
     (
@@ -228,35 +237,35 @@ Everyone and Authenticated Users",
         ProgramOption {
             name: OptionName::Type,
             value: Some(Value::Guid),
-            beside: Beside::With(OptionName::Whole, OptionName::Below, OptionName::Object),
+            beside: OF_WHOLE,
         },
         "\
 the object type that is asked about, as bf9679c0-0de6-11d0-a285-00aa003049e2, up to five times: the
 class, the property set, the property or the extended right; without it the whole object is asked
-about. Before 'compare' and 'lint' it goes beside '--object'",
+about. Before 'lint' it goes beside '--object'",
     ),
     (
         "--schema",
         ProgramOption {
             name: OptionName::Schema,
             value: Some(Value::File),
-            beside: Beside::With(OptionName::Whole, OptionName::Below, OptionName::Object),
+            beside: OF_WHOLE,
         },
         "\
 the values of '--type' and the types of TREE may also be names, as member, which the file gives by
-lines 'class GUID NAME', 'attribute GUID NAME', 'set GUID NAME' and 'right GUID NAME'; before
-'compare' and 'lint' it goes beside '--object'",
+lines 'class GUID NAME', 'attribute GUID NAME', 'set GUID NAME' and 'right GUID NAME'; before 'lint'
+it goes beside '--object'",
     ),
     (
         "--self",
         ProgramOption {
             name: OptionName::PrincipalSelf,
             value: Some(Value::Sid),
-            beside: Beside::With(OptionName::Whole, OptionName::Below, OptionName::Object),
+            beside: OF_WHOLE,
         },
         "\
-the SID of the object itself, for which PRINCIPAL SELF (PS) stands in its entries; before 'compare'
-and 'lint' it goes beside '--object'",
+the SID of the object itself, for which PRINCIPAL SELF (PS) stands in its entries; before 'lint' it
+goes beside '--object'",
     ),
     (
         "--json",

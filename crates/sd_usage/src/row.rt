@@ -230,8 +230,8 @@ pub enum Beside {
     Any,
     /// Not beside this one.
     Without(OptionName),
-    /// Only beside the first, not beside the second, and before a command that takes the third only beside that too.
-    With(OptionName, OptionName, OptionName),
+    /// Only beside the first, not beside the second, and before a command that takes the third only beside the fourth.
+    With(OptionName, OptionName, OptionName, OptionName),
 }
 
 /// The value of an option.

@@ -1,6 +1,6 @@
 use Rattle.std.specs.Prelude.{codes}
 use Rattle.sd_acl.specs.Descriptor.{descriptor_of}
-use Rattle.sd_commands.proofs.Cited.{IfOk-weaker, answer_of, ap, subst, ◌∙◌}
+use Rattle.sd_commands.proofs.Cited.{IfOk-weaker, answer_of, ap, subst, ◌∙◌, false}
 use Rattle.sd_commands.proofs.Everyone.{taken}
 use Rattle.sd_commands.specs.Answer.{IsTold}
 use Rattle.sd_commands.specs.CommandAnswer.{AnswersOfBase, AnswersUnhidden}
@@ -22,7 +22,7 @@ returns c =
     let left_out = c.in_ok-left_out.ensures ∙ ap (types_left_out settings) c.has_types-depends.ensures in
     IfOk-weaker c.note_left_out_sacl.result _ _
     (λ noted told. taken (codes "SDDL") all_left_out Absent settings c.args.sddl.now
-    (λ whole d. NotingTypes settings (has_types whole.dacl) (λ lines. AnswersOfBase settings words
+    (λ whole d. NotingTypes settings (has_types false whole.dacl) (λ lines. AnswersOfBase settings words
     (λ base. AnswersUnhidden (conditionals whole.dacl) base (AnswersWholeFindings settings whole lines d base))))
     (answer_of noted) plain inner
     (subst (IsOfEveryone (codes "SDDL") all_left_out Absent settings c.args.sddl.now) c.in-Plain.is c.in_ok-plain.ensures) (

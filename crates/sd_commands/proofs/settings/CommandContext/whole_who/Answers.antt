@@ -1,6 +1,6 @@
 use Rattle.std.specs.Prelude.{codes}
 use Rattle.sd_acl.specs.Descriptor.{descriptor_of}
-use Rattle.sd_commands.proofs.Cited.{IfOk-weaker, answer_of, ap, subst, ◌&&◌, ◌∙◌}
+use Rattle.sd_commands.proofs.Cited.{IfOk-weaker, answer_of, ap, subst, ◌&&◌, ◌∙◌, false}
 use Rattle.sd_commands.proofs.Everyone.{taken}
 use Rattle.sd_commands.specs.Answer.{IsTold}
 use Rattle.sd_commands.specs.Chain.{types_of}
@@ -22,7 +22,7 @@ returns c =
     let left_out = c.in_ok-left_out.ensures ∙ ap (types_left_out settings) c.who_has_types-depends.ensures in
     IfOk-weaker c.note_left_out_sacl.result _ _
     (λ noted told. taken (codes "SDDL") all_left_out Absent settings c.args.sddl.now
-    (λ whole d. NotingTypes settings (has_types whole.dacl && is_of_whole (types_of settings.chain)) (λ lines. AnswersWho settings (conditionals whole.dacl) lines arguments d))
+    (λ whole d. NotingTypes settings (has_types false whole.dacl && is_of_whole (types_of settings.chain)) (λ lines. AnswersWho settings (conditionals whole.dacl) lines arguments d))
     (answer_of noted) plain inner
     (subst (IsOfEveryone (codes "SDDL") all_left_out Absent settings c.args.sddl.now) c.in-Plain.is c.in_ok-plain.ensures) (
       first,
