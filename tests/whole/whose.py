@@ -6,7 +6,8 @@ apply."""
 import dataclasses
 import json
 import subprocess
-from typing import Any, Dict, Iterable, List, Optional, Tuple
+import uuid
+from typing import Any, Dict, Iterable, List, NamedTuple, Optional, Tuple
 
 import access
 import evaluate
@@ -181,8 +182,8 @@ class Changed:
 
 def with_list(text: str, other: str) -> str:
     """The descriptor with the DACL of the other one."""
-    front, sacl = text.rsplit("S:", 1)
-    return front.split("D:", 1)[0] + "D:" + other.rsplit("S:", 1)[0].split("D:", 1)[1] + "S:" + sacl
+    sacl = ["S:" + part for part in text.rsplit("S:", 1)[1:]]
+    return text.split("D:", 1)[0] + "D:" + other.rsplit("S:", 1)[0].split("D:", 1)[1] + "".join(sacl)
 
 
 def changes(program: str, question: access.Question, old: str, new: str) -> Tuple[List[Dict[str, Any]], str]:
@@ -210,8 +211,7 @@ def is_unsaid(entry: Any) -> bool:
     """Whether what a child inherits of the entry isn't looked at."""
     if isinstance(entry, model.Opaque) or entry.kind not in access.ALLOWS | access.DENIES:
         return True
-    limits = entry.kind in access.CALLBACKS and entry.sid == OWNER_RIGHTS
-    return limits or any(entry.types)
+    return entry.kind in access.CALLBACKS and entry.sid == OWNER_RIGHTS
 
 
 def handed_on(entry: Any, is_container: bool, mapping: Tuple[int, ...]) -> List[Any]:
@@ -221,27 +221,73 @@ def handed_on(entry: Any, is_container: bool, mapping: Tuple[int, ...]) -> List[
     return [entry._replace(flags=copy.flags, mask=copy.mask) for copy in copies]
 
 
-def child_of(descriptor: model.Descriptor, line: Tuple[bool, ...], mapping: Tuple[int, ...]) -> model.Descriptor:
+def class_named(entry: Any) -> Optional[bytes]:
+    """Its InheritedObjectType, the class whose objects alone it is for."""
+    return entry.types[1] if isinstance(entry, model.Entry) and entry.types else None
+
+
+def of_class(entry: Any, its_class: Optional[bytes]) -> Any:
+    """The entry in a child of the class: where it is for another one, it is there to be inherited alone."""
+    named = class_named(entry)
+    return entry if named is None or named == its_class else entry._replace(flags=entry.flags | second.IO)
+
+
+def child_of(descriptor: model.Descriptor, line: Tuple[bool, ...], mapping: Tuple[int, ...],
+             its_class: Optional[bytes]) -> model.Descriptor:
     """What is made in a container, of an owner for whom CREATOR OWNER stands."""
     entries = access.entries_of(descriptor.dacl)
     for is_container in line:
         entries = tuple(copy for entry in entries if is_handed_on(entry)
                         for copy in handed_on(entry, is_container, mapping))
+    entries = tuple(of_class(entry, its_class) for entry in entries)
     return descriptor._replace(owner="S-1-3-0", dacl=model.AccessList(2, entries))
+
+
+def head_of(line: Dict[str, Any]) -> Dict[str, str]:
+    """What a line says of the class of the children that it is about."""
+    return {name: line[name] for name in ("class", "classes") if name in line}
+
+
+class Child(NamedTuple):
+    """Children of a class, or of none that an entry names; and what a line says of it."""
+
+    its_class: Optional[bytes]
+    said: Dict[str, str]
+
+    def question(self, of_parent: access.Question) -> access.Question:
+        """A child is asked about its class too, where object types are asked about; nobody is its PRINCIPAL SELF."""
+        own = (str(uuid.UUID(bytes_le=self.its_class)),) if self.its_class and of_parent.types else ()
+        return of_parent._replace(types=own + of_parent.types, principal_self=None)
+
+    def lines(self, lines: List[Dict[str, Any]], where: str, kind: str) -> List[Dict[str, Any]]:
+        """Those of its lines that are of this kind of child, as lines of an object."""
+        return [{**line, "answer": line["answer"].removesuffix(" below")} for line in lines
+                if line.get(where) == kind and head_of(line) == self.said]
+
+
+def children_in(entries: List[Any]) -> List[Child]:
+    """Those of each class that an entry that is handed on names, and the others."""
+    named = dict.fromkeys(class_named(entry) for entry in entries if is_handed_on(entry))
+    classes = [its_class for its_class in named if its_class]
+    return [*(Child(its_class, {"class": str(uuid.UUID(bytes_le=its_class))}) for its_class in classes),
+            Child(None, {"classes": "other"} if classes else {})]
 
 
 def of_children(program: str, question: access.Question, old: str, new: str) -> Tuple[List[Dict[str, Any]], List[str]]:
     """The lines of `compare` of containers, and by the model what is wrong with those of what is made in them."""
-    asked = question._replace(types=(), principal_self=None)
-    lines = lines_of(program, asked, "compare", old, new)
+    lines = lines_of(program, question, "compare", old, new)
     both = [parsing.descriptor(text, DOMAIN) for text in (old, new)]
     entries = [entry for descriptor in both for entry in access.entries_of(descriptor.dacl)]
     is_left = any(is_handed_on(entry) and is_unsaid(entry) for entry in entries) and both[0].dacl != both[1].dacl
     wrong = ["left out"] if is_left != any(line["answer"] == "object alone" for line in lines) else []
     stops = any(entry.flags & second.NP for entry in entries)
-    for (name, kind), path in CHILDREN if not is_left else ():
-        where = name if stops else "new"
-        said = [{**line, "answer": line["answer"].removesuffix(" below")} for line in lines if line.get(where) == kind]
-        found = Changed(asked, [child_of(descriptor, path, question.mapping) for descriptor in both]).left(said)
-        wrong += [f"{name} {kind}: {found}"] if found != "0x0 []" else []
-    return lines, wrong
+    children = [] if is_left else children_in(entries)
+    for child in children:
+        for (name, kind), path in CHILDREN:
+            said = child.lines(lines, name if stops else "new", kind)
+            made = [child_of(descriptor, path, question.mapping, child.its_class) for descriptor in both]
+            found = Changed(child.question(question), made).left(said)
+            wrong += [f"{child.said} {name} {kind}: {found}"] if found != "0x0 []" else []
+    heads = [child.said for child in children]
+    others = [line for line in lines if {"new", "below"} & set(line) and head_of(line) not in heads]
+    return lines, wrong + [f"of no child: {line}" for line in others]
