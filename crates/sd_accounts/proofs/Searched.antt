@@ -1,18 +1,19 @@
--- A search for wanted SIDs: what one has by further groups, and what is still to be walked.
-use Rattle.std.proofs.Common.{◌≡◌, ◌++◌, ◌∙◌, ◌+◌, ◌<◌, ◌≤◌, ◌⊎◌, ℕ, inl, inr, List, [], ◌∷◌, Bool, true, false, length, take, get_or, refl, ap, sym, subst, ◌||◌}
-use Rattle.std.proofs.lemmas.List.{take_all}
-use Rattle.std.proofs.lemmas.List.Elements.{Contains-append_cases, Contains-append_left, Contains-get_or, Contains-push, Contains-push_cases}
-use Rattle.std.proofs.lemmas.Bool.{true≢false}
+-- A search for wanted SIDs: what one has by further groups, and from which groups none is reached.
+use Rattle.std.proofs.Common.{◌≡◌, ◌∙◌, ◌+◌, ◌<◌, ◌≤◌, ◌⊎◌, ℕ, inl, inr, List, [], ◌∷◌, Bool, true, false, length, nat_eq, not, take, get_or, refl, replicate, set, ap, sym, subst, ◌||◌, arith}
+use Rattle.std.proofs.lemmas.List.{get_or-replicate, get_or-set_other, get_or_past, length-replicate, take_all}
+use Rattle.std.proofs.lemmas.List.Elements.{Contains-append_cases, Contains-get_or, Contains-push}
+use Rattle.std.proofs.lemmas.Bool.{cases_lt, eq-eqb, eqb-true, true≢false}
 use Rattle.std.proofs.lemmas.Map.Views.{Contains-from_any}
 use Rattle.std.specs.Bool.{Decides}
 use Rattle.std.specs.List.{Contains, list_any}
 use Rattle.sd_sid.specs.Sid.{IsSid, SidValue, same_sid}
 use Rattle.sd_accounts.specs.Groups.{AreGroupsOf, Belongs, IsIn, directly, further}
-use Rattle.sd_accounts.specs.Index.{direct_groups}
+use Rattle.sd_accounts.specs.Index.{direct_groups, sid_at, sids_at}
 use Rattle.sd_accounts.specs.Row.{AccountRow}
 use Rattle.sd_accounts.specs.Walk.{Extends, IsStart}
-use Rattle.sd_accounts.specs.Wanted.{AreOpen, AreUnwanted, Has, HasNone, HasWanted, IsOneWanted, LeadNowhere, Opens}
-use Rattle.sd_accounts.proofs.Direct.{direct_in, in_direct, nothing_in, only_one}
+use Rattle.sd_accounts.specs.Wanted.{AreNowhere, AreUnwanted, Has, HasNone, HasWanted, IsOneWanted, Keeps, LeadNowhere, NoneAbove}
+use Rattle.sd_accounts.proofs.Direct.{in_direct, nothing_in, only_one}
+use Rattle.sd_accounts.proofs.Indexed.{from_map}
 use Rattle.sd_accounts.proofs.Sids.{sid_eq, sid_eq-itself, sid_eq-same, sid_eq-true}
 use Rattle.sd_accounts.proofs.Walked.{more_from, more_to, of_take, was_or_passes}
 
@@ -57,6 +58,54 @@ added_to_none sids sid (inr at) = at
 
 -- ---- what one has by what one has
 
+-- ---- what is kept
+
+none_at : (n k : ℕ) → get_or (replicate n false) k false ≡ false
+none_at n k = elim (cases_lt k n) [
+  | inl low ↦ get_or-replicate n k false false low
+  | inr over ↦ get_or_past (replicate n false) k false (omega (arith, over, length-replicate n false))
+]
+
+not_false : (b : Bool) → not b ≡ false → b ≡ true
+not_false true is = refl
+not_false false is = absurd (true≢false is)
+
+closed_at : (nowhere : List Bool) (numbers : List ℕ) (number : ℕ) → list_any (λ n. not (get_or nowhere n false)) numbers ≡ false → Contains numbers number
+    → not (get_or nowhere number false) ≡ false
+closed_at nowhere [] number closed at = absurd (nothing_in number at)
+closed_at nowhere (n ∷ numbers) number closed at =
+    by (not (get_or nowhere n false)) refl closed (closed_at nowhere numbers number) (Contains-append_cases (n ∷ []) numbers number at)
+  where
+    by : (b : Bool) → not (get_or nowhere n false) ≡ b → (b || list_any (λ m. not (get_or nowhere m false)) numbers) ≡ false
+        → (list_any (λ m. not (get_or nowhere m false)) numbers ≡ false → Contains numbers number → not (get_or nowhere number false) ≡ false)
+        → Contains (n ∷ []) number ⊎ Contains numbers number → not (get_or nowhere number false) ≡ false
+    by true is held rest either = absurd (true≢false held)
+    by false is held rest (inl here) = subst (λ m. not (get_or nowhere m false) ≡ false) (only_one n number here) is
+    by false is held rest (inr there) = rest held there
+
+pub keeps_nothing : (all sids : List SidValue) (old : List Bool) → Keeps all sids old old
+keeps_nothing all sids old k held = inl held
+
+-- the SIDs so far, and one more, whose number it is, if it has one
+pub keeps_same : (all sids : List SidValue) (old new : List Bool) (i : ℕ) (one : SidValue) → i < length sids → Keeps all (take i sids) old new
+    → Keeps all (take (i + 1) sids) old new
+keeps_same all sids old new i one low before k held = elim (before k held) [
+  | inl was ↦ inl was
+  | inr at ↦ inr (more_to sids i one (sid_at all k) low (inl at))
+]
+
+pub keeps_more : (all sids : List SidValue) (old mid : List Bool) (i number : ℕ) (one : SidValue) → i < length sids → one ≡ get_or sids i one
+    → sid_at all number ≡ one → Keeps all (take i sids) old mid → Keeps all (take (i + 1) sids) old (set mid number true)
+keeps_more all sids old mid i number one low is same before k held = by (nat_eq k number) refl
+  where
+    by : (b : Bool) → nat_eq k number ≡ b → (get_or old k false ≡ true) ⊎ Contains (take (i + 1) sids) (sid_at all k)
+    by true at = inr (more_to sids i one (sid_at all k) low (inr (sym is ∙ sym same ∙ ap (sid_at all) (sym (eqb-true k number at)))))
+    by false other =
+        keeps_same all sids old mid i one low before k (sym (get_or-set_other mid number k true false (λ at. true≢false (sym (eq-eqb k number at) ∙ other))) ∙ held)
+
+pub keeps_all : (all sids : List SidValue) (old new : List Bool) (i : ℕ) → length sids ≤ i → Keeps all (take i sids) old new → Keeps all sids old new
+keeps_all all sids old new i over before = subst (λ l. Keeps all l old new) (take_all i sids over) before
+
 module _ (rows : List AccountRow) where
   beyond : (starts others : List SidValue) → ((sid : SidValue) → Contains others sid → Has rows starts sid) → (sid : SidValue) → Belongs rows others sid → Belongs rows starts sid
   beyond starts others all _ (directly start group at in') = by (all start at)
@@ -85,9 +134,6 @@ module _ (rows : List AccountRow) where
       by : First starts between → First starts group
       by (first, start, has) = (first, start, one first has)
 
-  of_start : (starts : List SidValue) (sid : SidValue) → IsStart rows starts sid → Has rows starts sid
-  of_start starts sid (start, at, in') = inr (directly start sid at in')
-
   module _ (wanted : List SidValue) where
     -- ---- a walk from SIDs
 
@@ -103,124 +149,50 @@ module _ (rows : List AccountRow) where
     nowhere_from fresh sids none all sid at one has =
         none one (still_has fresh (sid ∷ []) (λ s here. subst (Has rows fresh) (only_one sid s here) (all sid at)) one has)
 
-    pub nowhere_more : (old sids new : List SidValue) → LeadNowhere rows wanted old → LeadNowhere rows wanted sids
-        → ((sid : SidValue) → Contains new sid → Contains old sid ⊎ Contains sids sid) → LeadNowhere rows wanted new
-    nowhere_more old sids new before more from sid at = by (from sid at)
+    -- ---- by the groups in which a start directly is
+
+    pub none_by_starts : (starts : List SidValue) → AreUnwanted wanted starts → NoneAbove rows wanted starts → HasNone rows wanted starts
+    none_by_starts starts own none sid (inl at) = own sid at
+    none_by_starts starts own none sid (inr belongs) = by (first_step starts sid belongs)
       where
-        by : Contains old sid ⊎ Contains sids sid → HasNone rows wanted (sid ∷ [])
-        by (inl was) = before sid was
-        by (inr is) = more sid is
+        by : First starts sid → IsSid sid × (Contains wanted sid → ⊥)
+        by (group, start, has) = none group start sid has
 
-    -- ---- by the groups in which the starts directly are
+    pub above_nobody : (starts : List SidValue) → NoneAbove rows wanted (take 0 starts)
+    above_nobody starts group start = absurd (nothing_in start.0 start.1)
 
-    module _ (starts walked fresh : List SidValue) (are : AreOpen rows starts walked fresh) where
-      opened : (sid : SidValue) → Contains fresh sid → Has rows starts sid
-      opened sid at = by (are.sound sid at)
-        where
-          by : Contains [] sid ⊎ IsStart rows starts sid → Has rows starts sid
-          by (inl none) = absurd (nothing_in sid none)
-          by (inr start) = of_start starts sid start
-
-      pub found_by_open : HasWanted rows wanted fresh → HasWanted rows wanted starts
-      found_by_open (sid, is, has) = (sid, is, still_has starts fresh opened sid has)
-
-      pub none_by_open : AreUnwanted wanted starts → LeadNowhere rows wanted walked → HasNone rows wanted fresh → HasNone rows wanted starts
-      none_by_open own nowhere none sid (inl at) = own sid at
-      none_by_open own nowhere none sid (inr belongs) = by (first_step starts sid belongs)
-        where
-          among : (group : SidValue) → Has rows (group ∷ []) sid → Contains fresh group ⊎ Contains walked group → IsSid sid × (Contains wanted sid → ⊥)
-          among group has (inl at) = none sid (still_has fresh (group ∷ []) (λ s here. inl (subst (Contains fresh) (only_one group s here) at)) sid has)
-          among group has (inr at) = nowhere group at sid has
-
-          by : First starts sid → IsSid sid × (Contains wanted sid → ⊥)
-          by (group, start, has) = among group has (are.all group start)
-
-    pub nobody_has : HasNone rows wanted []
-    nobody_has sid (inl at) = absurd (nothing_in sid at)
-    nobody_has sid (inr belongs) = by (first_step [] sid belongs)
-      where
-        by : First [] sid → IsSid sid × (Contains wanted sid → ⊥)
-        by (group, (start, at, in'), has) = absurd (nothing_in start at)
-
--- ---- what is opened
-
-pub none_opened : (rows : List AccountRow) (starts walked : List SidValue) → Opens (IsStart rows (take 0 starts)) walked [] []
-none_opened rows starts walked = record { kept = λ sid at. at; sound = λ sid at. inl at; all = λ sid start. absurd (nothing_in start.0 start.1) }
-
-pub opens_none : (P : SidValue → Type 0) (walked old : List SidValue) → ((sid : SidValue) → P sid → ⊥) → Opens P walked old old
-opens_none P walked old none = record { kept = λ sid at. at; sound = λ sid at. inl at; all = λ sid p. absurd (none sid p) }
-
-pub opens_both : {P Q : SidValue → Type 0} {walked one two three : List SidValue} → Opens P walked one two → Opens Q walked two three → Opens (λ sid. P sid ⊎ Q sid) walked one three
-opens_both {P} {Q} {walked} {one} {two} {three} first second = record {
-  kept = λ sid at. second.kept sid (first.kept sid at);
-  sound = λ sid at. elim (second.sound sid at) [
-    | inl before ↦ elim (first.sound sid before) [ inl old ↦ inl old | inr p ↦ inr (inl p) ]
-    | inr q ↦ inr (inr q)
-  ];
-  all = λ sid either. elim either [
-    | inl p ↦ elim (first.all sid p) [ inl at ↦ inl (second.kept sid at) | inr at ↦ inr at ]
-    | inr q ↦ second.all sid q
-  ];
-}
-
-pub opens_like : {P Q : SidValue → Type 0} {walked old new : List SidValue} → ((sid : SidValue) → P sid → Q sid) → ((sid : SidValue) → Q sid → P sid) → Opens P walked old new → Opens Q walked old new
-opens_like to from opens = record {
-  kept = opens.kept;
-  sound = λ sid at. elim (opens.sound sid at) [ inl before ↦ inl before | inr p ↦ inr (to sid p) ];
-  all = λ sid q. opens.all sid (from sid q);
-}
-
-opens_pushed : (walked old new : List SidValue) (one : SidValue) → new ≡ old ++ one ∷ [] → Opens (λ sid. one ≡ sid) walked old new
-opens_pushed walked old new one is = record {
-  kept = λ sid at. subst (λ l. Contains l sid) (sym is) (Contains-append_left old (one ∷ []) sid at);
-  sound = λ sid at. Contains-push_cases old one sid (subst (λ l. Contains l sid) is at);
-  all = λ sid same. inl (subst (λ l. Contains l sid) (sym is) (subst (Contains (old ++ one ∷ [])) same (Contains-push old one)));
-}
-
-opens_walked : (walked old : List SidValue) (one : SidValue) → Contains walked one → Opens (λ sid. one ≡ sid) walked old old
-opens_walked walked old one at = record { kept = λ sid here. here; sound = λ sid here. inl here; all = λ sid same. inr (subst (Contains walked) same at) }
-
-module _ (groups walked old mid new : List SidValue) (i : ℕ) (one : SidValue) (low : i < length groups) (is : one ≡ get_or groups i one)
-    (before : Opens (Contains (take i groups)) walked old mid) where
-  opens_more : Opens (λ sid. one ≡ sid) walked mid new → Opens (Contains (take (i + 1) groups)) walked old new
-  opens_more more =
-      opens_like (λ sid. more_to groups i one sid low) (λ sid. more_from groups i one sid low)
-      (opens_both before (opens_like (λ sid same. sym is ∙ same) (λ sid same. is ∙ same) more))
-
-  -- the groups so far, and one more, which is pushed, or is walked
-  pub group_pushed : new ≡ mid ++ one ∷ [] → Opens (Contains (take (i + 1) groups)) walked old new
-  group_pushed pushed = opens_more (opens_pushed walked mid new one pushed)
-
-pub group_walked : (groups walked old mid : List SidValue) (i : ℕ) (one : SidValue) → i < length groups → one ≡ get_or groups i one
-    → Opens (Contains (take i groups)) walked old mid → Contains walked one → Opens (Contains (take (i + 1) groups)) walked old mid
-group_walked groups walked old mid i one low is before at = opens_more groups walked old mid mid i one low is before (opens_walked walked mid one at)
-
--- all groups of the member
-pub groups_opened : (rows : List AccountRow) (member : SidValue) (groups walked old new : List SidValue) (i : ℕ) → length groups ≤ i → groups ≡ direct_groups rows member
-    → Opens (Contains (take i groups)) walked old new → Opens (IsIn rows member) walked old new
-groups_opened rows member groups walked old new i over is opens =
-    opens_like (λ sid at. direct_in rows member sid (subst (λ l. Contains l sid) is (subst (λ l. Contains l sid) (take_all i groups over) at)))
-    (λ sid in'. subst (λ l. Contains l sid) (sym (take_all i groups over)) (subst (λ l. Contains l sid) (sym is) (in_direct rows member sid in'))) opens
-
--- the starts so far, and one more
-pub start_opened : (rows : List AccountRow) (starts walked old mid new : List SidValue) (i : ℕ) (one : SidValue) → i < length starts → one ≡ get_or starts i one
-    → Opens (IsStart rows (take i starts)) walked old mid → Opens (IsIn rows one) walked mid new → Opens (IsStart rows (take (i + 1) starts)) walked old new
-start_opened rows starts walked old mid new i one low is before opens =
-    opens_like to from (opens_both before opens)
-  where
-    to : (sid : SidValue) → IsStart rows (take i starts) sid ⊎ IsIn rows one sid → IsStart rows (take (i + 1) starts) sid
-    to sid (inl (start, at, in')) = (start, more_to starts i one start low (inl at), in')
-    to sid (inr in') = (one, more_to starts i one one low (inr (sym is)), in')
-
-    from : (sid : SidValue) → IsStart rows (take (i + 1) starts) sid → IsStart rows (take i starts) sid ⊎ IsIn rows one sid
-    from sid (start, at, in') = elim (more_from starts i one start low at) [
-      | inl before ↦ inl (start, before, in')
-      | inr same ↦ inr (subst (λ s. IsIn rows s sid) (sym (is ∙ same)) in')
+    pub above_more : (starts : List SidValue) (i : ℕ) (one : SidValue) → i < length starts → one ≡ get_or starts i one → NoneAbove rows wanted (take i starts)
+        → ((group : SidValue) → IsIn rows one group → HasNone rows wanted (group ∷ [])) → NoneAbove rows wanted (take (i + 1) starts)
+    above_more starts i one low is before none group (start, at, in') = elim (more_from starts i one start low at) [
+      | inl was ↦ before group (start, was, in')
+      | inr same ↦ none group (subst (λ s. IsIn rows s group) (sym (is ∙ same)) in')
     ]
 
-pub starts_opened : (rows : List AccountRow) (starts walked old new : List SidValue) (i : ℕ) → length starts ≤ i → Opens (IsStart rows (take i starts)) walked old new
-    → Opens (IsStart rows starts) walked old new
-starts_opened rows starts walked old new i over opens = subst (λ l. Opens (IsStart rows l) walked old new) (take_all i starts over) opens
+    pub above_all : (starts : List SidValue) (i : ℕ) → length starts ≤ i → NoneAbove rows wanted (take i starts) → NoneAbove rows wanted starts
+    above_all starts i over before = subst (NoneAbove rows wanted) (take_all i starts over) before
+
+    -- ---- what is kept
+
+    pub still_nowhere : (all sids : List SidValue) (old new : List Bool) → AreNowhere rows wanted all old → Keeps all sids old new → LeadNowhere rows wanted sids
+        → AreNowhere rows wanted all new
+    still_nowhere all sids old new kept keeps nowhere k held = elim (keeps k held) [
+      | inl was ↦ kept k was
+      | inr at ↦ nowhere (sid_at all k) at
+    ]
+
+    pub nothing_kept : (all : List SidValue) (n : ℕ) → AreNowhere rows wanted all (replicate n false)
+    nothing_kept all n k held = absurd (true≢false (sym held ∙ none_at n k))
+
+    -- none of the numbers is open
+    pub kept_above : (all : List SidValue) (nowhere : List Bool) (numbers : List ℕ) (member : SidValue) → AreNowhere rows wanted all nowhere
+        → list_any (λ number. not (get_or nowhere number false)) numbers ≡ false → sids_at all numbers ≡ direct_groups rows member
+        → (group : SidValue) → IsIn rows member group → HasNone rows wanted (group ∷ [])
+    kept_above all nowhere numbers member kept closed are group in' =
+        by (from_map (sid_at all) numbers group (subst (λ l. Contains l group) (sym are) (in_direct rows member group in')))
+      where
+        by : ((number : ℕ) × Contains numbers number × (sid_at all number ≡ group)) → HasNone rows wanted (group ∷ [])
+        by (number, at, same) =
+            subst (λ g. HasNone rows wanted (g ∷ [])) same (kept number (not_false (get_or nowhere number false) (closed_at nowhere numbers number closed at)))
 
 -- ---- wanted ones
 

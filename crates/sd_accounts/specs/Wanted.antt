@@ -1,7 +1,8 @@
 -- Wanted SIDs among those that one has.
-use Rattle.std.specs.Prelude.{◌⊎◌, List, [], ◌∷◌, Contains}
+use Rattle.std.specs.Prelude.{◌≡◌, ◌⊎◌, ℕ, Bool, true, false, List, [], ◌∷◌, Contains, slice_index_or}
 use Rattle.sd_sid.specs.Sid.{IsSid, SidValue}
 use Rattle.sd_accounts.specs.Groups.{Belongs}
+use Rattle.sd_accounts.specs.Index.{sid_at}
 use Rattle.sd_accounts.specs.Row.{AccountRow}
 use Rattle.sd_accounts.specs.Walk.{IsStart}
 
@@ -28,12 +29,16 @@ AreUnwanted wanted sids = (sid : SidValue) → Contains sids sid → IsSid sid �
 abbrev pub LeadNowhere : List AccountRow → (wanted sids : List SidValue) → Type 0
 LeadNowhere rows wanted sids = (sid : SidValue) → Contains sids sid → HasNone rows wanted (sid ∷ [])
 
--- SIDs and further ones, each of which passes the test, and all that pass it, but for some of the walked ones
-pub record Opens (Passes : SidValue → Type 0) (walked old new : List SidValue) : Type 0 where
-  pub kept : (sid : SidValue) → Contains old sid → Contains new sid
-  pub sound : (sid : SidValue) → Contains new sid → Contains old sid ⊎ Passes sid
-  pub all : (sid : SidValue) → Passes sid → Contains new sid ⊎ Contains walked sid
+-- so has who has a group alone in which one of the starts directly is
+abbrev pub NoneAbove : List AccountRow → (wanted starts : List SidValue) → Type 0
+NoneAbove rows wanted starts = (group : SidValue) → IsStart rows starts group → HasNone rows wanted (group ∷ [])
 
--- the groups in which one of the starts directly is, but for some of the walked ones
-abbrev pub AreOpen : List AccountRow → (starts walked fresh : List SidValue) → Type 0
-AreOpen rows starts walked fresh = Opens (IsStart rows starts) walked [] fresh
+-- so has who has the SID of a number alone of which it is kept
+abbrev pub AreNowhere : List AccountRow → (wanted keys : List SidValue) → List Bool → Type 0
+AreNowhere rows wanted keys nowhere =
+    (k : ℕ) → slice_index_or nowhere k false ≡ true → HasNone rows wanted (sid_at keys k ∷ [])
+
+-- it is kept of no further numbers but those of these SIDs
+abbrev pub Keeps : (keys sids : List SidValue) → (old new : List Bool) → Type 0
+Keeps keys sids old new = (k : ℕ) → slice_index_or new k false ≡ true
+    → (slice_index_or old k false ≡ true) ⊎ Contains sids (sid_at keys k)

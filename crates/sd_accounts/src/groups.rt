@@ -12,7 +12,7 @@ ghost use Rattle.sd_accounts.specs.Walk.{Extends, HasStarts};
 use crate::accounts::Accounts;
 use crate::index::{Index, groups_in, numbered};
 use crate::membership::Membership;
-use crate::walk::Walk;
+use crate::walk::{FEW, Walk};
 use sd_sid::Sid;
 use std::alloc::{AllocError, Global};
 
@@ -36,7 +36,7 @@ impl Accounts {
         ensures starts { IfOk result (λ member. member.starts ≡ starts.now) }
     {
         let mut found = self.direct_groups(alloc, starts)?;
-        let mut before = Vec::new(alloc);
+        let mut before = Vec::with_capacity(alloc, FEW)?;
         note(&mut before, found.len(), None)?;
         // (each group that is found is visited once, in order; the last one ends the walk)
         for place in 0..usize::MAX {
@@ -63,7 +63,7 @@ impl Accounts {
             HasStarts (rows_of self.now) starts.now (sids_at (keys self.now.index) found)) }
         ensures within { IfOk result (λ found. AreWithin (keys self.now.index) found) }
     {
-        let mut found = Walk::new(alloc);
+        let mut found = Walk::new(alloc)?;
         for start in starts {
             add_all(&mut found, groups_in(&self.index, start))?;
         }

@@ -1,7 +1,8 @@
 //! A search for wanted SIDs: what it knows.
 
+ghost use Rattle.indexmap.specs.IndexMap.{keys};
 ghost use Rattle.sd_accounts.specs.Accounts.{rows_of};
-ghost use Rattle.sd_accounts.specs.Wanted.{LeadNowhere};
+ghost use Rattle.sd_accounts.specs.Wanted.{AreNowhere};
 
 use crate::accounts::Accounts;
 use indexmap::IndexSet;
@@ -15,6 +16,7 @@ pub struct Search<'a> {
     pub(crate) alloc: Global,
     pub(crate) accounts: &'a Accounts,
     pub(crate) wanted: IndexSet<Sid>,
-    pub(crate) walked: IndexSet<Sid>,
-    ghost nowhere: { LeadNowhere (rows_of accounts.now) wanted.keys walked.keys },
+    /// For each number whether it is kept that none of the wanted is reached from its SID.
+    pub(crate) nowhere: Vec<bool>,
+    ghost kept: { AreNowhere (rows_of accounts.now) wanted.keys (keys accounts.now.index) nowhere.items },
 }

@@ -1,16 +1,16 @@
 //! Searches for wanted SIDs among those that one has.
 
-ghost use Rattle.std.specs.Prelude.{◌≡◌, ◌⊎◌, false, true, IfOk, OnOk, Contains};
+ghost use Rattle.std.specs.Prelude.{◌≡◌, ◌⊎◌, false, true, IfOk, OnOk, Contains, not, slice_index_or};
 ghost use Rattle.std.specs.Bool.{Decides};
 ghost use Rattle.std.specs.List.{list_any};
+ghost use Rattle.indexmap.specs.IndexMap.{keys};
 ghost use Rattle.sd_sid.specs.Sid.{IsSid, SidValue, same_sid};
 ghost use Rattle.sd_accounts.specs.Accounts.{rows_of};
-ghost use Rattle.sd_accounts.specs.Groups.{IsIn};
 ghost use Rattle.sd_accounts.specs.Search.{searched, wanted_by};
-ghost use Rattle.sd_accounts.specs.Wanted.{AreOpen, AreUnwanted, HasNone, HasWanted, IsOneWanted, Opens};
+ghost use Rattle.sd_accounts.specs.Wanted.{AreUnwanted, HasNone, HasWanted, IsOneWanted, Keeps, NoneAbove};
 
 use crate::accounts::Accounts;
-use crate::index::{groups_in, numbered};
+use crate::index::{Index, groups_in};
 use crate::search::Search;
 use indexmap::IndexSet;
 use sd_sid::Sid;
@@ -34,11 +34,12 @@ impl<'a> Search<'a> {
     {
         let mut wanted = IndexSet::new(alloc);
         add_all(&mut wanted, sids)?;
+        let nowhere = vec![in alloc; false; accounts.index.len()]?;
         Ok(Search {
             alloc,
             accounts,
             wanted,
-            walked: IndexSet::new(alloc),
+            nowhere,
         })
     }
 
@@ -55,58 +56,53 @@ impl<'a> Search<'a> {
         if any_wanted(&self.wanted, starts) {
             return Ok(true);
         }
-        let fresh = self.open_groups(starts)?;
-        self.finds_from(&fresh)
-    }
-
-    /// Whether one who has these SIDs has one of the wanted ones, by a walk; if not, all that one has are walked.
-    fn finds_from(&mut self, fresh: &[Sid]) -> Result<bool, AllocError>
-        ensures one { IfOk result (λ found. found ≡ true
-            → HasWanted (searched self.old) (wanted_by self.old) fresh.now) }
-        ensures none { IfOk result (λ found. found ≡ false
-            → HasNone (searched self.old) (wanted_by self.old) fresh.now) }
-        ensures searched { searched self.new ≡ searched self.old }
-        ensures wanted { wanted_by self.new ≡ wanted_by self.old }
-    {
-        if fresh.is_empty() {
+        if self.leads_nowhere(starts) {
             return Ok(false);
         }
-        if any_wanted(&self.wanted, fresh) {
-            return Ok(true);
-        }
-        let groups = self.accounts.groups_of(self.alloc, fresh)?;
+        let groups = self.accounts.groups_of(self.alloc, starts)?;
         if any_wanted(&self.wanted, &groups) {
             return Ok(true);
         }
-        add_all(&mut self.walked, fresh)?;
-        add_all(&mut self.walked, &groups)?;
+        keep(&mut self.nowhere, &self.accounts.index, &groups);
         Ok(false)
     }
 
-    /// The groups in which one of the starts directly is, but for those that are walked.
-    fn open_groups(&self, starts: &[Sid]) -> Result<Vec<Sid>, AllocError>
-        ensures { IfOk result (λ fresh. AreOpen (searched self.now) starts.now self.now.walked.keys fresh.items) }
+    /// Whether it is kept of each group in which one of the starts directly is that none of the wanted is reached.
+    fn leads_nowhere(&self, starts: &[Sid]) -> bool
+        ensures { result ≡ true → NoneAbove (searched self.now) (wanted_by self.now) starts.now }
     {
-        let mut fresh = Vec::new(self.alloc);
         for start in starts {
-            self.push_open(&mut fresh, start)?;
-        }
-        Ok(fresh)
-    }
-
-    /// Adds the groups in which the member directly is, but for those that are walked.
-    fn push_open(&self, fresh: &mut Vec<Sid>, member: &Sid) -> Result<(), AllocError>
-        ensures { OnOk result (Opens (IsIn (searched self.now) member.now) self.now.walked.keys fresh.old.items
-            fresh.new.items) }
-    {
-        for number in groups_in(&self.accounts.index, member) {
-            if let Some((group, _)) = numbered(&self.accounts.index, *number) {
-                if !self.walked.contains(group) {
-                    fresh.push(*group)?;
-                }
+            if any_open(&self.nowhere, groups_in(&self.accounts.index, start)) {
+                return false;
             }
         }
-        Ok(())
+        true
+    }
+}
+
+/// Whether nothing is kept of one of the numbers.
+fn any_open(nowhere: &[bool], numbers: &[usize]) -> bool
+    ensures { result ≡ list_any (λ number. not (slice_index_or nowhere.now number false)) numbers.now }
+{
+    numbers.iter().any(|number| !is_kept(nowhere, *number))
+}
+
+fn is_kept(nowhere: &[bool], number: usize) -> bool
+    ensures { result ≡ slice_index_or nowhere.now number false }
+{
+    number < nowhere.len() && nowhere[number]
+}
+
+/// Keeps that none of the wanted is reached from these SIDs.
+fn keep(nowhere: &mut Vec<bool>, index: &Index, sids: &[Sid])
+    ensures { Keeps (keys index.now) sids.now nowhere.old.items nowhere.new.items }
+{
+    for sid in sids {
+        if let Some(number) = index.get_index_of(sid) {
+            if number < nowhere.len() {
+                nowhere[number] = true;
+            }
+        }
     }
 }
 

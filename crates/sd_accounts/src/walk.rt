@@ -1,6 +1,6 @@
 //! The groups that a walk has found.
 
-ghost use Rattle.std.specs.Prelude.{◌≡◌, ◌<◌, ◌^◌, ◌+◌, [], OnOk, length, nat_eq, slice_get};
+ghost use Rattle.std.specs.Prelude.{◌≡◌, ◌<◌, ◌^◌, ◌+◌, [], IfOk, OnOk, length, nat_eq, slice_get};
 ghost use Rattle.std.specs.List.{IsDistinct, list_any};
 ghost use Rattle.indexmap.specs.IndexSet.{insert_key};
 
@@ -9,7 +9,7 @@ use std::alloc::{AllocError, Global};
 use std::marker::Model;
 
 /// How many numbers are compared in turn: most walks find fewer groups, and need no hash.
-const FEW: usize = 32;
+pub(crate) const FEW: usize = 32;
 
 /// The groups that a walk has found, by their numbers, each once, in the order in which it found them. Contracts see
 /// the list.
@@ -34,14 +34,14 @@ impl Model for Walk {
 }
 
 impl Walk {
-    /// A walk that has found nothing. Takes no memory.
-    pub(crate) fn new(alloc: Global) -> Walk
-        ensures { result ≡ [] }
+    /// A walk that has found nothing, with memory for the first few. The only error is out of memory.
+    pub(crate) fn new(alloc: Global) -> Result<Walk, AllocError>
+        ensures { IfOk result (λ walk. walk ≡ []) }
     {
-        Walk {
-            first: Vec::new(alloc),
+        Ok(Walk {
+            first: Vec::with_capacity(alloc, FEW)?,
             further: IndexSet::new(alloc),
-        }
+        })
     }
 
     /// Adds a number, unless it is found.

@@ -6,7 +6,7 @@ use Rattle.sd_accounts.proofs.Walked.{adds_groups, none_started, start_more, sta
 use Rattle.sd_accounts.proofs.accounts.Accounts.direct_groups.Goals as goal
 
 pub loop-start-init : goal.loop-start-init
-loop-start-init c = none_started (rows_of c.args.self.now) c.args.starts.now (keys c.args.self.now.index) c.new-found.result c.new-found.ensures
+loop-start-init c = none_started (rows_of c.args.self.now) c.args.starts.now (keys c.args.self.now.index) c.in_ok-found.found c.in_ok-found.ensures
 
 pub loop-start-preserved : goal.loop-start-preserved
 loop-start-preserved c =

@@ -13,7 +13,7 @@ pub loop-place-init : goal.loop-place-init
 loop-place-init c =
     let self = c.args.self.now in
     let found = c.in_ok-found.found in
-    let before = c.in_ok-note.ensures ∙ ap (λ l. l ++ replicate (c.len.result - length l) None) c.new-before.ensures.items
+    let before = c.in_ok-note.ensures ∙ ap (λ l. l ++ replicate (c.len.result - length l) None) c.in_ok-before.ensures.items
     ∙ ap (λ n. replicate n None) (omega (arith, c.len.ensures.len, length-map found (sid_at (keys self.index)))) in
     (walk_begins (rows_of self) c.args.starts.now (sids_at (keys self.index) found) c.note.new.before.items c.in_ok-found.ensures.starts before, c.in_ok-found.ensures.within)
 
