@@ -1,0 +1,3 @@
+mod Kept
+pub mod LawProofs
+pub mod Within

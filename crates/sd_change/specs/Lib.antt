@@ -1,0 +1,4 @@
+pub mod Occurrence
+pub mod Change
+pub mod Inside
+pub mod Laws
