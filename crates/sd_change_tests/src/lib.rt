@@ -1,0 +1,5 @@
+//! Tests of changes of whole descriptors.
+#![tactic(auto)]
+
+#[cfg(test)]
+mod tests;
