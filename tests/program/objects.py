@@ -19,7 +19,10 @@ from forms import line_of, wordings  # noqa: E402
 from tally import close, holds  # noqa: E402
 
 PROGRAM = sys.argv[1]
-COMMANDS = "verdict why types who compare lint print sort tobin frombin show diff rights sid each script serve audit".split()
+COMMANDS = (
+    "verdict why types who compare lint print sort tobin frombin show diff replace remove protect unprotect rights sid "
+    "each script serve audit"
+).split()
 
 
 def load(path):

@@ -34,6 +34,8 @@ use Rattle.sd_line.specs.Rights.{rights_line}
 use Rattle.sd_answer.specs.Why.{why_lines}
 use Rattle.sd_answer.specs.Word.{AreGroups, IsFirstNoGroup, IsFirstNoWord, IsToken, texts}
 use Rattle.sd_commands.specs.Analysis.{AreWhoLines}
+pub use Rattle.sd_commands.specs.Argument.{AnswersOfSid, argument}
+use Rattle.sd_commands.specs.Change.{AnswersChange}
 use Rattle.sd_commands.specs.Logon.{fits_logon, words_for}
 use Rattle.sd_commands.specs.Object.{leaves_out, looked_at}
 use Rattle.sd_commands.specs.Labels.{label_changes}
@@ -90,22 +92,9 @@ AnswersOfMask settings mask Answers answer =
     ⊎ ((error : TextError) × IsMaskErrorIn settings.spelling mask error
     × IsFaultOf settings (codes "mask") (codes "MASK") mask error answer)
 
--- what is answered of the SID that the argument of this name is, or its first fault
-abbrev pub AnswersOfSid : List ℕ → Settings → List ℕ → (SidValue → AnswerValue → Type 0) → AnswerValue → Type 0
-AnswersOfSid argument settings text Answers answer =
-    ((sid : SidValue) × Spells (sid_text_in settings.aliases) text sid × Answers sid answer)
-    ⊎ ((error : TextError) × StandsIn (sid_text_in settings.aliases) text error
-    × IsFaultOf settings (codes "sid") argument text error answer)
-
 -- the word at the place is the first that is none, for this reason
 abbrev pub IsTokenFault : ℕ → List ℕ → List ℕ → AnswerValue → Type 0
 IsTokenFault place word reason = IsFault (fault_line (codes "token")) (told_line (word_argument place word) reason)
-
--- ---- arguments
-
--- the argument at the place, empty where there is none
-abbrev pub argument : List (Bor (List ℕ)) → ℕ → List ℕ
-argument arguments place = option_map_or (λ text. text.now) (slice_get arguments place) []
 
 -- ---- a descriptor's text
 
@@ -454,5 +443,6 @@ AnswersQuestion settings questions.FromBinary text arguments = AnswersFromBinary
 AnswersQuestion settings questions.Show text arguments = AnswersShow settings text
 AnswersQuestion settings questions.Diff text arguments = AnswersDiff settings text (argument arguments 0)
 AnswersQuestion settings questions.Types text arguments = AnswersTypes settings text arguments
+AnswersQuestion settings (questions.Change question) text arguments = AnswersChange settings question text arguments
 AnswersQuestion settings questions.Rights text arguments = AnswersRights settings text
 AnswersQuestion settings questions.Sid text arguments = AnswersSid settings text

@@ -1,8 +1,10 @@
 pub mod Analysis
 pub mod Answer
+pub mod Argument
 pub mod CommandAnswer
 pub mod Bytes
 pub mod Chain
+pub mod Change
 pub mod Concern
 pub mod Conditions
 pub mod Diagnostic

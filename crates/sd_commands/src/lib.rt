@@ -1,7 +1,7 @@
 //! The commands about one descriptor: text in, the lines of an answer out.
 //!
-//! `answer_question` answers `verdict`, `why`, `types`, `who`, `compare`, `lint`, `print`, `sort`, `tobin`, `frombin`
-//! and `rights`, as `Settings` says.
+//! `answer_question` answers `verdict`, `why`, `types`, `who`, `compare`, `lint`, `print`, `sort`, `tobin`, `frombin`,
+//! `show`, `diff`, `replace`, `remove`, `protect`, `unprotect`, `rights` and `sid`, as `Settings` says.
 //! It needs no stream and no thread. `sd_command_line` parses a command line to its arguments.
 //!
 //! ```text
@@ -15,6 +15,7 @@
 mod analysis;
 mod bytes;
 mod chain;
+mod change;
 mod command_answer;
 mod concern;
 mod conditions;

@@ -212,7 +212,7 @@ pub(crate) fn entry_place(alloc: Global, acl: AclKind, entry: usize) -> Result<S
     Ok(place)
 }
 
-fn acl_name(acl: AclKind) -> &'static str
+pub(crate) fn acl_name(acl: AclKind) -> &'static str
     ensures { result.now ≡ acl_name acl }
 {
     match acl {

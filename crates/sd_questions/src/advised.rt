@@ -5,7 +5,7 @@ ghost use Rattle.sd_questions.specs.TextAnswer.{Advising, AnswersText};
 ghost use Rattle.sd_arguments.specs.CommandLine.{request_of};
 
 use crate::found::{
-    found_in_descriptor, found_in_group, found_in_mask, found_in_user, found_in_word,
+    found_in_descriptor, found_in_group, found_in_mask, found_in_sids, found_in_user, found_in_word,
 };
 use crate::notes::notes_on;
 use crate::remedies::{
@@ -184,6 +184,10 @@ fn remedy(
         TextCommand::Types => types_row(alloc, settings, request, text, answer),
         TextCommand::Show => whole_row(alloc, settings, text),
         TextCommand::Diff => diff_row(alloc, settings, text, request.arguments),
+        TextCommand::Change(_) => match whole_row(alloc, settings, text) {
+            Some(row) => Some(row),
+            None => found_in_sids(settings.aliases, request.arguments),
+        },
         TextCommand::Rights => found_in_mask(settings, text),
         TextCommand::Sid => found_in_user(settings.aliases, text),
     };

@@ -142,6 +142,13 @@ pub(crate) fn found_in_user(known: Aliases, text: &str) -> Option<RemedyRow> {
     }
 }
 
+/// What was found in place of the first of these arguments that is no SID.
+pub(crate) fn found_in_sids(known: Aliases, arguments: &[&str]) -> Option<RemedyRow> {
+    let mut sids = arguments.iter();
+    let first = sids.find(|text| read_sid_text_in(known, text).is_err())?;
+    found_in_user(known, first)
+}
+
 /// What was found in place of a part of SIDS.
 pub(crate) fn found_in_concern(known: Aliases, text: &str) -> Option<RemedyRow> {
     if text.is_empty() {

@@ -22,9 +22,9 @@ mod usage;
 pub use names::{Commands, argument_name, listed_commands, usage_line};
 pub use option_table::OPTIONS;
 pub use row::{
-    Argument, Arguments, Beside, Command, CommandName, CommandRow, DescriptorCommand, Flag, Flags,
-    OPTION_COUNT, OptionName, OptionRow, ProgramOption, TextCommand, Value, command_named,
-    option_named, takes_option,
+    Argument, Arguments, Beside, ChangeCommand, Command, CommandName, CommandRow,
+    DescriptorCommand, Flag, Flags, OPTION_COUNT, OptionName, OptionRow, ProgramOption,
+    TextCommand, Value, command_named, option_named, takes_option,
 };
 pub use table::COMMANDS;
 pub use usage::help;

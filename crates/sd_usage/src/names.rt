@@ -103,6 +103,8 @@ pub fn argument_name(argument: Argument) -> &'static str
         Argument::User => "USER",
         Argument::Mask => "MASK",
         Argument::Sid => "SID",
+        Argument::OldSid => "OLD",
+        Argument::NewSid => "NEW",
         Argument::Word | Argument::Group => "WORD",
         Argument::Workers => "N",
         Argument::Command => "COMMAND",

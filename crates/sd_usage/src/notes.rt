@@ -1,6 +1,6 @@
 //! The end of the help on each command, and on the program.
 
-use crate::row::{CommandName, DescriptorCommand, TextCommand};
+use crate::row::{ChangeCommand, CommandName, DescriptorCommand, TextCommand};
 
 /// The end of a command's help, before its example.
 pub(crate) fn notes_of(command: CommandName) -> &'static str {
@@ -10,6 +10,7 @@ pub(crate) fn notes_of(command: CommandName) -> &'static str {
         CommandName::Ask(TextCommand::Show) => SHOW_NOTES,
         CommandName::Ask(TextCommand::Diff) => DIFF_NOTES,
         CommandName::Ask(TextCommand::Types) => TYPES_NOTES,
+        CommandName::Ask(TextCommand::Change(question)) => change_notes(question),
         CommandName::Ask(TextCommand::Rights) => RIGHTS_NOTES,
         CommandName::Ask(TextCommand::Sid) => SID_NOTES,
         CommandName::Script => SCRIPT_NOTES,
@@ -29,6 +30,15 @@ fn descriptor_notes(question: DescriptorCommand) -> &'static str {
         DescriptorCommand::Print => PRINT_NOTES,
         DescriptorCommand::Sort => SORT_NOTES,
         DescriptorCommand::ToBinary => TO_BINARY_NOTES,
+    }
+}
+
+fn change_notes(question: ChangeCommand) -> &'static str {
+    match question {
+        ChangeCommand::Replace => REPLACE_NOTES,
+        ChangeCommand::Remove => REMOVE_NOTES,
+        ChangeCommand::Protect => PROTECT_NOTES,
+        ChangeCommand::Unprotect => UNPROTECT_NOTES,
     }
 }
 
@@ -73,6 +83,60 @@ what users gain or lose by it: that is 'sdstore compare'.
 Statuses:
   0  same
   1  a difference, or an invalid argument
+  2  the arguments aren't a valid command line
+  3  out of memory, or an output error";
+
+const REPLACE_NOTES: &str = "\
+A first '--' after 'replace' is dropped, and everything after it is an argument. Options go before
+'replace': 'sdstore help' lists them. 'each replace OLD NEW' takes SDDL from each line.
+
+NEW stands in the place of OLD as the owner, as the group, and in each entry of the DACL and the SACL,
+of every type; all else stays. A text without OLD is printed as it was given. Where the data of an
+entry has OLD, as a condition, the answer is a fault: it would stay there.
+
+Statuses:
+  0  the descriptor was printed
+  1  an invalid argument, OLD in the data of an entry, or a descriptor that has no text or no room
+  2  the arguments aren't a valid command line
+  3  out of memory, or an output error";
+
+const REMOVE_NOTES: &str = "\
+A first '--' after 'remove' is dropped, and everything after it is an argument. Options go before
+'remove': 'sdstore help' lists them. 'each remove SID' takes SDDL from each line.
+
+The entries of the DACL and the SACL that are for SID go, of every type; all else stays, and a list
+without entries stays a list. A text without such an entry is printed as it was given. Standard error
+says where SID stays:
+  sdstore: SDDL: the SID stays the owner
+Where the data of an entry has SID, as a condition, the answer is a fault: it would stay there.
+
+Statuses:
+  0  the descriptor was printed
+  1  an invalid argument, SID in the data of an entry, or a descriptor that has no text
+  2  the arguments aren't a valid command line
+  3  out of memory, or an output error";
+
+const PROTECT_NOTES: &str = "\
+A first '--' after 'protect' is dropped. Options go before 'protect': 'sdstore help' lists them.
+
+Sets P of the DACL, and its inherited entries become its own, as 'icacls /inheritance:d' does. The
+SACL stays. A text that says so already is printed as it was given.
+
+Statuses:
+  0  the descriptor was printed
+  1  an invalid argument, or a descriptor that has no text, as one without a DACL
+  2  the arguments aren't a valid command line
+  3  out of memory, or an output error";
+
+const UNPROTECT_NOTES: &str = "\
+A first '--' after 'unprotect' is dropped. Options go before 'unprotect': 'sdstore help' lists them.
+
+Clears P of the DACL, as 'icacls /inheritance:e' does: which entries it then inherits, its parent
+decides, which isn't known here. A text without P is printed as it was given.
+
+Statuses:
+  0  the descriptor was printed
+  1  an invalid argument, or a descriptor that has no text
   2  the arguments aren't a valid command line
   3  out of memory, or an output error";
 

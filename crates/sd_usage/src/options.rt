@@ -43,6 +43,20 @@ pub(crate) const SHOW_OPTIONS: &[OptionName] = &[
     OptionName::StrictStatus,
 ];
 
+/// The options of the commands that change a descriptor.
+pub(crate) const CHANGE_OPTIONS: &[OptionName] = &[
+    OptionName::Stdin,
+    OptionName::Names,
+    OptionName::RequireDacl,
+    OptionName::Domain,
+    OptionName::Aliases,
+    OptionName::Mapping,
+    OptionName::Json,
+    OptionName::Color,
+    OptionName::Caret,
+    OptionName::StrictStatus,
+];
+
 /// The options of `sort`.
 pub(crate) const SORT_OPTIONS: &[OptionName] = &[
     OptionName::Stdin,

@@ -51,6 +51,8 @@ pub enum TextCommand {
     Diff,
     /// `types`.
     Types,
+    /// A command that changes a whole descriptor.
+    Change(ChangeCommand),
     /// `rights`.
     Rights,
     /// `sid`.
@@ -76,6 +78,19 @@ pub enum DescriptorCommand {
     Sort,
     /// `tobin`.
     ToBinary,
+}
+
+/// A command that prints a whole descriptor after a change.
+#[derive(Clone, Copy, PartialEq, Eq)]
+pub enum ChangeCommand {
+    /// `replace`.
+    Replace,
+    /// `remove`.
+    Remove,
+    /// `protect`.
+    Protect,
+    /// `unprotect`.
+    Unprotect,
 }
 
 /// An option before a command.
@@ -202,6 +217,10 @@ pub enum Argument {
     Mask,
     /// `SID`: a SID ([MS-DTYP] 2.4.2.1).
     Sid,
+    /// `OLD`: a SID ([MS-DTYP] 2.4.2.1) that is replaced.
+    OldSid,
+    /// `NEW`: the SID ([MS-DTYP] 2.4.2.1) in its place.
+    NewSid,
     /// `WORD`: a group, a restricting SID or a privilege.
     Word,
     /// `WORD`: a group that every token in question has.

@@ -1,13 +1,13 @@
 //! The table of commands. It and that of options alone say which arguments are a command line.
 
 use crate::options::{
-    BYTES_OPTIONS, COMPARE_OPTIONS, LINT_OPTIONS, PRINT_OPTIONS, RIGHTS_OPTIONS, SCRIPT_OPTIONS,
-    SHOW_OPTIONS, SID_OPTIONS, SORT_OPTIONS, TO_BINARY_OPTIONS, TYPES_OPTIONS, VERDICT_OPTIONS,
-    WHO_OPTIONS,
+    BYTES_OPTIONS, CHANGE_OPTIONS, COMPARE_OPTIONS, LINT_OPTIONS, PRINT_OPTIONS, RIGHTS_OPTIONS,
+    SCRIPT_OPTIONS, SHOW_OPTIONS, SID_OPTIONS, SORT_OPTIONS, TO_BINARY_OPTIONS, TYPES_OPTIONS,
+    VERDICT_OPTIONS, WHO_OPTIONS,
 };
 use crate::row::{
-    Argument, Arguments, Command, CommandName, CommandRow, DescriptorCommand, Flag, Flags,
-    TextCommand,
+    Argument, Arguments, ChangeCommand, Command, CommandName, CommandRow, DescriptorCommand, Flag,
+    Flags, TextCommand,
 };
 
 /// The commands, in the order in which help lists them.
@@ -163,6 +163,54 @@ sdstore --whole types 'O:BAG:SYD:(OA;;RP;bf967950-0de6-11d0-a285-00aa003049e2;;S
         SHOW_OPTIONS,
         "Prints in words what one descriptor has and another hasn't",
         "sdstore diff 'O:BAD:(A;;FA;;;BU)' 'O:BAD:P(D;;FW;;;BG)(A;;FA;;;BU)'",
+    ),
+    (
+        "replace",
+        Command {
+            name: CommandName::Ask(TextCommand::Change(ChangeCommand::Replace)),
+            flags: Flags::Nothing,
+            arguments: Arguments::Three(Argument::Descriptor, Argument::OldSid, Argument::NewSid),
+            repeated: None,
+        },
+        CHANGE_OPTIONS,
+        "Prints a descriptor with one SID in the place of another",
+        "sdstore replace 'O:BAD:(A;;FA;;;BA)(A;;FR;;;BU)' BA SY",
+    ),
+    (
+        "remove",
+        Command {
+            name: CommandName::Ask(TextCommand::Change(ChangeCommand::Remove)),
+            flags: Flags::Nothing,
+            arguments: Arguments::Two(Argument::Descriptor, Argument::Sid),
+            repeated: None,
+        },
+        CHANGE_OPTIONS,
+        "Prints a descriptor without the entries for a SID",
+        "sdstore remove 'D:(A;;FA;;;BA)(A;;FR;;;BU)S:(AU;SA;FA;;;BU)' BU",
+    ),
+    (
+        "protect",
+        Command {
+            name: CommandName::Ask(TextCommand::Change(ChangeCommand::Protect)),
+            flags: Flags::Nothing,
+            arguments: Arguments::One(Argument::Descriptor),
+            repeated: None,
+        },
+        CHANGE_OPTIONS,
+        "Prints a descriptor whose DACL inherits nothing, with what it inherited as its own",
+        "sdstore protect 'D:AI(A;ID;FA;;;BA)'",
+    ),
+    (
+        "unprotect",
+        Command {
+            name: CommandName::Ask(TextCommand::Change(ChangeCommand::Unprotect)),
+            flags: Flags::Nothing,
+            arguments: Arguments::One(Argument::Descriptor),
+            repeated: None,
+        },
+        CHANGE_OPTIONS,
+        "Prints a descriptor whose DACL may inherit",
+        "sdstore unprotect 'D:PAI(A;;FA;;;BA)'",
     ),
     (
         "rights",

@@ -69,6 +69,8 @@ impl CommandTexts {
             Argument::User => USER,
             Argument::Mask => MASK,
             Argument::Sid => "The SID: in full, as S-1-5-21-1-2-3-1001, or an alias, as SY",
+            Argument::OldSid => "The SID that is replaced: in full, or an alias, as SY",
+            Argument::NewSid => "The SID in its place: in full, or an alias, as SY",
             Argument::Word => WORD,
             Argument::Group => GROUP,
             Argument::Workers => "The number of workers, 1 to 64, in one or two decimal digits",
