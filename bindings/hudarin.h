@@ -340,7 +340,9 @@ typedef enum hudarin_argument {
     HUDARIN_ARGUMENT_OFFER = 24,
     /* Those of hudarin_check_types. */
     HUDARIN_ARGUMENT_TREE = 25,
-    HUDARIN_ARGUMENT_VERDICTS = 26
+    HUDARIN_ARGUMENT_VERDICTS = 26,
+    /* That of hudarin_check_open; the file is HUDARIN_ARGUMENT_DESCRIPTOR. */
+    HUDARIN_ARGUMENT_PARENT = 27
 } hudarin_argument;
 
 /* ---- Verdicts */
@@ -1006,6 +1008,19 @@ HUDARIN_ANSWERS hudarin_verdict hudarin_check_kept(hudarin_descriptor *descripto
 HUDARIN_ANSWERS hudarin_verdict hudarin_check_bytes(const void *descriptor, size_t descriptor_length,
                                                     hudarin_token *token, hudarin_mapping mapping, uint32_t asked)
     HUDARIN_NONNULL(3);
+
+/*
+ * The verdict on `asked` for an open of an existing file ([MS-FSA] 2.1.5.1.2.1), for a kept token, which stays: what
+ * hudarin_check_bytes grants for the self-relative descriptor at the front of `file`; DELETE also where it grants
+ * FILE_DELETE_CHILD for that at the front of `parent`, and FILE_READ_ATTRIBUTES where it grants FILE_LIST_DIRECTORY
+ * for it. MAXIMUM_ALLOWED takes these in. If `parent_length` is 0 there is no parent, as for a volume's root. The
+ * token's handle is tested first, then the mapping, then the file's bytes, then the parent's. Share modes, and backup
+ * and restore intent, have no part in it.
+ */
+HUDARIN_ANSWERS hudarin_verdict hudarin_check_open(const void *file, size_t file_length, const void *parent,
+                                                   size_t parent_length, hudarin_token *token,
+                                                   hudarin_mapping mapping, uint32_t asked)
+    HUDARIN_NONNULL(5);
 
 /* The reasons for hudarin_check_kept's verdict: each bit of the mapped request is in one part, with MAXIMUM_ALLOWED
  * each bit of 0x001fffff too, and the verdict follows from the parts. There are no parts unless the status is

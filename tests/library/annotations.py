@@ -92,6 +92,7 @@ small: Store = Store(descriptor, FILES, nodes=2, edits=3)
 
 with Token(user, [user], restricting=[user]) as token, KeptDescriptor(descriptor) as kept, Store(descriptor) as store:
     by: Verdict = kept.check(token.share(), "FR") if descriptor.check_by(token, 0x1) else kept.share().check(token, 0)
+    opened: Verdict = descriptor.check_open(descriptor, token, "FR") and descriptor.check_open(None, token, 0x1, FILES)
     with store.publish() as view, view.share() as other:
         seen: View = other
         nodes: Iterator[Node] = view.nodes()
@@ -126,6 +127,7 @@ descriptor.check_by(user, 0x1)  # type: ignore
 descriptor.check(user)  # type: ignore
 descriptor.check(user, [user], 0x1)  # type: ignore
 descriptor.check_by(token)  # type: ignore
+descriptor.check_open(token, 0x1)  # type: ignore
 check_all([descriptor], token)  # type: ignore
 check_all(["D:"], token, 0x1)  # type: ignore
 who_all("D:")  # type: ignore

@@ -167,6 +167,26 @@ with Token(USER, [EVERYONE]) as token:
         raises(f"by a token {number!r}", wanted, lambda: HELD.check_by(token, number))
     raises("a mapping beyond a list's rights", Refused, lambda: HELD.check_by(token, 1, (0, 0, 0, 0x200000)))
 raises("a token that was closed", Closed, lambda: HELD.check_by(token, 0x1))
+# An open of a file, with what its parent grants ([MS-FSA] 2.1.5.1.2.1): DELETE by FILE_DELETE_CHILD, and
+# FILE_READ_ATTRIBUTES by FILE_LIST_DIRECTORY.
+SEALED = Descriptor.from_sddl("D:(D;;FA;;;WD)")
+FOLDER = Descriptor.from_sddl("D:(A;;0x41;;;WD)")
+with Token(USER, [EVERYONE]) as token:
+    for above, asked, answer in [
+        (FOLDER, "SD", "granted 0x10000"),
+        (FOLDER, 0x80, "granted 0x80"),
+        (FOLDER, 0x1F01FF, "denied 0x1e017f"),
+        (FOLDER, 0x02000000, "granted 0x10080"),
+        (HELD, 0x10080, "denied 0x10000"),
+        (None, 0x10080, "denied 0x10080"),
+        (FOLDER, 0, "empty"),
+    ]:
+        gives(f"open {above!r} {asked!r}", answer, lambda: str(SEALED.check_open(above, token, asked)))
+    gives("open, of its own", "granted 0x1", lambda: str(HELD.check_open(None, token, 0x1)))
+    raises("open, no parent's descriptor", TypeError, lambda: SEALED.check_open(bytes(FOLDER), token, 0x1))
+    raises("open, bits beyond a list's rights", Refused, lambda: HELD.check_open(None, token, 1, (0, 0, 0, 0x200000)))
+raises("open, by a token that was closed", Closed, lambda: HELD.check_open(FOLDER, token, 0x1))
+raises("open, no token", TypeError, lambda: HELD.check_open(FOLDER, USER, 0x1))
 gives("a token that is closed twice", None, token.close)
 raises("no token", TypeError, lambda: HELD.check_by(USER, 0x1))
 raises("a token without a state", Refused, lambda: Token(USER, [(EVERYONE, 0x14)]))

@@ -9,7 +9,7 @@
 enum call {
     TO_BYTES, TO_SDDL, CANONICAL, LENGTH, WHOLE_BYTES, WHOLE_TEXT, WHOLE_AT, PLAIN, JOINED, LISTED, TRUSTEE, ACE, SID_BYTES, SID_TEXT,
     FULL_TEXT, MASK_TEXT, OWNER, ENTRY, SUBJECT, LINE, OBJECT, VALUE, KEEP_ACCOUNTS, ACCOUNT_SIDS, ACCOUNT_USERS, WHO, LINT, COMPARE, CHECK,
-    CHECK_WHOLE, CHECK_TYPES, KEEP_SDDL, KEEP_BYTES, KEEP_TOKEN, KEEP_CLIENT, SHARE
+    CHECK_OPEN, CHECK_WHOLE, CHECK_TYPES, KEEP_SDDL, KEEP_BYTES, KEEP_TOKEN, KEEP_CLIENT, SHARE
 };
 
 /* A call, what it is given, and what it answers: what it writes, NULL where that isn't looked at, and how much; a fault of a
@@ -94,6 +94,7 @@ static const row rows[] = {
     { LINT, DOUBLED, "entry 2 (A;;FR;;;BU) repeats entry 1\nentry 2 (A;;FR;;;BU) has no effect\n", 72, 0, 0 },
     { COMPARE, CHECKED, "lost 0x2 by S-1-5-21-1-2-3-1001\n", 32, 0, 0 },
     { CHECK, CHECKED, NULL, 0, 0, 0 },
+    { CHECK_OPEN, CHECKED, NULL, 0, 0, 0 },
     { CHECK_WHOLE, CHECKED, NULL, 0, 0, 0 },
     { CHECK_TYPES, CHECKED, NULL, 0, 0, 0 },
     { KEEP_SDDL, CHECKED, NULL, 0, 0, 0 },
@@ -260,6 +261,9 @@ static void made(const row *row, outcome *it)
     case CHECK:
         judged(it, hudarin_check(lent.bytes, lent.length, lent.user, lent.user_length, lent.groups, lent.groups_length, states, 2,
                                  NULL, 0, 0, files, 0x80000000u));
+        break;
+    case CHECK_OPEN:
+        judged(it, hudarin_check_open(lent.bytes, lent.length, lent.bytes, lent.length, &token, files, 0x80000000u));
         break;
     case CHECK_WHOLE: judged(it, check_whole(&client)); break;
     case CHECK_TYPES: check_types(it); break;

@@ -22,7 +22,7 @@ static void open_rooms(void)
 }
 
 /* The room has just what was wanted at its front, and is else as it was. */
-static int room_is(const unsigned char *room, size_t length, const void *wanted, size_t wanted_length)
+static inline int room_is(const unsigned char *room, size_t length, const void *wanted, size_t wanted_length)
 {
     size_t at;
     if (wanted_length > length || memcmp(room, wanted, wanted_length) != 0) {
@@ -36,7 +36,7 @@ static int room_is(const unsigned char *room, size_t length, const void *wanted,
     return 1;
 }
 
-static unsigned char *fresh_room(size_t length)
+static inline unsigned char *fresh_room(size_t length)
 {
     return memset(out_end - length, 0x5A, length);
 }

@@ -157,6 +157,7 @@ _CALLS: Dict[str, Tuple[Any, Any]] = {
     "account_users": ([_OBJECT] + _BUFFER, _Written),
     "check_kept": ([_OBJECT, _OBJECT] + _REQUEST, _Verdict),
     "check_bytes": (_GIVEN + [_OBJECT] + _REQUEST, _Verdict),
+    "check_open": (_GIVEN * 2 + [_OBJECT] + _REQUEST, _Verdict),
     "check_whole": (_GIVEN + [_OBJECT] + _GIVEN * 2 + _REQUEST, _Verdict),
     "check_types": (_GIVEN + [_OBJECT] + _NODES + _GIVEN + _REQUEST + _VERDICTS, _Verdict),
     "explain": ([_OBJECT, _OBJECT] + _REQUEST, _Explanation),

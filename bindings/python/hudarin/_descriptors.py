@@ -120,6 +120,20 @@ class Descriptor(_SelfRelative):
             answer = _library.hudarin_check_bytes(self._bytes, len(self._bytes), token._kept, *request)
         return _verdict(answer)
 
+    def check_open(
+        self, parent: Optional["Descriptor"], token: Token, asked: Mask, mapping: Iterable[Mask] = FILES
+    ) -> Verdict:
+        """Whether an open of the existing file that has this descriptor is granted, as NTFS says ([MS-FSA]
+        2.1.5.1.2.1): what ``check_by`` grants; DELETE also where the ``parent`` grants FILE_DELETE_CHILD, and
+        FILE_READ_ATTRIBUTES where it grants FILE_LIST_DIRECTORY. A volume's root has no parent: None."""
+        above = b"" if parent is None else bytes(_of_type(parent, Descriptor, "parent"))
+        _of_type(token, Token, "token")
+        request = _mapping(mapping), _mask(asked, "asked")
+        with token._turn:
+            both = self._bytes, len(self._bytes), above, len(above)
+            answer = _library.hudarin_check_open(*both, token._kept, *request)
+        return _verdict(answer)
+
     def explain(
         self,
         user: Sid,

@@ -61,6 +61,7 @@ ARGUMENTS = {
     24: "offer",
     25: "tree",
     26: "verdicts",
+    27: "parent",
 }
 
 CAUSES = {

@@ -12,3 +12,4 @@ mod Reviewing
 mod Words
 mod EntriesLoop
 mod Joined
+mod Opened

@@ -15,7 +15,7 @@ use Rattle.sd_c.specs.declared.stop.NotRead.TheVariants.{Descriptor, User, Group
 use Rattle.sd_c.specs.declared.stop.NotRead.TheVariants.{PrivilegeBits, MappingBits, DescriptorHandle, TokenHandle}
 use Rattle.sd_c.specs.declared.stop.NotRead.TheVariants.{NewHandle, DomainSid, NoDomain, WordsUtf8, Unended, NoWord}
 use Rattle.sd_c.specs.declared.stop.NotRead.TheVariants.{ClientHandle, Types, Tree, PrincipalSelf, Undecided}
-use Rattle.sd_c.specs.declared.stop.NotRead.TheVariants.{MayBeDenied}
+use Rattle.sd_c.specs.declared.stop.NotRead.TheVariants.{MayBeDenied, Parent}
 use Rattle.sd_c.specs.declared.stop.Stop.{Stop}
 use Rattle.sd_c.specs.declared.stop.Stop.TheVariants as stops
 use Rattle.sd_c.specs.Request.{RequestValue, verdict_of}
@@ -69,6 +69,7 @@ not_read (PrincipalSelf fault) = unread 6 21 (sid_error_number fault) 0
 not_read ClientHandle = unread 11 22 0 0
 not_read (Undecided fault) = unread 25 1 (fault_number fault) (undecided_place fault)
 not_read MayBeDenied = unread 25 1 7 0
+not_read (Parent fault) = unread 5 27 (wire_fault_number fault) 0
 
 -- out of memory
 abbrev pub check_memory : CheckAnswer

@@ -26,6 +26,7 @@ pub mod WithEntries
 pub mod Client
 pub mod WholeCheck
 pub mod WholeTypes
+pub mod Open
 pub mod Analysis
 pub mod Review
 pub mod Accounts

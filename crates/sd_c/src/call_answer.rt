@@ -163,6 +163,7 @@ pub(crate) fn not_read(why: NotRead) -> CheckAnswer
         NotRead::ClientHandle => unread(HANDLE, 22, 0, 0),
         NotRead::Undecided(fault) => unread(UNDECIDED, 1, fault.number(), undecided_place(fault)),
         NotRead::MayBeDenied => unread(UNDECIDED, 1, 7, 0),
+        NotRead::Parent(fault) => unread(WIRE, 27, fault.number(), 0),
     }
 }
 

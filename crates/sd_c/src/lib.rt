@@ -29,6 +29,7 @@ mod masks;
 mod meaning;
 mod nodes;
 mod not_done;
+mod open;
 mod over_bytes;
 mod plain;
 mod question;
@@ -74,6 +75,7 @@ pub use masks::{MaskAnswer, hudarin_map_mask, hudarin_mask_from_text, hudarin_ma
 pub use meaning::{faults_have_names, hudarin_fault_name, hudarin_status_text};
 pub use nodes::{NodeAnswer, hudarin_view_node, hudarin_view_own, own_forms_come_back};
 pub use not_done::{EditArgument, NotDone};
+pub use open::hudarin_check_open;
 pub use over_bytes::hudarin_check_bytes;
 pub use plain::{Trimmed, hudarin_whole_plain, hudarin_whole_to_sddl};
 pub use review::{ReviewAnswer, hudarin_store_review};

@@ -56,6 +56,8 @@ pub enum NotRead {
     Undecided(SpecializeFault),
     /// An entry of the descriptor's SACL may deny what the verdict grants.
     MayBeDenied,
+    /// The bytes of a file's parent hold no descriptor.
+    Parent(WireFault),
 }
 
 /// Why a check stops: an invalid argument, or out of memory.
