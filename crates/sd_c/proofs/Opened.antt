@@ -1,4 +1,4 @@
--- What decides an open: a parent that is lent, and the arguments that are read.
+-- What decides an open: a parent that is borrowed, and the arguments that are read.
 use Rattle.std.proofs.Common.{◌≡◌, ◌∙◌, ap, refl, ℕ, List}
 use Rattle.std.specs.Prelude.{Option, Some, None, Ok, option_copied, option_map}
 use Rattle.std.specs.Borrow.{Bor}
@@ -8,11 +8,11 @@ use Rattle.sd_c.proofs.Cited.{DescriptorValue, Kept, Mapping, MappingValue, desc
 use Rattle.sd_c.specs.Kept.{token_in}
 use Rattle.sd_c.specs.Open.{open_by, parent_read}
 use Rattle.sd_c.specs.Request.{mapping_read, of_wire}
-use Rattle.sd_open.specs.Open.{lent, open_verdict}
+use Rattle.sd_open.specs.Open.{borrowed, open_verdict}
 
-pub lent_copied : (parent : Option (Bor Descriptor)) → lent parent ≡ option_map descriptor_of (option_copied parent)
-lent_copied None = refl
-lent_copied (Some d) = refl
+pub borrowed_copied : (parent : Option (Bor Descriptor)) → borrowed parent ≡ option_map descriptor_of (option_copied parent)
+borrowed_copied None = refl
+borrowed_copied (Some d) = refl
 
 pub opened : (file parent : List ℕ) (kept : Kept) (mapping : Mapping) (asked : ℕ)
     (t : TokenValue) (g : MappingValue) (d : DescriptorValue) (p : Option DescriptorValue)

@@ -35,7 +35,7 @@ pub record SourcesValue : Type 0 where
   -- DEFAULT_DESCRIPTOR_FOR_OBJECT
   pub is_default : Bool
 
--- a list that is lent, if there is one
+-- a list that is borrowed, if there is one
 abbrev pub lent_acl : Option (Bor WholeAcl) → WholeAcl
 lent_acl None = Absent
 lent_acl (Some acl) = acl.now

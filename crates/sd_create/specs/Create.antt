@@ -61,7 +61,7 @@ creator_of t = record {
   restore = t.restore;
 }
 
--- a descriptor that is lent, if there is one
+-- a descriptor that is borrowed, if there is one
 abbrev pub lent_descriptor : Option (Bor WholeDescriptor) → Option WholeDescriptor
 lent_descriptor None = None
 lent_descriptor (Some d) = Some d.now

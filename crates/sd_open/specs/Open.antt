@@ -55,6 +55,6 @@ pub record IsOwnRights (g : MappingValue) (q : ℕ) : Type 0 where
   pub by_name : holds q 25 ≡ false
   pub mapped : mapped g (without_maximum q) ≡ q
 
--- a parent that is lent
-abbrev pub lent : Option (Bor Descriptor) → Option DescriptorValue
-lent parent = option_map (λ (d : Bor Descriptor). descriptor_of d.now) parent
+-- a parent that is borrowed
+abbrev pub borrowed : Option (Bor Descriptor) → Option DescriptorValue
+borrowed parent = option_map (λ (d : Bor Descriptor). descriptor_of d.now) parent

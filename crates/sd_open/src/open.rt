@@ -3,7 +3,7 @@
 ghost use Rattle.std.specs.Prelude.{◌≡◌, ◌==◌, if◌then◌else◌, false, true};
 ghost use Rattle.sd_acl.specs.Descriptor.{descriptor_of};
 ghost use Rattle.sd_check.specs.Check.{dacl_entries, is_granted, missing_of, most, reserved_of};
-ghost use Rattle.sd_open.specs.Open.{IsOwnRights, by_parent, lent, open_verdict, parent_grants, verdict_with};
+ghost use Rattle.sd_open.specs.Open.{IsOwnRights, borrowed, by_parent, open_verdict, parent_grants, verdict_with};
 
 use sd_acl::Descriptor;
 use sd_check::{MAXIMUM_ALLOWED, MAXIMUM_PLACE, RESERVED, Token, Verdict, check};
@@ -31,7 +31,7 @@ pub fn check_open(
     token: &Token,
     asked: Mask,
 ) -> Verdict
-    ensures { result ≡ open_verdict (descriptor_of file.now) (lent parent.entry) mapping.now token.now asked }
+    ensures { result ≡ open_verdict (descriptor_of file.now) (borrowed parent.entry) mapping.now token.now asked }
 {
     if asked.is_empty() {
         return Verdict::EmptyRequest;
@@ -51,7 +51,7 @@ pub fn check_open(
 
 /// The rights that the parent grants of a file in it.
 fn by_parent(parent: Option<&Descriptor>, mapping: &GenericMapping, token: &Token) -> Mask
-    ensures { result ≡ by_parent (lent parent.entry) mapping.now token.now }
+    ensures { result ≡ by_parent (borrowed parent.entry) mapping.now token.now }
 {
     let deletes = parent_grants(parent, mapping, token, FILE_DELETE_CHILD);
     let lists = parent_grants(parent, mapping, token, FILE_LIST_DIRECTORY);
@@ -66,7 +66,7 @@ fn parent_grants(
     token: &Token,
     right: Mask,
 ) -> bool
-    ensures { result ≡ parent_grants (lent parent.entry) mapping.now token.now right }
+    ensures { result ≡ parent_grants (borrowed parent.entry) mapping.now token.now right }
 {
     match parent {
         Some(parent) => matches!(check(parent, mapping, token, right), Verdict::Granted(_)),
