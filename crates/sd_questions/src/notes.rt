@@ -67,6 +67,15 @@ pub(crate) fn notes_on(
         (TextCommand::Descriptor(DescriptorCommand::Lint), _) => {
             push_critical(alloc, settings, "SDDL", text, &mut notes)?;
         }
+        (
+            TextCommand::Descriptor(
+                DescriptorCommand::Print | DescriptorCommand::Sort | DescriptorCommand::ToBinary,
+            )
+            | TextCommand::Change(_),
+            _,
+        ) => {
+            push_empty(alloc, text, &mut notes)?;
+        }
         (TextCommand::FromBinary, _) if settings.without_bits && !settings.whole => {
             let note = told_line(alloc, "--without-bits", UNNAMED_BITS)?;
             notes.push_str(note.as_str())?;
