@@ -301,7 +301,16 @@ typedef enum hudarin_kind {
     HUDARIN_KIND_FILE = 1,
     HUDARIN_KIND_KEY = 2,
     HUDARIN_KIND_SERVICE = 3,
-    HUDARIN_KIND_PROCESS = 4
+    HUDARIN_KIND_PROCESS = 4,
+    /* Those of files, and FILE_LIST_DIRECTORY, FILE_ADD_FILE, FILE_ADD_SUBDIRECTORY and FILE_TRAVERSE. */
+    HUDARIN_KIND_FOLDER = 5,
+    /* An object of Active Directory. */
+    HUDARIN_KIND_DIRECTORY = 6,
+    HUDARIN_KIND_PRINTER = 7,
+    HUDARIN_KIND_SECTION = 8,
+    HUDARIN_KIND_TOKEN = 9,
+    /* The service control manager. */
+    HUDARIN_KIND_MANAGER = 10
 } hudarin_kind;
 
 /* ---- Arguments of a check: the number of the invalid one, in an answer's `argument` */
@@ -518,13 +527,18 @@ typedef struct hudarin_mapping {
     uint32_t all;
 } hudarin_mapping;
 
-/* The mappings of files, of registry keys, of services and of processes, for an initializer, as Windows has them:
- * FILE_GENERIC_READ .. FILE_ALL_ACCESS, KEY_READ .. KEY_ALL_ACCESS, and so on to SERVICE_ALL_ACCESS and
- * PROCESS_ALL_ACCESS. */
+/* The mappings of files and folders, of registry keys, of services, of processes, of objects of Active Directory, of
+ * printers, of sections, of tokens and of the service control manager, for an initializer, as Windows has them:
+ * FILE_GENERIC_READ .. FILE_ALL_ACCESS, KEY_READ .. KEY_ALL_ACCESS, and so on to SC_MANAGER_ALL_ACCESS. */
 #define HUDARIN_FILE_MAPPING { 0x00120089u, 0x00120116u, 0x001200a0u, 0x001f01ffu }
 #define HUDARIN_KEY_MAPPING { 0x00020019u, 0x00020006u, 0x00020019u, 0x000f003fu }
 #define HUDARIN_SERVICE_MAPPING { 0x0002008du, 0x00020002u, 0x00020170u, 0x000f01ffu }
 #define HUDARIN_PROCESS_MAPPING { 0x00020410u, 0x00020beau, 0x00121001u, 0x001fffffu }
+#define HUDARIN_DIRECTORY_MAPPING { 0x00020094u, 0x00020028u, 0x00020004u, 0x000f01ffu }
+#define HUDARIN_PRINTER_MAPPING { 0x00020008u, 0x00020008u, 0x00020008u, 0x000f000cu }
+#define HUDARIN_SECTION_MAPPING { 0x00020005u, 0x00020002u, 0x00020008u, 0x000f001fu }
+#define HUDARIN_TOKEN_MAPPING { 0x00020008u, 0x000200e0u, 0x00020000u, 0x000f01ffu }
+#define HUDARIN_MANAGER_MAPPING { 0x00020014u, 0x00020022u, 0x00020009u, 0x000f003fu }
 
 /* The answer of a check, an edit, hudarin_keep_token, hudarin_keep_client, hudarin_who, hudarin_lint and a call that
  * opens a store. `place` is, of HUDARIN_SID and HUDARIN_STATE, the index of the group or restricting SID, from 0; of

@@ -11,12 +11,7 @@ from errors import Fault, Mismatch
 from spelling import descriptor_of, fault_of, printed, spelled
 
 Mapping = tuple[int, int, int, int]
-MAPPINGS: dict[str, Mapping] = {
-    "file": hudarin.FILES,
-    "key": hudarin.KEYS,
-    "service": hudarin.SERVICES,
-    "process": hudarin.PROCESSES,
-}
+MAPPINGS: dict[str, Mapping] = hudarin.MAPPINGS
 
 
 class Tree:

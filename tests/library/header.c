@@ -94,10 +94,20 @@ static void mappings(void)
     static const hudarin_mapping services = HUDARIN_SERVICE_MAPPING, processes = HUDARIN_PROCESS_MAPPING;
     static const uint32_t of_files[] = { 0x120089, 0x120116, 0x1200A0, 0x1F01FF }, of_keys[] = { 0x20019, 0x20006, 0x20019, 0xF003F };
     static const uint32_t of_services[] = { 0x2008D, 0x20002, 0x20170, 0xF01FF }, of_processes[] = { 0x20410, 0x20BEA, 0x121001, 0x1FFFFF };
+    static const hudarin_mapping directory = HUDARIN_DIRECTORY_MAPPING, printers = HUDARIN_PRINTER_MAPPING;
+    static const hudarin_mapping sections = HUDARIN_SECTION_MAPPING, tokens = HUDARIN_TOKEN_MAPPING, manager = HUDARIN_MANAGER_MAPPING;
+    static const uint32_t of_directory[] = { 0x20094, 0x20028, 0x20004, 0xF01FF }, of_printers[] = { 0x20008, 0x20008, 0x20008, 0xF000C };
+    static const uint32_t of_sections[] = { 0x20005, 0x20002, 0x20008, 0xF001F }, of_tokens[] = { 0x20008, 0x200E0, 0x20000, 0xF01FF };
+    static const uint32_t of_manager[] = { 0x20014, 0x20022, 0x20009, 0xF003F };
     mapped(files, of_files);
     mapped(keys, of_keys);
     mapped(services, of_services);
     mapped(processes, of_processes);
+    mapped(directory, of_directory);
+    mapped(printers, of_printers);
+    mapped(sections, of_sections);
+    mapped(tokens, of_tokens);
+    mapped(manager, of_manager);
     hudarin_free(NULL);
 }
 

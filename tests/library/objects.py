@@ -39,7 +39,6 @@ from hudarin import (  # noqa: E402
     Explanation,
     Finding,
     KeptDescriptor,
-    Kind,
     NoList,
     Part,
     Refused,
@@ -304,7 +303,7 @@ def one_exception() -> None:
     gives("masks by names", ("FR+WD", "FR+0x200", "KEY_QUERY_VALUE+KEY_SET_VALUE", "0x0"), lambda: named)
     gives("masks mapped", (0x1200C9, 0xF003F), lambda: (map_mask(0x80000040), map_mask("GA", KEYS)))
     gives("a name of a kind", 0x1301BF, lambda: mask("modify", "file"))
-    kinds: List[Optional[Kind]] = [None, "file", "key", "service", "process"]
+    kinds: List[Any] = [None, *hudarin.MAPPINGS]
     for kind in kinds:
         some = [random.getrandbits(32) & random.getrandbits(32) for _ in range(2000)]
         gives(f"masks by the names of {kind}", some, lambda: [mask(mask_names(one, kind), kind) for one in some])

@@ -10,16 +10,30 @@ from ._numbers import FILES
 
 #: A mask: a number, or a text as ``mask`` parses it.
 Mask = Union[int, str]
-#: The kinds of objects, whose names masks have in words.
-Kind = Literal["file", "key", "service", "process"]
-_KINDS = {None: 0, "file": 1, "key": 2, "service": 3, "process": 4}
+#: The kinds of objects, whose names masks have in words: `ds` is an object of Active Directory, `scm` the service
+#: control manager, and a share has the rights of files.
+Kind = Literal["file", "folder", "share", "ds", "key", "service", "scm", "printer", "process", "section", "token"]
+_KINDS = {
+    None: 0,
+    "file": 1,
+    "folder": 5,
+    "share": 1,
+    "ds": 6,
+    "key": 2,
+    "service": 3,
+    "scm": 10,
+    "printer": 7,
+    "process": 4,
+    "section": 8,
+    "token": 9,
+}
 
 
 def _kind(kind: object) -> int:
     if kind is None or isinstance(kind, str):
         if kind in _KINDS:
             return _KINDS[kind]
-        raise ValueError(f"expected file, key, service or process, not {kind!r}")
+        raise ValueError(f"expected one of {', '.join(filter(None, _KINDS))}, not {kind!r}")
     raise TypeError(f"expected a kind of object, not {kind!r}")
 
 

@@ -90,6 +90,20 @@ FILES = (0x120089, 0x120116, 0x1200A0, 0x1F01FF)
 KEYS = (0x20019, 0x20006, 0x20019, 0xF003F)
 SERVICES = (0x2008D, 0x20002, 0x20170, 0xF01FF)
 PROCESSES = (0x20410, 0x20BEA, 0x121001, 0x1FFFFF)
+#: The same by the kind of object, and of other kinds; `mask` and `mask_names` have their names.
+MAPPINGS = {
+    "file": FILES,
+    "folder": FILES,
+    "share": FILES,
+    "ds": (0x20094, 0x20028, 0x20004, 0xF01FF),
+    "key": KEYS,
+    "service": SERVICES,
+    "scm": (0x20014, 0x20022, 0x20009, 0xF003F),
+    "printer": (0x20008, 0x20008, 0x20008, 0xF000C),
+    "process": PROCESSES,
+    "section": (0x20005, 0x20002, 0x20008, 0xF001F),
+    "token": (0x20008, 0x200E0, 0x20000, 0xF01FF),
+}
 
 #: The parts of a whole descriptor, joined by |.
 OF_OWNER, OF_GROUP, OF_DACL, OF_SACL = 0x1, 0x2, 0x4, 0x8

@@ -5,6 +5,7 @@ use Rattle.sd_text.specs.declared.fault.TextError.TheVariants as errors
 use Rattle.sd_line.specs.Mask.{IsMaskErrorIn, IsMaskIn}
 use Rattle.sd_line.specs.Spelling.{spelled}
 use Rattle.sd_line.specs.declared.names.ObjectKind.TheVariants.{File, Key, Service, Process}
+use Rattle.sd_line.specs.declared.names.ObjectKind.TheVariants.{Folder, Directory, Printer, Section, Token, Manager}
 use Rattle.sd_line.specs.declared.spelling.Spelling.{Spelling}
 use Rattle.sd_line.specs.declared.spelling.Spelling.TheVariants.{Names}
 use Rattle.sd_c.specs.CallAnswer.{not_read}
@@ -22,6 +23,12 @@ names_of kind =
     else if kind == 2 then Some (Names (Some Key))
     else if kind == 3 then Some (Names (Some Service))
     else if kind == 4 then Some (Names (Some Process))
+    else if kind == 5 then Some (Names (Some Folder))
+    else if kind == 6 then Some (Names (Some Directory))
+    else if kind == 7 then Some (Names (Some Printer))
+    else if kind == 8 then Some (Names (Some Section))
+    else if kind == 9 then Some (Names (Some Token))
+    else if kind == 10 then Some (Names (Some Manager))
     else None
 
 abbrev pub mask_given : ℕ → MaskAnswer

@@ -110,6 +110,12 @@ fn names_of(kind: u32) -> Result<Spelling, Refusal>
         2 => Ok(Spelling::Names(Some(ObjectKind::Key))),
         3 => Ok(Spelling::Names(Some(ObjectKind::Service))),
         4 => Ok(Spelling::Names(Some(ObjectKind::Process))),
+        5 => Ok(Spelling::Names(Some(ObjectKind::Folder))),
+        6 => Ok(Spelling::Names(Some(ObjectKind::Directory))),
+        7 => Ok(Spelling::Names(Some(ObjectKind::Printer))),
+        8 => Ok(Spelling::Names(Some(ObjectKind::Section))),
+        9 => Ok(Spelling::Names(Some(ObjectKind::Token))),
+        10 => Ok(Spelling::Names(Some(ObjectKind::Manager))),
         _ => Err(Refusal::NoKind),
     }
 }

@@ -16,23 +16,35 @@ fn kind_named(text: &str) -> Option<ObjectKind>
     ensures { result ≡ kind_named text.now }
 {
     match text {
-        "file" => Some(ObjectKind::File),
+        "file" | "share" => Some(ObjectKind::File),
+        "folder" => Some(ObjectKind::Folder),
+        "ds" => Some(ObjectKind::Directory),
         "key" => Some(ObjectKind::Key),
         "service" => Some(ObjectKind::Service),
+        "scm" => Some(ObjectKind::Manager),
+        "printer" => Some(ObjectKind::Printer),
         "process" => Some(ObjectKind::Process),
+        "section" => Some(ObjectKind::Section),
+        "token" => Some(ObjectKind::Token),
         _ => None,
     }
 }
 
-/// Its mapping: the constants of winnt.h, and of winsvc.h for services.
+/// Its mapping: the constants of winnt.h and winsvc.h, [MS-ADTS] 5.1.3.2 of Active Directory's objects, [MS-RPRN]
+/// 2.2.3.1 of printers, and [MS-SCMR] 3.1.4 of the service control manager.
 fn kind_mapping(kind: ObjectKind) -> Option<GenericMapping>
     ensures { result ≡ Some (kind_mapping kind) }
 {
     match kind {
-        ObjectKind::File => Some(GenericMapping::file()),
+        ObjectKind::File | ObjectKind::Folder => Some(GenericMapping::file()),
         ObjectKind::Key => of_masks(0x2_0019, 0x2_0006, 0x2_0019, 0xF_003F),
         ObjectKind::Service => of_masks(0x2_008D, 0x2_0002, 0x2_0170, 0xF_01FF),
         ObjectKind::Process => of_masks(0x2_0410, 0x2_0BEA, 0x12_1001, 0x1F_FFFF),
+        ObjectKind::Directory => of_masks(0x2_0094, 0x2_0028, 0x2_0004, 0xF_01FF),
+        ObjectKind::Printer => of_masks(0x2_0008, 0x2_0008, 0x2_0008, 0xF_000C),
+        ObjectKind::Section => of_masks(0x2_0005, 0x2_0002, 0x2_0008, 0xF_001F),
+        ObjectKind::Token => of_masks(0x2_0008, 0x2_00E0, 0x2_0000, 0xF_01FF),
+        ObjectKind::Manager => of_masks(0x2_0014, 0x2_0022, 0x2_0009, 0xF_003F),
     }
 }
 

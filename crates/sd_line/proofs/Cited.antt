@@ -3,7 +3,7 @@ pub use Rattle.sd_line.specs.Mask.{AreJoined, IsErrorFrom, IsMaskIn, IsWordError
 pub use Rattle.sd_line.specs.Names.{NamedBits, is_of, mask_named, named_bits, names_of}
 pub use Rattle.sd_line.specs.Spelling.{mask_digits, spelled}
 pub use Rattle.sd_line.specs.declared.names.ObjectKind.{ObjectKind}
-pub use Rattle.sd_line.specs.declared.names.ObjectKind.TheVariants.{File, Key, Process, Service}
+pub use Rattle.sd_line.specs.declared.names.ObjectKind.TheVariants.{Directory, File, Folder, Key, Manager, Printer, Process, Section, Service, Token}
 pub use Rattle.sd_line.specs.declared.spelling.Spelling.{Spelling}
 pub use Rattle.sd_line.specs.declared.spelling.Spelling.TheVariants.{Names, Number}
 pub use Rattle.sd_sid.proofs.Masks.{holds-and, holds-or, holds_place, mask_of-lt, same_masks}

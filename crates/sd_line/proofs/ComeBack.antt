@@ -1,5 +1,5 @@
 -- What is printed of a mask parses as that mask.
-use Rattle.sd_line.proofs.Cited.{AllDigits, AreJoined, Bool, File, IsMaskIn, IsWordMask, Key, List, NamedBits, Names, None, Number, ObjectKind, Ok, Option, Process, Service, Some, Spelling, Spells, [], and_le_l, and_parts, and_zero_r, ap, append-nil, append_assoc, arith, between_pluses, bit_and, bit_at, bit_at_and, bit_at_or, bit_or, codes, digit_value, digits_is_IsNumeral, eqb-true, false, find, hex, holds, holds-and, holds-or, holds_place, inl, inr, is_due, is_of, join_with_byte, join_with_byte-slice_split, length, length-slice_split, list_all, ltb-true, mask_digits, mask_named, mask_of, mask_of-lt, mask_text, names_of, nat_lt, ne_eqb, not, number_read, onto_first, or_lt, or_zero_r, refl, same_from_bits, same_masks, spelled, subst, suc, sym, true, went, whole_value, with_rest, with_word, ℕ, ◌&&◌, ◌++◌, ◌<◌, ◌==◌, ◌^◌, ◌||◌, ◌∙◌, ◌∷◌, ◌≡◌}
+use Rattle.sd_line.proofs.Cited.{AllDigits, AreJoined, Bool, Directory, File, Folder, IsMaskIn, IsWordMask, Key, List, Manager, NamedBits, Names, None, Number, ObjectKind, Ok, Option, Printer, Process, Section, Service, Some, Spelling, Spells, Token, [], and_le_l, and_parts, and_zero_r, ap, append-nil, append_assoc, arith, between_pluses, bit_and, bit_at, bit_at_and, bit_at_or, bit_or, codes, digit_value, digits_is_IsNumeral, eqb-true, false, find, hex, holds, holds-and, holds-or, holds_place, inl, inr, is_due, is_of, join_with_byte, join_with_byte-slice_split, length, length-slice_split, list_all, ltb-true, mask_digits, mask_named, mask_of, mask_of-lt, mask_text, names_of, nat_lt, ne_eqb, not, number_read, onto_first, or_lt, or_zero_r, refl, same_from_bits, same_masks, spelled, subst, suc, sym, true, went, whole_value, with_rest, with_word, ℕ, ◌&&◌, ◌++◌, ◌<◌, ◌==◌, ◌^◌, ◌||◌, ◌∙◌, ◌∷◌, ◌≡◌}
 use Rattle.sd_line.specs.MaskNames.{named_from}
 use Rattle.sd_text.specs.Rights.{mask_number, rights}
 use Rattle.sd_line.proofs.RightNames.{by_test}
@@ -71,6 +71,12 @@ no_name (Some File) digits = refl
 no_name (Some Key) digits = refl
 no_name (Some Service) digits = refl
 no_name (Some Process) digits = refl
+no_name (Some Folder) digits = refl
+no_name (Some Directory) digits = refl
+no_name (Some Printer) digits = refl
+no_name (Some Section) digits = refl
+no_name (Some Token) digits = refl
+no_name (Some Manager) digits = refl
 
 number_word : (kind : Option ObjectKind) (mask : ℕ) → mask < 2 ^ 32 → IsWordMask kind (mask_digits mask) mask
 number_word kind mask lt = inr (no_name kind (120 ∷ hex mask), inr (not_empty 48 (120 ∷ hex mask), number_spelled mask lt))
@@ -104,6 +110,12 @@ all_read_back (Some File) = refl
 all_read_back (Some Key) = refl
 all_read_back (Some Service) = refl
 all_read_back (Some Process) = refl
+all_read_back (Some Folder) = refl
+all_read_back (Some Directory) = refl
+all_read_back (Some Printer) = refl
+all_read_back (Some Section) = refl
+all_read_back (Some Token) = refl
+all_read_back (Some Manager) = refl
 
 with_name : (kind : Option ObjectKind) (row : NamedBits) (text : List ℕ) (named : ℕ) → reads_back kind row ≡ true → is_of kind row.1 ≡ true
     → IsMaskIn (Names kind) text named → IsMaskIn (Names kind) (with_word text row.0.letters) (bit_or named row.0.stands_for)

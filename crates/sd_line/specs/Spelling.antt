@@ -4,7 +4,7 @@ use Rattle.std.specs.Fmt.{digits}
 use Rattle.sd_text.specs.declared.right_names.RightNames.{RightNames}
 use Rattle.sd_text.specs.declared.right_names.RightNames.TheVariants.{All, Files, Keys, Common}
 use Rattle.sd_line.specs.Names.{mask_names}
-use Rattle.sd_line.specs.declared.names.ObjectKind.TheVariants.{File, Key}
+use Rattle.sd_line.specs.declared.names.ObjectKind.TheVariants.{File, Folder, Key}
 use Rattle.sd_line.specs.declared.spelling.Spelling.{Spelling}
 use Rattle.sd_line.specs.declared.spelling.Spelling.TheVariants.{Number, Names}
 
@@ -21,5 +21,6 @@ spelled (Names kind) mask = mask_names kind mask
 abbrev pub right_names_of : Spelling → RightNames
 right_names_of Number = All
 right_names_of (Names (Some File)) = Files
+right_names_of (Names (Some Folder)) = Files
 right_names_of (Names (Some Key)) = Keys
 right_names_of (Names kind) = Common

@@ -2,7 +2,7 @@
 ghost use Rattle.std.specs.Prelude.{◌≡◌, ◌++◌, ◌&&◌, [], IfOk, OnOk, map, option_map, string_bytes};
 ghost use Rattle.std.specs.Str.{str_eq_ignore_ascii_case};
 ghost use Rattle.sd_line.specs.MaskNames.{is_due, named_from, with_rest, with_word};
-ghost use Rattle.sd_line.specs.Names.{bits_among, is_of, long_names, mask_named, mask_names, named_bits};
+ghost use Rattle.sd_line.specs.Names.{bits_among, is_of, is_own, long_names, mask_named, mask_names, named_bits};
 ghost use Rattle.sd_line.specs.Names.{names_of, rights, short_names};
 ghost use Rattle.sd_line.specs.Rights.{permission_among};
 
@@ -17,6 +17,15 @@ pub enum ObjectKind {
     Key,
     Service,
     Process,
+    /// A folder, whose names are also those of files.
+    Folder,
+    /// An object of Active Directory.
+    Directory,
+    Printer,
+    Section,
+    Token,
+    /// The service control manager.
+    Manager,
 }
 
 /// A name, its bits, and the kind of object that has it; `None`: every object does.
@@ -30,8 +39,20 @@ const SERVICE: Option<ObjectKind> = Some(ObjectKind::Service);
 
 const PROCESS: Option<ObjectKind> = Some(ObjectKind::Process);
 
+const FOLDER: Option<ObjectKind> = Some(ObjectKind::Folder);
+
+const DIRECTORY: Option<ObjectKind> = Some(ObjectKind::Directory);
+
+const PRINTER: Option<ObjectKind> = Some(ObjectKind::Printer);
+
+const SECTION: Option<ObjectKind> = Some(ObjectKind::Section);
+
+const TOKEN: Option<ObjectKind> = Some(ObjectKind::Token);
+
+const MANAGER: Option<ObjectKind> = Some(ObjectKind::Manager);
+
 /// All names. The bounds of their parts are below.
-static NAMES: [NamedBits; 78] = [
+static NAMES: [NamedBits; 142] = [
     // What Windows lists as the permissions of a file, and masks that winnt.h names, where SDDL has a shorter name or
     // names that are these bits together.
     ("Full control", 0x001F_01FF, FILE),
@@ -42,6 +63,9 @@ static NAMES: [NamedBits; 78] = [
     ("KEY_ALL_ACCESS", 0x000F_003F, KEY),
     ("KEY_READ", 0x0002_0019, KEY),
     ("KEY_WRITE", 0x0002_0006, KEY),
+    ("Manage this printer", 0x000F_000C, PRINTER),
+    ("Manage documents", 0x000F_0030, PRINTER),
+    ("Print", 0x0002_0008, PRINTER),
     // The names of SDDL for masks of a kind and for rights of every object ([MS-DTYP] 2.5.1.1, ace-rights), and names
     // of one word for masks that it has none for, the greatest mask first. `KX` has the mask of `KR`.
     ("GR", 0x8000_0000, None),
@@ -56,19 +80,43 @@ static NAMES: [NamedBits; 78] = [
     ("FR", 0x0012_0089, FILE),
     ("Write", 0x0010_0116, FILE),
     ("SERVICE_ALL_ACCESS", 0x000F_01FF, SERVICE),
+    ("GenericAll", 0x000F_01FF, DIRECTORY),
+    ("TOKEN_ALL_ACCESS", 0x000F_01FF, TOKEN),
     ("KA", 0x000F_003F, KEY),
+    ("SC_MANAGER_ALL_ACCESS", 0x000F_003F, MANAGER),
+    ("JOB_ALL_ACCESS", 0x000F_0030, PRINTER),
+    ("SECTION_ALL_ACCESS", 0x000F_001F, SECTION),
+    ("PRINTER_ALL_ACCESS", 0x000F_000C, PRINTER),
     ("WO", 0x0008_0000, None),
     ("WD", 0x0004_0000, None),
+    ("TOKEN_WRITE", 0x0002_00E0, TOKEN),
+    ("GenericRead", 0x0002_0094, DIRECTORY),
+    ("GenericWrite", 0x0002_0028, DIRECTORY),
     ("KR", 0x0002_0019, KEY),
+    ("PRINTER_READ", 0x0002_0008, PRINTER),
+    ("TOKEN_READ", 0x0002_0008, TOKEN),
     ("KW", 0x0002_0006, KEY),
     ("RC", 0x0002_0000, None),
     ("SD", 0x0001_0000, None),
+    ("CR", 0x100, DIRECTORY),
+    ("LO", 0x80, DIRECTORY),
+    ("DT", 0x40, DIRECTORY),
+    ("WP", 0x20, DIRECTORY),
+    ("RP", 0x10, DIRECTORY),
+    ("SW", 0x8, DIRECTORY),
+    ("LC", 0x4, DIRECTORY),
+    ("DC", 0x2, DIRECTORY),
+    ("CC", 0x1, DIRECTORY),
     // The rights, one bit each, by the names of winnt.h and winsvc.h.
+    ("FILE_LIST_DIRECTORY", 0x1, FOLDER),
     ("FILE_READ_DATA", 0x1, FILE),
+    ("FILE_ADD_FILE", 0x2, FOLDER),
     ("FILE_WRITE_DATA", 0x2, FILE),
+    ("FILE_ADD_SUBDIRECTORY", 0x4, FOLDER),
     ("FILE_APPEND_DATA", 0x4, FILE),
     ("FILE_READ_EA", 0x8, FILE),
     ("FILE_WRITE_EA", 0x10, FILE),
+    ("FILE_TRAVERSE", 0x20, FOLDER),
     ("FILE_EXECUTE", 0x20, FILE),
     ("FILE_DELETE_CHILD", 0x40, FILE),
     ("FILE_READ_ATTRIBUTES", 0x80, FILE),
@@ -104,6 +152,43 @@ static NAMES: [NamedBits; 78] = [
     ("PROCESS_SUSPEND_RESUME", 0x800, PROCESS),
     ("PROCESS_QUERY_LIMITED_INFORMATION", 0x1000, PROCESS),
     ("PROCESS_SET_LIMITED_INFORMATION", 0x2000, PROCESS),
+    ("ADS_RIGHT_DS_CREATE_CHILD", 0x1, DIRECTORY),
+    ("ADS_RIGHT_DS_DELETE_CHILD", 0x2, DIRECTORY),
+    ("ADS_RIGHT_ACTRL_DS_LIST", 0x4, DIRECTORY),
+    ("ADS_RIGHT_DS_SELF", 0x8, DIRECTORY),
+    ("ADS_RIGHT_DS_READ_PROP", 0x10, DIRECTORY),
+    ("ADS_RIGHT_DS_WRITE_PROP", 0x20, DIRECTORY),
+    ("ADS_RIGHT_DS_DELETE_TREE", 0x40, DIRECTORY),
+    ("ADS_RIGHT_DS_LIST_OBJECT", 0x80, DIRECTORY),
+    ("ADS_RIGHT_DS_CONTROL_ACCESS", 0x100, DIRECTORY),
+    ("SERVER_ACCESS_ADMINISTER", 0x1, PRINTER),
+    ("SERVER_ACCESS_ENUMERATE", 0x2, PRINTER),
+    ("PRINTER_ACCESS_ADMINISTER", 0x4, PRINTER),
+    ("PRINTER_ACCESS_USE", 0x8, PRINTER),
+    ("JOB_ACCESS_ADMINISTER", 0x10, PRINTER),
+    ("JOB_ACCESS_READ", 0x20, PRINTER),
+    ("PRINTER_ACCESS_MANAGE_LIMITED", 0x40, PRINTER),
+    ("SECTION_QUERY", 0x1, SECTION),
+    ("SECTION_MAP_WRITE", 0x2, SECTION),
+    ("SECTION_MAP_READ", 0x4, SECTION),
+    ("SECTION_MAP_EXECUTE", 0x8, SECTION),
+    ("SECTION_EXTEND_SIZE", 0x10, SECTION),
+    ("SECTION_MAP_EXECUTE_EXPLICIT", 0x20, SECTION),
+    ("TOKEN_ASSIGN_PRIMARY", 0x1, TOKEN),
+    ("TOKEN_DUPLICATE", 0x2, TOKEN),
+    ("TOKEN_IMPERSONATE", 0x4, TOKEN),
+    ("TOKEN_QUERY", 0x8, TOKEN),
+    ("TOKEN_QUERY_SOURCE", 0x10, TOKEN),
+    ("TOKEN_ADJUST_PRIVILEGES", 0x20, TOKEN),
+    ("TOKEN_ADJUST_GROUPS", 0x40, TOKEN),
+    ("TOKEN_ADJUST_DEFAULT", 0x80, TOKEN),
+    ("TOKEN_ADJUST_SESSIONID", 0x100, TOKEN),
+    ("SC_MANAGER_CONNECT", 0x1, MANAGER),
+    ("SC_MANAGER_CREATE_SERVICE", 0x2, MANAGER),
+    ("SC_MANAGER_ENUMERATE_SERVICE", 0x4, MANAGER),
+    ("SC_MANAGER_LOCK", 0x8, MANAGER),
+    ("SC_MANAGER_QUERY_LOCK_STATUS", 0x10, MANAGER),
+    ("SC_MANAGER_MODIFY_BOOT_CONFIG", 0x20, MANAGER),
     ("DELETE", 0x0001_0000, None),
     ("READ_CONTROL", 0x0002_0000, None),
     ("WRITE_DAC", 0x0004_0000, None),
@@ -118,10 +203,10 @@ static NAMES: [NamedBits; 78] = [
 ];
 
 /// Where the names begin by which masks are printed.
-const PRINTED: usize = 8;
+const PRINTED: usize = 11;
 
 /// Where the rights begin.
-const RIGHTS: usize = 27;
+const RIGHTS: usize = 50;
 
 #[tactic(auto, unfolding(crate::specs::Names::long_names, crate::specs::Names::short_names, crate::specs::Names::rights))]
 fn all_names() -> &'static [NamedBits]
@@ -197,7 +282,7 @@ pub(crate) fn permission_among(
 {
     match rows {
         [] => None,
-        [row, _rows @ ..] if row.2.is_some() && row.2 == kind && row.1 == mask => Some(row.0),
+        [row, _rows @ ..] if is_own(kind, row.2) && row.1 == mask => Some(row.0),
         [_row, rows @ ..] => permission_among(rows, kind, mask),
     }
 }
@@ -231,7 +316,14 @@ fn is_named(row: &NamedBits, kind: Option<ObjectKind>, word: &str) -> bool
 fn is_of(kind: Option<ObjectKind>, of: Option<ObjectKind>) -> bool
     ensures { result ≡ is_of kind of }
 {
-    of.is_none() || of == kind
+    of.is_none() || is_own(kind, of)
+}
+
+/// Whether a name is one for objects of this kind, and not of every kind: a folder has those of files too.
+fn is_own(kind: Option<ObjectKind>, of: Option<ObjectKind>) -> bool
+    ensures { result ≡ is_own kind of }
+{
+    of.is_some() && (of == kind || (kind == FOLDER && of == FILE))
 }
 
 /// Whether a name is one for objects of this kind whose bits are all the mask's, and names before it don't have them

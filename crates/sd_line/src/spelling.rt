@@ -24,7 +24,7 @@ impl Spelling {
     {
         match self {
             Spelling::Number => RightNames::All,
-            Spelling::Names(Some(ObjectKind::File)) => RightNames::Files,
+            Spelling::Names(Some(ObjectKind::File | ObjectKind::Folder)) => RightNames::Files,
             Spelling::Names(Some(ObjectKind::Key)) => RightNames::Keys,
             Spelling::Names(_) => RightNames::Common,
         }

@@ -46,7 +46,8 @@ IsBadValue (NoDomain text points) answer =
     × IsBadOption (codes "domain") reason answer
 IsBadValue NoAccounts answer = IsBadOption (codes "accounts") (codes "the file isn't read here") answer
 IsBadValue NoMapping answer = IsBadOption (codes "mapping")
-    (codes "no such mapping: file, key, service, process, or four masks R,W,X,A") answer
+    (codes "no such mapping: file, folder, share, ds, key, service, scm, printer, process, section, token, or R,W,X,A")
+    answer
 IsBadValue NoLogon answer = IsBadOption (codes "logon")
     (codes "no such logon: interactive, network, batch, service, anonymous") answer
 IsBadValue (NoConcern text known points) answer =

@@ -19,6 +19,9 @@ use sd_text::Aliases;
 use std::alloc::{AllocError, Global};
 use std::io::Read;
 
+const NO_MAPPING: &str =
+    "no such mapping: file, folder, share, ds, key, service, scm, printer, process, section, token, or R,W,X,A";
+
 /// The answer to a text, or without one to the input. Only without one it uses `reader`.
 pub fn answer_to<R: Read>(
     alloc: Global,
@@ -84,10 +87,7 @@ pub fn bad_value(alloc: Global, bad: BadValue<'_>) -> Result<Answer, AllocError>
             bad_option(alloc, "domain", reason.as_str())
         }
         BadValue::NoAccounts => bad_option(alloc, "accounts", "the file isn't read here"),
-        BadValue::NoMapping => {
-            let reason = "no such mapping: file, key, service, process, or four masks R,W,X,A";
-            bad_option(alloc, "mapping", reason)
-        }
+        BadValue::NoMapping => bad_option(alloc, "mapping", NO_MAPPING),
         BadValue::NoLogon => {
             let reason = "no such logon: interactive, network, batch, service, anonymous";
             bad_option(alloc, "logon", reason)

@@ -146,10 +146,15 @@ A first '--' after 'verdict' is dropped, and everything after it is an argument:
 lists them.
 
 Generic rights are mapped by '--mapping KIND', and without it as those of a file:
-  file     GR 0x120089  GW 0x120116  GX 0x1200a0  GA 0x1f01ff
+  file     GR 0x120089  GW 0x120116  GX 0x1200a0  GA 0x1f01ff  also 'folder', 'share'
+  ds       GR 0x20094   GW 0x20028   GX 0x20004   GA 0xf01ff   an object of Active Directory
   key      GR 0x20019   GW 0x20006   GX 0x20019   GA 0xf003f
   service  GR 0x2008d   GW 0x20002   GX 0x20170   GA 0xf01ff
+  scm      GR 0x20014   GW 0x20022   GX 0x20009   GA 0xf003f   the service control manager
+  printer  GR 0x20008   GW 0x20008   GX 0x20008   GA 0xf000c
   process  GR 0x20410   GW 0x20bea   GX 0x121001  GA 0x1fffff
+  section  GR 0x20005   GW 0x20002   GX 0x20008   GA 0xf001f
+  token    GR 0x20008   GW 0x200e0   GX 0x20000   GA 0xf01ff
   R,W,X,A  these four masks, each written as MASK and within 0x1fffff
 MAXIMUM_ALLOWED, 0x02000000, requests all rights that are granted. It has no name in SDDL.
 
@@ -303,12 +308,12 @@ const RIGHTS_NOTES: &str = "\
 A first '--' after 'rights' is dropped. Options go before 'rights': 'sdstore help' lists them.
 
 Prints the mask, the name of the permission that it is, if any, and its rights, by the names of
-winnt.h and winsvc.h. Bits without a name are a number:
+winnt.h, winsvc.h, winspool.h and iads.h. Bits without a name are a number:
   0x100116 Write: FILE_WRITE_DATA+FILE_APPEND_DATA+FILE_WRITE_EA+FILE_WRITE_ATTRIBUTES+SYNCHRONIZE
   0x10201: FILE_READ_DATA+DELETE+0x200
-The rights are those of a file, or with '--mapping' before 'rights' those of a 'key', 'service' or
-'process'; with R,W,X,A only rights of all objects have names. With '--names' MASK may be names
-joined by '+', as 'Read & execute' or FR+DELETE.
+The rights are those of a file, or of the kind of '--mapping' before 'rights'; with R,W,X,A only
+rights of all objects have names. With '--names' MASK may be names joined by '+', as 'Read &
+execute' or FR+DELETE.
 
 Statuses:
   0  the line was printed

@@ -205,8 +205,9 @@ domain AP, CN, KA and RO",
             beside: Beside::Any,
         },
         "\
-the generic mapping, that of a 'file' (the default), of a registry 'key', of a 'service' or of a
-'process', or R,W,X,A, the four masks of GR, GW, GX and GA",
+the generic mapping, that of a 'file' (the default), 'folder', 'share', 'ds' (an object of Active
+Directory), registry 'key', 'service', 'scm' (their manager), 'printer', 'process', 'section' or
+'token', or R,W,X,A, the four masks of GR, GW, GX and GA",
     ),
     (
         "--logon",
