@@ -86,6 +86,7 @@ def _parser() -> argparse.ArgumentParser:
     )
     _add_accounts(command("accounts", commands.accounts, "write which groups users are in, for sdstore --accounts"))
     _add_schema(command("schema", commands.schema, "write which names object types have, for sdstore --schema"))
+    _add_lines(command("lines", commands.lines, "write the descriptors of exports, for sdstore each --key"))
     return parser
 
 
@@ -244,6 +245,19 @@ def _add_accounts(accounts: argparse.ArgumentParser) -> None:
     )
     accounts.add_argument("file", metavar="FILE", help="the file to write")
     accounts.add_argument("--domain", metavar="NAME", help="the domain's NetBIOS name: that of the LDIF unless given")
+
+
+def _add_lines(lines: argparse.ArgumentParser) -> None:
+    lines.add_argument(
+        "sources",
+        metavar="SOURCE",
+        nargs="+",
+        help="a file of icacls /save, reg export, LDIF, CSV, or SDDL, as of sc sdshow",
+    )
+    lines.add_argument("file", metavar="FILE", help="the file to write")
+    lines.add_argument(
+        "--columns", metavar="KEY,SDDL", default="Path,Sddl", help="the columns of a CSV; Path,Sddl unless given"
+    )
 
 
 def _add_schema(schema: argparse.ArgumentParser) -> None:

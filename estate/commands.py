@@ -8,6 +8,7 @@ from collections.abc import Callable, Iterable
 from hudarin import Descriptor, Refused, Sid
 
 import accounts as accounts_file
+import exports
 import icacls as icacls_file
 import people as people_of
 import questions
@@ -256,6 +257,17 @@ def accounts(arguments: argparse.Namespace, table: Table) -> int:
     joined = accounts_file.write_accounts(arguments.sources, arguments.file, arguments.domain, table)
     table.end("written", accounts_file.summed_up(joined), joined.counts())
     return 1 if joined.skipped or joined.unknown else 0
+
+
+def lines(arguments: argparse.Namespace, table: Table) -> int:
+    """The descriptors of exports as a file."""
+    columns = [column.strip().lower() for column in arguments.columns.split(",")]
+    if len(columns) != 2:
+        raise Invalid(f"--columns: two names with a comma between them are expected, and not {arguments.columns!a}")
+    written, left = exports.write_lines(arguments.sources, arguments.file, (columns[0], columns[1]), table)
+    text = f"{plural(written, 'descriptor')} in {arguments.file}; left out: {left:,}"
+    table.end("written", text, {"written": written, "left": left})
+    return LEFT_OUT if left else 0
 
 
 def schema(arguments: argparse.Namespace, table: Table) -> int:
