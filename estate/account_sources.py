@@ -1,6 +1,5 @@
 """Which format a source of accounts has, by its content; and the lines of a Unix system."""
 
-import re
 from collections.abc import Callable, Iterator
 from itertools import chain, islice
 
@@ -11,11 +10,11 @@ from account_samba import is_groupmap, is_pdbedit, read_groupmap, read_pdbedit
 from csv_rows import columns_of
 from directory import Account, Directory, Kind
 from errors import Invalid
+from ldif import is_ldif
 from lines import Line, encoding_in, lines_of
 from sids import sid_of_text
 from unix_lines import GroupLine, NamedSid, getent_line, named_sid
 
-_LDIF = re.compile(r"(version|dn|search|result|ref)::?(\s|$)|dn:[A-Za-z0-9.-]+=", re.IGNORECASE)
 #: What kind of account the numbers of wbinfo mean, by SID_NAME_USE of [MS-LSAT] 2.2.13.
 _KINDS = {1: Kind.USER, 2: Kind.GROUP, 4: Kind.GROUP, 5: Kind.GROUP, 9: Kind.USER}
 #: The numbers of accounts that are deleted, invalid or unknown, whose names are none.
@@ -56,7 +55,7 @@ def _reader_of(name: str, line: Line) -> Callable[[Directory, str, Iterator[Line
     number, text = line
     if is_pdbedit(text):
         return read_pdbedit
-    if _LDIF.match(text):
+    if is_ldif(text):
         return read_ldif
     if named_sid(text) or getent_line(text):
         return _read_unix

@@ -12,7 +12,7 @@ from hudarin import WholeDescriptor
 from atomic_file import atomic_file
 from csv_rows import CsvRows, columns_of
 from errors import Invalid, Stopped
-from ldif import Ldif, Record, Value
+from ldif import Ldif, Record, Value, is_ldif
 from lines import Line, encoding_in, lines_of, start_of
 from table import Table, plural
 from texts import saved_rows
@@ -28,7 +28,6 @@ _SYNTAX = {
     "msexchmailboxsecuritydescriptor",
     "pkienrollmentaccess",
 }
-_LDIF = re.compile(r"(version|dn|search|result|ref)::?(\s|$)|dn:[A-Za-z0-9.-]+=", re.IGNORECASE)
 #: A value of a registry file: its name, and its bytes in hexadecimal if it has some.
 _VALUE = re.compile(r'(@|"(?:[^"\\]|\\.)*")=(?:hex(?:\([0-9a-f]+\))?:([0-9a-f, ]*)$)?', re.IGNORECASE)
 #: SECURITY_DESCRIPTOR ([MS-DTYP] 2.4.6): SE_SELF_RELATIVE in its fourth byte.
@@ -100,7 +99,7 @@ def _reader_of(line: str, columns: tuple[str, str]) -> Callable[[str, Iterator[L
         return lambda name, lines: _of_csv(name, lines, columns)
     if re.match("[OGDS]:", line):
         return _of_sddl
-    if line.startswith("#") or _LDIF.match(line):
+    if line.startswith("#") or is_ldif(line):
         return _of_ldif
     return lambda name, lines: (Export(number, path, sddl) for number, path, sddl in saved_rows(name, lines))
 

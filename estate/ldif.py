@@ -3,6 +3,7 @@ standard library, skips what it doesn't know, and knows no line numbers.)"""
 
 import base64
 import binascii
+import re
 from collections.abc import Iterator
 from dataclasses import dataclass, field
 from typing import NamedTuple
@@ -12,6 +13,14 @@ from lines import Line
 
 #: How what ldapsearch prints beside entries begins: references, and how a search ended.
 _BESIDE = {"ref", "search", "result", "control", "pagedresults", "matcheddn", "text", "sortresult", "vlvresult"}
+
+
+_FIRST = re.compile(r"(version|dn|search|result|ref)::?(\s|$)|dn:[A-Za-z0-9.-]+=", re.IGNORECASE)
+
+
+def is_ldif(line: str) -> bool:
+    """Whether a file whose first line this is, but for comments, is LDIF."""
+    return _FIRST.match(line) is not None
 
 
 class Value(NamedTuple):
