@@ -8,7 +8,7 @@ use sd_acl::{Ace, AceFlags};
 use sd_answer::entries_in;
 use sd_arguments::TextRequest;
 use sd_commands::{Settings, told_line};
-use sd_line::{read_mask_in, requested};
+use sd_line::{ObjectKind, read_mask_in, requested};
 use sd_sid::{Mask, Sid};
 use sd_text::print_full_sid;
 use sd_usage::{DescriptorCommand, TextCommand};
@@ -66,6 +66,7 @@ pub(crate) fn notes_on(
         }
         (TextCommand::Descriptor(DescriptorCommand::Lint), _) => {
             push_critical(alloc, settings, "SDDL", text, &mut notes)?;
+            push_no_risk(alloc, settings, &mut notes)?;
         }
         (
             TextCommand::Descriptor(
@@ -91,6 +92,22 @@ fn push_empty(alloc: Global, text: &str, notes: &mut String) -> Result<(), Alloc
         let what =
             "empty, so it has no DACL and grants everything: --require-dacl makes it a fault";
         let note = told_line(alloc, "SDDL", what)?;
+        notes.push_str(note.as_str())?;
+    }
+    Ok(())
+}
+
+/// Notes rights that let much be done to an object of the kind, and that no risk is about.
+fn push_no_risk(alloc: Global, settings: &Settings, notes: &mut String) -> Result<(), AllocError> {
+    let rights = match settings.kind {
+        Some(ObjectKind::Directory) => "CC, DC and CR",
+        Some(ObjectKind::Printer) => "PRINTER_ACCESS_ADMINISTER and JOB_ACCESS_ADMINISTER",
+        Some(ObjectKind::Token) => "TOKEN_ASSIGN_PRIMARY, TOKEN_DUPLICATE and TOKEN_IMPERSONATE",
+        _ => return Ok(()),
+    };
+    if settings.risks {
+        let what = format!(in alloc; "no risk is about {rights}: 'who' says who has them")?;
+        let note = told_line(alloc, "--risks", what.as_str())?;
         notes.push_str(note.as_str())?;
     }
     Ok(())
