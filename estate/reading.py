@@ -80,6 +80,8 @@ class Reading:
             if not self._is_hidden(found.path):
                 self._leave(found.path)
                 self._visit(found)
+            elif found.unlisted is not None:
+                self._say_unlisted(found.path, found.unlisted)
         self._end_hidden()
         self._leave(None)
         self._write(end_of(self._gap_count))
@@ -93,8 +95,7 @@ class Reading:
             self.counts.linked += 1
             self.table.row("linked", {"path": spelled(found.path), "first": spelled(found.first_name)})
         if found.unlisted is not None:
-            self.counts.unlisted += 1
-            self._say(Gap("unlisted", found.path, found.unlisted))
+            self._say_unlisted(found.path, found.unlisted)
         kept, why = found.kept, found.why or fault_of(found.path)
         if kept is None or why is not None:
             self._skip(found, why or "")
@@ -201,6 +202,11 @@ class Reading:
             folder = self._above.pop()
             if folder.files:
                 self._say(Gap("files", folder.path, count=folder.files))
+
+    def _say_unlisted(self, path: Path, why: str) -> None:
+        """A row for a folder, also where it has no line: nobody knows how many nodes are in it."""
+        self.counts.unlisted += 1
+        self._say(Gap("unlisted", path, why))
 
     def _say(self, gap: Gap, more: Mapping[str, Cell] | None = None) -> None:
         """A row of the table, and the same in the script, which has the descriptors of `more` already."""

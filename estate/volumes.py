@@ -14,12 +14,14 @@ from exclusion import Exclusion
 from forms import Attribute, kept_in
 from found import Found
 from others import Kept
-from paths import MAX_NAMES, Path, spelled
+from paths import Path, spelled
 from reparse import is_closed_folder
 
 _FOLDER = os.O_RDONLY | os.O_DIRECTORY | os.O_NOFOLLOW | os.O_CLOEXEC
 #: So many attributes are kept with their descriptors: nodes of a volume have few different ones.
 _KEPT = 65_536
+#: Folders with more names aren't listed. (Each folder on the way is open, and a process may have 1,024 open files.)
+_DEEPEST = 900
 #: What a node is whose descriptor is read; other nodes are skipped for what they are. Of a closed folder nobody knows
 #: what is in it.
 _IS_FOLDER, _IS_FILE, _IS_CLOSED = "folder", "file", "closed folder"
@@ -116,8 +118,8 @@ class Volume:
                 os.close(level.folder)
 
     def _level(self, folder: int, path: Path) -> _Level:
-        if len(path) > MAX_NAMES:
-            return _Level(folder, path, iter(()), "it isn't listed")
+        if len(path) > _DEEPEST:
+            return _Level(folder, path, iter(()), f"it isn't listed: its path has more than {_DEEPEST} names")
         try:
             names = _names_in(folder)
         except OSError as error:

@@ -4,10 +4,11 @@ have comes from a second implementation of the rules."""
 import os
 import struct
 import subprocess
+from pathlib import Path
 
 import second
-from rig import PRESENT, PROTECTED, Case, Names, Ntfs, acl_bytes, by_sdstore, entry_bytes, fill, form, needs_program
-from rig import node_form, others_in, read_form, sid_bytes
+from rig import NO_SID_ENTRY, PRESENT, PROTECTED, Case, Names, Ntfs, acl_bytes, by_sdstore, entry_bytes, fill, form
+from rig import needs_program, node_form, others_in, read_form, sid_bytes
 from trees import BA, BG, BU, SY, WD, Planted, allow, deny, planted
 
 NODES = 5000
@@ -187,7 +188,7 @@ class Folders(Volumes):
 
 class NotRead(Volumes):
     def test_links_mounts_and_depths(self) -> None:
-        """Links, special files, other file systems and what is too deep have rows, and nothing beyond them is read."""
+        """Links, special files, other file systems and what is too deep have rows, and so many nodes are below them."""
         os.mkdir(self.volume.at(("folder",)))
         os.symlink("/etc", self.volume.at(("folder", "link")))
         os.mkfifo(self.volume.at(("folder", "pipe")))
@@ -195,13 +196,16 @@ class NotRead(Volumes):
         subprocess.run(["mount", "-t", "tmpfs", "none", self.volume.at(("mounted",))], check=True)
         self.addCleanup(subprocess.run, ["umount", self.volume.at(("mounted",))])
         os.mkdir(self.volume.at(("mounted", "in")))
-        os.makedirs(self.volume.at(("d",) * 67))
-        script, table = self.read("script", says="4 skipped")
+        deep = Path(os.fsdecode(self.volume.at(("d",) * 67)))
+        deep.mkdir(parents=True)
+        deep.joinpath("file").touch()
+        script, table = self.read("script", says="7 skipped")
         self.assertEqual(table["/folder/link"][2], "a link")
         self.assertEqual(table["/folder/pipe"][2], "neither a folder nor a file")
         self.assertEqual(table["/mounted"][2], "another file system is mounted there")
-        deep = "/d" * 65
-        self.assertIn("too deep: its path has 65 names, and 64 fit", table[deep][2])
+        what, _, why, below = table["/d" * 65]
+        self.assertIn("too deep: its path has 65 names, and 64 fit", why)
+        self.assertEqual((what, below), ("skipped", "3"))
         rows = imports(script)
         self.assertEqual({path for path in rows if "/d" not in path}, {"/", "/folder"})
         self.assertEqual(max(path.count("/") for path in rows), 64)
@@ -237,6 +241,18 @@ class NotRead(Volumes):
 
     def reparse(self, path: Names, tag: int, data: bytes) -> None:
         os.setxattr(self.volume.at(path), "system.ntfs_reparse_data", struct.pack("<IHH", tag, len(data), 0) + data)
+
+    def test_what_is_closed_below_a_node_without_a_line(self) -> None:
+        """Nobody knows what is in it, and a row says so."""
+        blob = form(sid_bytes(BA), sid_bytes(SY), acl_bytes([NO_SID_ENTRY]), PRESENT)
+        os.makedirs(self.volume.at(("odd", "online")))
+        self.reparse(("odd", "online"), CLOUD, bytes(8))
+        self.volume.unmount()
+        self.volume.mount()
+        self.volume.put(("odd",), blob)
+        _, table = self.read("script", says="2 skipped, 0 differing, 0 SACLs kept, 1 folder not listed")
+        self.assertEqual((table["/odd"][0], table["/odd"][3]), ("skipped", "1"))
+        self.assertEqual(table["/odd/online"][:3], ["unlisted", "/odd/online", "a reparse point hides what is in it"])
 
     def test_names_of_one_file(self) -> None:
         """Each further one has a row, and the descriptor of the file."""
