@@ -14,7 +14,6 @@ from gaps import Coverage
 from people import People, require_own_groups
 from script import Script, read_script
 from shares import require_rights, share_of
-from served import Served
 from table import Table, plural, say
 
 #: The longest line of standard input: no path of a tree is longer, with all groups that a token has.
@@ -25,19 +24,13 @@ _STATUSES = (0, 1, 4, 2, 3)
 
 
 class Asked:
-    """A script that questions are about, with the users of a file of accounts if there is one. It is loaded once, and
-    so is the tree of `sdstore serve`."""
+    """A script that questions are about, with the users of a file of accounts if there is one. It is loaded once."""
 
     def __init__(
         self, script: Script, people: People | None, share: str | None, only_given: bool, table: Table
     ) -> None:
         self._script, self._people, self._share = script, people, share
         self._only_given, self._table = only_given, table
-        self._served: Served | None = None
-
-    def close(self) -> None:
-        if self._served is not None:
-            self._served.close()
 
     def answer(self, command: str, words: list[str]) -> int:
         """Answers a question that is spelled as the command is, but for its options and SCRIPT. Returns the status."""
@@ -68,10 +61,9 @@ class Asked:
         path = questions.node_of(self._script, path_text)
         about = self._script.covered(path)
         asked = asking_as(user, mask, words, self._people, self._only_given, self._table)
-        self._served = self._served or Served(len(self._script.nodes), self._script.remade())
         count = 0
         if is_granted_by_share(self._share, asked, self._table):
-            count = questions.find(self._served.answer, path, asked, self._table)
+            count = questions.find(self._script, path, asked, self._table)
         return answered(self._table, "found", plural(count, "node"), {"nodes": count}, about)
 
 
@@ -99,11 +91,7 @@ def is_granted_by_share(share: str | None, asked: list[str], table: Table) -> bo
 @contextmanager
 def _asked(arguments: argparse.Namespace, table: Table) -> Iterator[Asked]:
     with read_script(arguments.script) as script, people_in(arguments.accounts) as people:
-        asked = Asked(script, people, share_of(arguments.share), arguments.only_given, table)
-        try:
-            yield asked
-        finally:
-            asked.close()
+        yield Asked(script, people, share_of(arguments.share), arguments.only_given, table)
 
 
 def who(arguments: argparse.Namespace, table: Table) -> int:

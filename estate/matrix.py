@@ -34,14 +34,15 @@ class Matrix:
     """The rows of a script's tree after its changes, in the order of the paths. The root has the first one."""
 
     def __init__(self, script: Script, people: People) -> None:
-        self._people = people
+        self._people, self._script = people, script
         self.rows: list[Row] = []
         #: The first node of those for which the page has no room, and how many rows these would be.
         self.cut: list[Gap] = []
-        found: dict[Path, Rights] = {}
-        for path in sorted(script.nodes):
-            rights = found[path] = people.rights(script.descriptor(path))
-            above = found[path[:-1]] if path else None
+        folders: dict[Path, Rights] = {}
+        for path, text in script.described(()):
+            rights, above = people.rights(text), folders[path[:-1]] if path else None
+            if script.nodes[path].is_container:
+                folders[path] = rights
             if rights != above:
                 self.rows.append(Row(path, rights, above))
 
@@ -70,14 +71,14 @@ class Matrix:
 
     # As a table of the page
 
-    def page(self, numbers: dict[Path, int]) -> dict[str, Any]:
+    def page(self) -> dict[str, Any]:
         """The data of the page's table, with nodes by their numbers: a column for each group of users who have the same
         rights everywhere. Of rights that many nodes have alike there is one list, of a word's number and the count of
         columns that it is for, again and again."""
         groups, without = self._groups()
         lists, words = _Lists([group[0] for group in groups]), Numbers()
         found = takewhile(lambda number: number is not None, (lists.number_of(row.rights, words) for row in self.rows))
-        rows = [[numbers[row.path], number] for row, number in zip(self.rows, found)]
+        rows = [[self._script.number_of(row.path), number] for row, number in zip(self.rows, found)]
         # (a row says what the folder above has, which stands before it)
         self.cut = [Gap("cut", row.path, _NO_ROOM, len(self.rows) - len(rows)) for row in self.rows[len(rows) :][:1]]
         return {

@@ -5,7 +5,7 @@ import os
 import re
 import shutil
 import subprocess
-from collections.abc import Callable, Iterable, Iterator
+from collections.abc import Iterable, Iterator
 from dataclasses import dataclass
 from pathlib import Path as File
 from typing import Any
@@ -26,6 +26,8 @@ _PROGRAMS = (_HERE.parent / "crates/sdstore/out/sdstore", _HERE.parents[2] / "bi
 
 #: What is one word of a line of a script.
 _WORD = re.compile(r"[!-~]+")
+#: The answers of `verdict` to what was asked: another one says what of that isn't understood.
+_VERDICTS = ("granted", "denied", "reserved", "empty")
 #: The kinds of lines of `compare` about what would be made in a folder, which is no node of the script; and `same`.
 _OF_NO_NODE = ("gained below", "lost below", "nothing inherited", "no longer protected", "now protected", "same")
 
@@ -58,24 +60,26 @@ def _ran(words: list[str], lines: Iterable[str] = ()) -> str:
     return asked.stdout
 
 
-def _each(words: list[str], texts: Iterable[str], options: list[str], end: str = "") -> dict[str, list[str]]:
-    """The lines that a command of `sdstore each` answers about each text, of which it is asked once; `end` is the line
-    after each answer. No text is an option of the program: each is a line of its input."""
+def _each(words: list[str], texts: Iterable[str], options: list[str], end: str = "\n\n") -> dict[str, list[str]]:
+    """The lines that a command of `sdstore each` answers about each text, of which it is asked once; `end` follows each
+    answer. No text is an option of the program: each is a line of its input."""
     distinct = list(dict.fromkeys(texts))
-    ends = f"\n{end}\n"
     said = _ran([*options, "each", *words], distinct) if distinct else ""
-    answers = said.removesuffix(ends).split(ends) if said else []
+    answers = said.removesuffix(end).split(end) if said else []
     if len(answers) != len(distinct):
         raise Failed(f"{program()}: {plural(len(answers), 'answer')} to {len(distinct)}: it is no sdstore of this version")
     return dict(zip(distinct, (answer.split("\n") for answer in answers)))
 
 
 def _each_object(
-    words: list[str], texts: Iterable[str], options: tuple[str, ...] = ()
+    words: list[str], texts: Iterable[str], options: tuple[str, ...] = (), end: str = '\n{"text":""}\n'
 ) -> dict[str, list[dict[str, Any]]]:
     """The same as the objects of `--json`."""
-    answers = _each(words, texts, ["--json", *options], '{"text":""}')
-    return {text: list(map(json.loads, lines)) for text, lines in answers.items()}
+    answers = _each(words, texts, ["--json", *options], end)
+    try:
+        return {text: list(map(json.loads, lines)) for text, lines in answers.items()}
+    except ValueError as error:
+        raise Failed(f"{program()}: {error}: it is no sdstore of this version") from error
 
 
 def _require(command: str, line: dict[str, Any], kinds: tuple[str, ...]) -> None:
@@ -87,10 +91,9 @@ def _require(command: str, line: dict[str, Any], kinds: tuple[str, ...]) -> None
 def lint(script: Script, table: Table) -> int:
     """A row for each finding of `sdstore --risks lint` about a node, as the tree is after the changes of the script,
     and how many there are."""
-    texts = {path: script.descriptor(path) for path in sorted(script.nodes)}
-    findings = findings_of(texts.values())
+    findings = findings_of(text for _, text in script.described(()))
     count = 0
-    for path, text in texts.items():
+    for path, text in script.described(()):
         for finding in findings[text]:
             table.row("lint", {"path": spelled(path), "finding": finding})
             count += 1
@@ -215,16 +218,18 @@ def _difference(line: dict[str, Any]) -> Difference:
 # Where a user may do something
 
 
-def find(asked: Callable[[str], list[str]], path: Path, words: list[str], table: Table) -> int:
-    """A row for each node at and below a path that grants a user the rights, and how many there are, by what
-    `sdstore serve` answers when it is asked."""
+def find(script: Script, top: Path, words: list[str], table: Table) -> int:
+    """A row for each node at and below a path that grants a user the rights, as the tree is after the changes of the
+    script, by `sdstore verdict`; and how many there are."""
     _require_words(words)
-    said, *paths = asked(" ".join(["find", "0", spelled(path), *words]))
-    if not said.endswith(" found"):
-        raise Invalid(f"sdstore find: {said}")
-    for each in paths:
-        table.row("found", {"path": each})
-    return len(paths)
+    texts = (text for _, text in script.described(top))
+    answers = _each_object(["verdict", "--", *words], texts, end="\n")
+    for line, *_ in answers.values():
+        _require("find", line, _VERDICTS)
+    found = [path for path, text in script.described(top) if answers[text][0]["answer"] == "granted"]
+    for path in found:
+        table.row("found", {"path": spelled(path)})
+    return len(found)
 
 
 def _require_words(words: Iterable[str]) -> None:

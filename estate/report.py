@@ -18,7 +18,7 @@ from gaps import Gap
 from matrix import Matrix
 from names import WELL_KNOWN
 from numbering import Numbers
-from paths import Path, spelled
+from paths import spelled
 from questions import Difference, Grant, findings_of, grants_of, kinds_of_findings, reviewed
 from rights import NAMED, in_words
 from script import Script
@@ -61,17 +61,16 @@ class Report:
 
     def _write_data(self, file: BinaryIO, source: str) -> None:
         """The nodes come first, each as it is made, and then what they name by numbers."""
-        numbers = {path: number for number, path in enumerate(sorted(self.script.nodes))}
-        for number, node in enumerate(self._nodes(list(numbers))):
+        for number, node in enumerate(self._nodes()):
             file.write((b"," if number else b'{"nodes":[') + _inside(node))
-        file.write(b"]," + _inside(self._others(numbers, source))[1:])
+        file.write(b"]," + _inside(self._others(source))[1:])
 
-    def _others(self, numbers: dict[Path, int], source: str) -> dict[str, Any]:
+    def _others(self, source: str) -> dict[str, Any]:
         folders = sum(node.is_container for node in self.script.nodes.values())
-        counts = {"folder": folders, "file": len(numbers) - folders}
+        counts = {"folder": folders, "file": len(self.script.nodes) - folders}
         said = [plural(count, what) for what, count in counts.items()]
         about = self.script.covered(())
-        changes = self._changes(numbers)
+        changes = self._changes()
         data: dict[str, Any] = {
             "made": f"Made {_now()} of {safe(source)}",
             "named": bool(self.names),
@@ -80,20 +79,26 @@ class Report:
             "accesses": list(self._accesses.numbers),
             "changed": len(self.script.changes()),
             "changes": changes,
-            "gaps": [_gap(gap, numbers) for gap in about.gaps if gap.what != "files"],
+            "gaps": [self._gap(gap) for gap in about.gaps if gap.what != "files"],
             "sids": self._named(),
         }
         if self.matrix is not None:
-            data["people"] = self.matrix.page(numbers)
+            data["people"] = self.matrix.page()
         return data
 
-    def _nodes(self, paths: list[Path]) -> Iterator[list[Any]]:
-        texts = list(map(self.script.descriptor, paths))
+    def _gap(self, gap: Gap) -> list[Any]:
+        """The number of its node, or -1 if the script has none, its path, and what there is to say of it. Files without
+        a line are a mark of their folder."""
+        number = self.script.number_of(gap.path) if gap.path in self.script.nodes else -1
+        return [number, spelled(gap.path), gap.text]
+
+    def _nodes(self) -> Iterator[list[Any]]:
+        texts = list(dict.fromkeys(text for _, text in self.script.described(())))
         findings = _findings(texts)
         grants = [grants_of(texts, rights) for rights in _ASKED]
         differing = {gap.path: gap.why for gap in self.script.gaps if gap.what == "differs"}
         known: dict[str, tuple[int, int, int, int]] = {}
-        for path, text in zip(paths, texts):
+        for path, text in self.script.described(()):
             if text not in known:
                 known[text] = self._numbered(text, [each[text] for each in grants], findings[text])
             *shown, access = known[text]
@@ -117,9 +122,10 @@ class Report:
         """The number of a SID, or a word such as "everyone"."""
         return self._sid(text) if text.startswith("S-1-") else text
 
-    def _changes(self, numbers: dict[Path, int]) -> list[list[Any]]:
+    def _changes(self) -> list[list[Any]]:
         """For each node on which somebody gains or loses rights its number, and each difference."""
-        return [[numbers[path], list(map(self._difference, found))] for path, found in reviewed(self.script, [])]
+        found = reviewed(self.script, [])
+        return [[self.script.number_of(path), list(map(self._difference, each))] for path, each in found]
 
     def _difference(self, difference: Difference) -> list[Any]:
         words = [word.partition("=") for word in difference.by.split(" ")]
@@ -181,12 +187,6 @@ def _now() -> str:
     """The time, or that of SOURCE_DATE_EPOCH, by which what is made twice has the same bytes."""
     seconds = os.environ.get("SOURCE_DATE_EPOCH", "")
     return time.strftime("%Y-%m-%d %H:%M UTC", time.gmtime(int(seconds) if seconds.isdecimal() else None))
-
-
-def _gap(gap: Gap, numbers: dict[Path, int]) -> list[Any]:
-    """The number of its node, or -1 if the script has none, its path, and what there is to say of it. Files without a
-    line are a mark of their folder."""
-    return [numbers.get(gap.path, -1), spelled(gap.path), gap.text]
 
 
 def _applies(entry: Entry) -> str:

@@ -1,7 +1,8 @@
 """A script that `estate read` wrote, with changes after it: its lines, and the trees before and after the changes."""
 
+from bisect import bisect_left
 from collections.abc import Callable, Iterator
-from dataclasses import dataclass, field
+from dataclasses import dataclass, field, replace
 from functools import lru_cache
 from sys import intern
 
@@ -15,6 +16,8 @@ from others import FOR_CHILDREN, INHERITED, others_of, whole_of
 from paths import Path, parsed, spelled
 from sddl import parts_of
 
+#: So many texts are kept with what they say: most nodes have one that another node of their folder has.
+_KEPT = 4096
 #: Commands that change no descriptor.
 _QUESTIONS = {"tell", "learn", "check", "why", "show", "list", "dump", "who", "find", "delete", "review"}
 #: Commands that read a node, and whether it is a container.
@@ -23,9 +26,10 @@ _STORED = {"addc": True, "addo": False}
 _OF_FILES = {"open", "import", "addc", "addo", "remove", "move"}
 
 
-@dataclass(slots=True)
+@dataclass(frozen=True, slots=True)
 class Node:
-    """A node that the script opens, imports or adds: what its line says of it."""
+    """A node that the script opens, imports or adds: what its line says of it. Nodes of which it says the same share
+    one."""
 
     is_container: bool
     #: The descriptor of the source, in canonical SDDL; of the root what opens the tree.
@@ -78,6 +82,9 @@ class Script:
     _folders: dict[str, Path] = field(default_factory=dict)
     #: Once they are asked for, after the last line.
     _changes: list[Change] | None = None
+    #: The paths in their order, and the descriptor of each after the changes, once it was asked for.
+    _paths: list[Path] = field(default_factory=list)
+    _texts: list[str] = field(default_factory=list)
     _store: Store | None = None
     _before: View | None = None
     _after: View | None = None
@@ -103,6 +110,22 @@ class Script:
     def descriptor(self, path: Path) -> str:
         """The node's descriptor in the tree after the changes, in canonical SDDL: equal ones are one text."""
         return intern(str(self.after.descriptor(plain(path))))
+
+    def number_of(self, path: Path) -> int:
+        """How many nodes are before the path in the order of the paths."""
+        if not self._paths:
+            self._paths = sorted(self.nodes)
+            self._texts = [""] * len(self._paths)
+        return bisect_left(self._paths, path)
+
+    def described(self, top: Path) -> Iterator[tuple[Path, str]]:
+        """The nodes at and below a path in the order of the paths, each with its descriptor."""
+        for number in range(self.number_of(top), len(self._paths)):
+            path = self._paths[number]
+            if path[: len(top)] != top:
+                return
+            text = self._texts[number] = self._texts[number] or self.descriptor(path)
+            yield path, text
 
     def changes(self) -> list[Change]:
         """The nodes that change, in the order of the paths."""
@@ -154,14 +177,6 @@ class Script:
 
         return list(filter(is_reached, self.gaps_below(top)))
 
-    def remade(self) -> Iterator[str]:
-        """The lines of a script that makes the tree after the changes."""
-        for made in self.after.nodes():
-            path = tuple(filter(None, made.path.encode().split(b"/")))
-            command = f"{'addc' if made.is_container else 'addo'} {spelled(path)}" if path else "open 1"
-            yield f"{command} {given_to(made).words}"
-        yield "publish"
-
     # Lines
 
     def read_line(self, line: str) -> None:
@@ -190,11 +205,12 @@ class Script:
             self._gap_count = count
         if gap is not None:
             self.gaps.append(gap)
-            if gap.what == "files" and gap.path in self.nodes:
-                self.nodes[gap.path].left_out = gap.count
-            if gap.whole and gap.path in self.nodes:
+            node = self.nodes.get(gap.path)
+            if node is not None and gap.what == "files":
+                self.nodes[gap.path] = replace(node, left_out=gap.count)
+            if node is not None and gap.whole:
                 whole_of(gap.whole)
-                self.nodes[gap.path].whole = gap.whole
+                self.nodes[gap.path] = replace(node, whole=gap.whole)
 
     def _open(self, command: str, words: list[str]) -> None:
         if command != "open" or len(words) != 2:
@@ -222,7 +238,7 @@ class Script:
         assert self._store is not None
         path = self._path_of(path_text)
         add(self._store, plain(path), given, is_container)
-        self.nodes[path] = Node(is_container, text)
+        self.nodes[path] = _node(is_container, text)
         if is_container:
             self._folders[path_text] = path
 
@@ -278,7 +294,12 @@ class Script:
             raise ValueError(f"{spelled(change.path)}: it would inherit entries of other types, and no write adds some")
 
 
-@lru_cache(65_536)
+@lru_cache(_KEPT)
+def _node(is_container: bool, text: str) -> Node:
+    return Node(is_container, text)
+
+
+@lru_cache(_KEPT)
 def _imported(text: str) -> tuple[Given, str]:
     """What an import of a descriptor gives a node, and the descriptor in canonical SDDL: equal ones are one text."""
     canonical = intern(str(Descriptor.from_sddl(text)))

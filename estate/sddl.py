@@ -7,6 +7,8 @@ from dataclasses import dataclass
 
 _SHAPE = re.compile(r"O:([^:]*)G:([^:]*?)(?:D:(P?)(?:AR)?(?:AI)?(NO_ACCESS_CONTROL|(?:\([^()]*\))*))?")
 _ENTRY = re.compile(r"\((A|D);([A-Z]*);([^()]*)\)")
+#: So many texts are kept with their parts: most nodes have one that another node of their folder has.
+_KEPT = 4096
 
 
 @dataclass(frozen=True, slots=True)
@@ -99,7 +101,7 @@ class Parts:
         return f"{owners}D:{'P' if self.is_protected else ''}{''.join(map(str, ordered))}"
 
 
-@functools.lru_cache(maxsize=65_536)
+@functools.lru_cache(_KEPT)
 def parts_of(text: str) -> Parts:
     """The parts of a canonical text, or a ValueError if it has no owner or no group."""
     found = _SHAPE.fullmatch(text)

@@ -173,15 +173,16 @@ class Asked(Case):
         self.ask(2, f"{given}who\n", "script")
 
     def test_a_program_that_fails(self) -> None:
-        """The status is 3, and a question that needs no tree is answered."""
+        """The status is 3, and the next line is answered."""
         answers = self.ask(3, f"find / {ALICE} 0x1\nwho\n", "script", SDSTORE="/bin/false")
-        self.assertEqual(answers[0][1:], ["error\t1\tsdstore serve: 1", "end\t1\t3\tno answer"])
+        error = "error\t1\t/bin/false: 0 answers to 4: it is no sdstore of this version"
+        self.assertEqual(answers[0][1:], [error, "end\t1\t3\tno answer"])
         self.assertEqual(answers[1][-1], "end\t2\t2\tno answer")
-        # (a tree without all of its nodes isn't asked)
+        # (answers that aren't the program's are none)
         refusing = self.write("refusing", "#!/bin/sh\nwhile read -r line; do echo refused 3 Exists; done\n")
         refusing.chmod(0o755)
         answers = self.ask(3, f"find / {ALICE} 0x1\n", "script", SDSTORE=str(refusing))
-        self.assertEqual(answers[0][1], "error\t1\tsdstore serve: refused 3 Exists")
+        self.assertIn("it is no sdstore of this version", answers[0][1])
         answers = self.ask(3, f"find / {ALICE} 0x1\n", "script", SDSTORE="/none")
         self.assertEqual(answers[0][1], "error\t1\t/none: No such file or directory")
 

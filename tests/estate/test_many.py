@@ -1,9 +1,13 @@
-"""Trees of more nodes than sdstore takes by default: what it is asked then, and how many are too many."""
+"""Trees of more nodes than sdstore takes by default: what it is asked then, how many are too many, and how much memory
+a node takes."""
 
 import io
+import os
+import subprocess
+import sys
 from unittest import mock
 
-from rig import Case, needs_program
+from rig import TOOL, Case, needs_program
 from test_texts import CHILD, FILE, ROOT, csv_of
 
 import limits
@@ -17,6 +21,8 @@ from texts import Assumed, TextFile
 #: Nodes of a script, in folders of so many files.
 NODES, IN_FOLDER = 70_000, 499
 USER = "S-1-5-21-1-2-3-1001"
+#: No answer takes more bytes of memory for each node.
+BYTES = 600
 ALL = f"of {NODES:,} nodes {NODES:,} answered, none left out"
 
 
@@ -85,3 +91,20 @@ class Many(Case):
     def test_the_report(self) -> None:
         self.write("script", script_of(NODES))
         self.runs(0, "report", "script", "page", says=f"{NODES:,} nodes in page; {ALL}")
+
+    @needs_program
+    def test_memory(self) -> None:
+        for words in (["find", "script", "/", USER, "0x2"], ["lint", "script"], ["report", "script", "page"]):
+            with self.subTest(words[0]):
+                one, many = (self.most_memory(count, words) for count in (1, NODES))
+                self.assertLessEqual((many - one) / NODES, BYTES)
+
+    def most_memory(self, nodes: int, words: list[str]) -> int:
+        """The most bytes that estate has at once, for a script of so many nodes."""
+        self.write("script", script_of(nodes))
+        quiet = {"stdout": subprocess.DEVNULL, "stderr": subprocess.DEVNULL}
+        with subprocess.Popen([sys.executable, TOOL, *words], cwd=self.room, **quiet) as running:
+            _, status, used = os.wait4(running.pid, 0)
+            running.returncode = os.waitstatus_to_exitcode(status)
+        self.assertLess(running.returncode, 2)
+        return used.ru_maxrss << 10

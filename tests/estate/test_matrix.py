@@ -188,7 +188,7 @@ class AtRandom(Case):
         with read_script(str(self.write("script", script_of(tree)))) as script, People(str(accounts)) as people:
             matrix = Matrix(script, people)
             paths = sorted(script.nodes)
-            page = json.loads(json.dumps(matrix.page({path: number for number, path in enumerate(paths)})))
+            page = json.loads(json.dumps(matrix.page()))
         wanted = {path: [said(tree, path, token_of(user, pairs)) for user in users] for path in tree.nodes}
         shown = {paths[number]: words for number, words in self.shown(page)}
         for path in paths:
