@@ -91,7 +91,7 @@ def is_granted_by_share(share: str | None, asked: list[str], table: Table) -> bo
 @contextmanager
 def _asked(arguments: argparse.Namespace, table: Table) -> Iterator[Asked]:
     with read_script(arguments.script) as script, people_in(arguments.accounts) as people:
-        yield Asked(script, people, share_of(arguments.share), arguments.only_given, table)
+        yield Asked(script, people, share_of(arguments), arguments.only_given, table)
 
 
 def who(arguments: argparse.Namespace, table: Table) -> int:

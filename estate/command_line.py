@@ -161,7 +161,7 @@ def _add_who(who: argparse.ArgumentParser) -> None:
     who.add_argument("path", metavar="PATH", help="a node, as SCRIPT spells it")
     who.add_argument("mask", metavar="MASK", help="rights, as sdstore takes them: FR, 0x2")
     who.add_argument("words", metavar="ARG", nargs="*", help="groups that all users have, as sdstore who takes them")
-    who.set_defaults(share=None)
+    who.set_defaults(share=None, samba_share=None)
     _add_only_given(who)
     _add_people(who)
 
@@ -179,11 +179,13 @@ def _add_only_given(parser: argparse.ArgumentParser) -> None:
 
 
 def _add_share(parser: argparse.ArgumentParser) -> None:
-    parser.add_argument(
+    share = parser.add_mutually_exclusive_group()
+    share.add_argument(
         "--share",
         metavar="SDDL",
         help="the descriptor of the share by which the user comes: only what it grants too is granted",
     )
+    share.add_argument("--samba-share", metavar="NAME", help="the same of a share of this machine's Samba, by sharesec")
 
 
 def _add_user(parser: argparse.ArgumentParser) -> None:

@@ -195,7 +195,7 @@ def lint(arguments: argparse.Namespace, table: Table) -> int:
 def why(arguments: argparse.Namespace, table: Table) -> int:
     """Whether a node of a volume grants a user rights, by the descriptor that the disk has, and for which reasons; and
     the share."""
-    share = share_of(arguments.share)
+    share = share_of(arguments)
     with _volume(arguments.folder, arguments) as volume:
         text = questions.text_on(volume, arguments.path)
     with people_in(arguments.accounts) as people:

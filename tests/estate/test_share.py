@@ -1,6 +1,11 @@
 """Questions about a user who comes by a share: what both the share and the file grant."""
 
 import json
+import os
+import shutil
+import subprocess
+import unittest
+from unittest import mock
 
 from rig import needs_program
 from test_ask import asked
@@ -67,3 +72,49 @@ class Share(Sources):
             says = f"{mask}: --share is for rights"
             self.runs(2, "find", "--share", READ, "script", "/", ALICE, mask, says=says)
         self.runs(2, "find", "--share", READ, "script", "/", ALICE, "XX", says="XX: not a mask")
+
+
+@needs_program
+@unittest.skipUnless(shutil.which("sharesec") and shutil.which("net"), "the package samba is required")
+class OfSamba(Sources):
+    """The descriptors that Samba's own tools have written into its share_info.tdb, of shares of a file and of the
+    registry."""
+
+    def setUp(self) -> None:
+        super().setUp()
+        self.read(("C:\\s", ROOT), ("C:\\s\\open", OPEN))
+        folders = ("state directory", "private dir", "lock directory", "cache directory", "pid directory")
+        lines = "".join(f"  {folder} = {self.room}\n" for folder in folders)
+        lines += f"  server role = standalone server\n  registry shares = yes\n[pay]\n  path = {self.room}\n"
+        text = f"[global]\n{lines}"
+        found = mock.patch.dict(os.environ, SMB_CONF_PATH=str(self.write("smb.conf", text)))
+        found.start()
+        self.addCleanup(found.stop)
+
+    def samba(self, *words: str) -> None:
+        subprocess.run(words, check=True, capture_output=True)
+
+    def find(self, status: int, name: str, says: str) -> list[str]:
+        words = ("find", "--samba-share", name, "script", "/", ALICE, "0x2", STAFF)
+        return [row for row in self.runs(status, *words, says=says)[1:] if row.startswith(("share\tgranted", "found"))]
+
+    def test_what_it_grants(self) -> None:
+        """As it is made it grants everything; a list for reading alone takes away what the files grant."""
+        self.samba("net", "conf", "addshare", "kept", str(self.room))
+        for name in ("pay", "kept", "PAY"):
+            with self.subTest(name):
+                self.samba("sharesec", "-S", "D:(A;;FA;;;WD)", "--", name)
+                self.assertEqual(self.find(0, name, "1 node")[-1], "found\t/open")
+                self.samba("sharesec", "-S", f"O:BAG:BA{CHANGE}", "--", name)
+                self.assertEqual(self.find(0, name, "1 node")[-1], "found\t/open")
+                self.samba("sharesec", "-S", f"O:BAG:BA{READ}", "--", name)
+                self.assertEqual(self.find(0, name, "0 nodes"), [])
+                self.samba("sharesec", "-S", f"O:BAG:BAD:(D;;CCDC;;;{STAFF})(A;;0x1f01ff;;;WD)", "--", name)
+                self.assertEqual(self.find(0, name, "0 nodes"), [])
+
+    def test_what_is_none(self) -> None:
+        self.find(3, "none", "sharesec: Invalid sharename: none")
+        both = ("find", "--samba-share", "pay", "--share", READ, "script", "/", ALICE, "0x2")
+        self.runs(2, *both, says="not allowed with")
+        with mock.patch.dict(os.environ, PATH="/none"):
+            self.find(3, "pay", "sharesec: No such file or directory: Samba's package has it")
