@@ -15,6 +15,7 @@ import apart
 from answers import Answer, Result, Reviewed, Text
 from deadline import Deadline
 from errors import Fault
+from reach import is_within
 from spelling import all_spelled, fault_of, path_of, spelled
 from tree import Mapping, dumped
 
@@ -88,10 +89,6 @@ class Found(NamedTuple):
         return self.paths
 
 
-def _is_within(top: str, path: str) -> bool:
-    return top == "/" or path == top or path.startswith(top + "/")
-
-
 def dump(view: View, deadline: Deadline) -> Iterator[Answer]:
     with view:
         yield from map(Text, deadline.paced(dumped(view), _NODES_AT_ONCE))
@@ -104,7 +101,7 @@ def listed(view: View, top: str, deadline: Deadline) -> Iterator[Answer]:
     with view:
         _required(view, top)
         for node in deadline.paced(view.nodes(), _NODES_AT_ONCE):
-            if _is_within(top, node.path):
+            if is_within(top, node.path):
                 kind = "container" if node.is_container else "object"
                 yield Node(kind, node.path, printed(view.descriptor(node.path)))
 
@@ -119,7 +116,7 @@ def found(
         yield Result("found", seen=seen)
         for paths in deadline.parts(view, min(_AT_ONCE, _checks_at_once(words))):
             if top != "/":
-                paths = [path for path in paths if _is_within(top, path)]
+                paths = [path for path in paths if is_within(top, path)]
             verdicts = view.check_all(paths, token, asked)
             # (to ask a verdict whether it is true takes longer)
             granting = [
@@ -183,7 +180,7 @@ def _changes_of(comparison: Comparison) -> _Changes:
 
 
 @dataclass(frozen=True, slots=True)
-class Pending:
+class Reviewing:
     """A store at one moment: its published tree, the one with all pending edits, and how many edits made each."""
 
     old: View
@@ -193,9 +190,11 @@ class Pending:
 
 
 def reviewed(
-    pending: Pending, lines: Iterable[str], top: str, mapping: Mapping, deadline: Deadline
+    pending: Reviewing, lines: Iterable[str], top: str, may_see: Callable[[str], bool], mapping: Mapping,
+    deadline: Deadline,
 ) -> Iterator[Answer]:
-    """What the pending edits, of these lines, change at and below the path. Fault: no node is there, and none was."""
+    """What the pending edits, of these lines, change at and below the path: what comes from where the client may not
+    see it is new. Fault: no node is there, and none was."""
     old, new = pending.old, pending.new
 
     @functools.lru_cache(_KEPT)
@@ -211,11 +210,13 @@ def reviewed(
             raise Fault(Result("nonode"))
         origins = _Origins(deadline.paced(was, _AT_ONCE), deadline.paced(lines, _AT_ONCE))
         for path in deadline.paced(now, _NODES_AT_ONCE):
-            if _is_within(top, path):
+            if is_within(top, path):
                 before = path if path in stood else origins.of(path)
+                if before is not None and not may_see(before):
+                    before = None
                 for line in _changes(old, new, before, path, compared):
                     yield Text(line)
-        yield from (Text(f"gone {spelled(path)}") for path in was if path not in stands and _is_within(top, path))
+        yield from (Text(f"gone {spelled(path)}") for path in was if path not in stands and is_within(top, path))
     yield Reviewed(pending.old_length, pending.new_length)
 
 

@@ -57,7 +57,8 @@ OTHER_KEY = Result("fault", "key")
 NO_ROLE = Result("fault", "role")
 #: There is no reader of this number; so much isn't published.
 NO_READER, NO_NOTICE = Result("noreader"), Result("nonotice")
-NO_MEMORY = Result("unavailable", "memory")
+#: There is no memory; it would have no record in the log.
+NO_MEMORY, NO_RECORD = Result("unavailable", "memory"), Result("unavailable", "log")
 
 #: The kinds of verdicts.
 VERDICTS = ("granted", "denied", "reserved", "empty", "nonode")

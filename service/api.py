@@ -11,7 +11,7 @@ from typing import Any
 
 import api_edits
 from analysis import Found
-from answers import NO_NOTICE, Answer, Result, Reviewed
+from answers import NO_NOTICE, NO_ROLE, Answer, Result, Reviewed
 from api_request import Request, Response, fault_response, state_of
 from errors import Fault
 from json_request import Given
@@ -37,11 +37,12 @@ def route(request: Request, method: str, target: str, fields: dict[str, str], bo
     else:
         role, work = methods[method]
         try:
-            if role == "edit" and not request.caller.may(role):
+            if role == "edit" and not request.caller.may_somewhere(role):
                 refused = f"{method} {path}"
-                request.service.refuse(refused, request.caller, lambda task: request.reply(fault_response(task.answer)))
+                request.service.edits.refuse(refused, request.caller, lambda task: request.reply(fault_response(task.answer)))
                 return
-            request.caller.require(role)
+            if not request.caller.may_somewhere(role):
+                raise Fault(NO_ROLE)
             kind = fields.get("content-type", "")
             work(replace(request, given=Given.of_body(kind, body)) if method == "POST" else request)
         except Fault as fault:
@@ -209,7 +210,8 @@ def _review(request: Request) -> None:
 
 def _status(request: Request) -> None:
     shown = request.service.shown
-    place = {"line": shown.place.number, "chain": shown.place.chain.hex()}
+    chain = shown.place.chain.hex() if request.caller.may("check") else ""
+    place = {"line": shown.place.number, "chain": chain}
     request.reply(Response(HTTPStatus.OK, {**state_of(request), **place, "takes_edits": request.service.takes_edits}))
 
 

@@ -3,7 +3,7 @@
 from collections.abc import Sequence
 from http import HTTPStatus
 
-from answers import OTHER_KEY, UNANSWERED
+from answers import NO_ROLE, OTHER_KEY, UNANSWERED
 from api_request import Request, Response, fault_response, state_of
 from errors import Fault
 from json_request import Given
@@ -61,7 +61,7 @@ def _submit(request: Request, lines: Sequence[list[str]], only_if: int | None) -
 
     try:
         given = [[*key, *words] for key, words in zip(keys, lines)]
-        request.service.submit(given, request.caller, reply, only_if)
+        request.service.edits.submit(given, request.caller, reply, only_if)
     except Fault as fault:
         # None of them is made.
         who = request.caller.who
@@ -82,7 +82,7 @@ def _edited(request: Request, tasks: Sequence[Task]) -> Response:
     """What each edit is answered. The status says whether all are made."""
     answers = [{"answer": task.answer.line(), "line": task.number} for task in tasks]
     first = next((task.answer for task in tasks if not task.answer.is_made and task.answer != UNMADE), UNANSWERED)
-    if first in (NOT_FOR_THIS, OTHER_KEY):
+    if first in (NOT_FOR_THIS, OTHER_KEY, NO_ROLE):
         return fault_response(first)
     status = HTTPStatus.CONFLICT if first else HTTPStatus.OK
     if first.kind == "unavailable":

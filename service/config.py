@@ -5,7 +5,7 @@ import os
 import tomllib
 from dataclasses import dataclass, field, fields
 from pathlib import Path
-from typing import Any, TypeVar
+from typing import Any, NamedTuple, TypeVar
 
 from errors import Failed, Invalid
 
@@ -13,9 +13,18 @@ _T = TypeVar("_T")
 
 #: What a client may do: each role includes those before it.
 ROLES = ("watch", "check", "follow", "edit")
+#: Those that may be for a path: the others are about the whole store.
+_ROLES_BELOW = ("check", "edit")
 PROTOCOLS = ("lines", "http")
 #: The most bytes of a Unix socket's path, of which the system has an array with a zero at its end.
 _SOCKET_BYTES = 107
+
+
+class Grant(NamedTuple):
+    """A role, and the path at and below which it counts."""
+
+    role: str
+    below: str = "/"
 
 
 @dataclass(frozen=True)
@@ -63,7 +72,7 @@ class Listen:
     key: str = ""
     clients: str = ""
     #: Roles by `uid:N` and `gid:N` of a Unix socket, and `cn:NAME` of certificates.
-    allow: dict[str, str] = field(default_factory=dict)
+    allow: dict[str, tuple[Grant, ...]] = field(default_factory=dict)
 
     @property
     def name(self) -> str:
@@ -223,17 +232,37 @@ def _address(text: str) -> tuple[str, int]:
     return host, int(port)
 
 
-def _allow(given: dict[str, Any], is_unix: bool) -> dict[str, str]:
-    allow: dict[str, str] = _typed(given, "allow", dict, {})
-    for who, role in allow.items():
+def _allow(given: dict[str, Any], is_unix: bool) -> dict[str, tuple[Grant, ...]]:
+    allow: dict[str, Any] = _typed(given, "allow", dict, {})
+    for who in allow:
         kind, _, name = who.partition(":")
         is_number = name.isascii() and name.isdigit() and name == str(int(name))
         is_known = kind in ("uid", "gid") and is_number if is_unix else kind == "cn" and name.isprintable() and name
         if not is_known:
             raise ValueError(f"listen: allow: {who!a} is neither uid:N nor gid:N of a Unix socket, nor cn:NAME of TCP")
-        if role not in ROLES:
-            raise ValueError(f"listen: allow: the role {role!a} is none of {', '.join(ROLES)}")
-    return allow
+    return {who: _grants(who, given) for who, given in allow.items()}
+
+
+def _grants(who: str, given: object) -> tuple[Grant, ...]:
+    """A role, or a role below a path, or a list of these."""
+    many = given if isinstance(given, list) else [given]
+    if not many:
+        raise ValueError(f"listen: allow: {who!a} has no role")
+    return tuple(map(_grant, many))
+
+
+def _grant(given: object) -> Grant:
+    values = given if isinstance(given, dict) else {"role": given}
+    _know(values, {"role", "below"}, "listen: allow: ")
+    grant = Grant(_typed(values, "role", str), _typed(values, "below", str, "/"))
+    if grant.role not in ROLES:
+        raise ValueError(f"listen: allow: the role {grant.role!a} is none of {', '.join(ROLES)}")
+    if grant.below != "/":
+        if grant.role not in _ROLES_BELOW:
+            raise ValueError(f"listen: allow: the role {grant.role!a} is for the whole store")
+        if grant.below[:1] != "/" or "" in grant.below[1:].split("/"):
+            raise ValueError(f"listen: allow: below: {grant.below!a} is no path")
+    return grant
 
 
 def _typed(given: dict[str, Any], name: str, kind: type[_T], default: _T | None = None) -> _T:

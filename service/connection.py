@@ -9,7 +9,7 @@ import time
 from collections.abc import Coroutine, Sequence
 from typing import Any, Protocol, cast
 
-from caller import Caller
+from caller import Caller, watcher
 from service import Service
 
 #: The bytes of a long answer that a client has to take in the time of a request.
@@ -42,7 +42,7 @@ class Connection(asyncio.BufferedProtocol):
     def __init__(self, service: Service, place: Place) -> None:
         self.service = service
         self._place = place
-        self.caller = Caller("", "watch")
+        self.caller = watcher("")
         #: What was received and isn't answered, as it came: apart it would take many times as much.
         self._buffer = bytearray()
         #: The requests in progress, edits or long answers.
@@ -95,9 +95,9 @@ class Connection(asyncio.BufferedProtocol):
         before = self.caller
         try:
             self.caller = self._place.caller(self.transport)
-            is_allowed = self._long is None or self.caller.may(before.role)
+            is_allowed = self._long is None or self.caller.may_all_of(before)
         except OSError as error:
-            self.caller, is_allowed = Caller(str(error), "watch"), False
+            self.caller, is_allowed = watcher(str(error)), False
         if not is_allowed:
             self.reject("not allowed")
 

@@ -86,7 +86,7 @@ class LineConnection(Connection):
             self.send(f"{tag}{task.answer.line()}\n".encode())
             self.finished()
 
-        self.service.submit([words], self.caller, reply)
+        self.service.edits.submit([words], self.caller, reply)
         self.in_progress += 1
         return True
 

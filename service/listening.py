@@ -15,9 +15,9 @@ import time
 from collections import Counter
 from dataclasses import dataclass
 
-from caller import Caller
+from caller import Caller, watcher
 from certificates import Certificates, name_and_end
-from config import ROLES, Listen
+from config import Listen
 from connection import Connection
 from errors import Failed
 from http_connection import HttpConnection
@@ -137,17 +137,17 @@ class Listener:
     def caller(self, transport: asyncio.BaseTransport) -> Caller:
         """Who the client is. PermissionError: it isn't in the list."""
         if self.listen.is_plain:
-            return Caller("loopback", "watch")
+            return watcher("loopback")
         if self._certificates:
             name, until = name_and_end(transport)
             return self._allowed([name], until)
         return self._allowed(_peer_names(transport), math.inf)
 
     def _allowed(self, names: list[str], until: float) -> Caller:
-        roles = [self.listen.allow[name] for name in names if name in self.listen.allow]
-        if not roles:
+        grants = tuple(each for name in names for each in self.listen.allow.get(name, ()))
+        if not grants:
             raise PermissionError(f"not allowed: {' '.join(names[:4])}")
-        return Caller(names[0], max(roles, key=ROLES.index), until)
+        return Caller(names[0], grants, until)
 
     def tick(self) -> None:
         now = time.monotonic()

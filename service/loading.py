@@ -1,8 +1,10 @@
 """What a start reads: the newest snapshot and the lines after it, each of which must be the one that was acknowledged.
 Nothing is served after a Mismatch."""
 
+import sys
 from collections.abc import Callable, Iterator, Sequence
-from dataclasses import dataclass
+from dataclasses import dataclass, field
+from typing import NamedTuple
 
 from hudarin import View
 
@@ -11,6 +13,13 @@ from entry import Line, Place, Snapshot
 from errors import Mismatch
 from journal import Journal
 from tree import Tree, built, dumped, first_difference, refused
+
+
+class Pending(NamedTuple):
+    """An edit that isn't published yet: whose it is, and its line."""
+
+    who: str
+    line: str
 
 
 @dataclass
@@ -26,6 +35,8 @@ class Loaded:
     since: int
     #: When the last line was accepted, in milliseconds since 1970; 0 if no line is kept.
     time: int = 0
+    #: The edits that aren't published yet, in their order. A publish makes it another list.
+    pending: list[Pending] = field(default_factory=list)
 
     def replay(self, line: Line, chain: bytes, drop: Callable[[View], None] = View.close) -> None:
         """Carries out the next line; `drop` takes the view that a publish replaces. Mismatch: it is refused, or
@@ -33,9 +44,10 @@ class Loaded:
         place, refusal, length = Place(line.number, chain), None, 0
         if line.line == PUBLISH:
             drop(self.tree.publish())
-            self.published, length = place, self.tree.length
+            self.published, length, self.pending = place, self.tree.length, []
         else:
             refusal = refused(self.tree, line.line.split(" "))
+            self.pending.append(Pending(sys.intern(line.who), line.line))
         if refusal is not None:
             raise Mismatch(f"line {line.number}: it was accepted, and is refused: {refusal}")
         if length != line.length:
@@ -48,7 +60,7 @@ class Moment:
 
     def __init__(self, state: Loaded) -> None:
         tree = state.tree
-        self._state = dict(vars(state))
+        self._state, self._count = dict(vars(state)), len(state.pending)
         self._view, self._length, self._pending = tree.view, tree.length, tree.pending_view()
 
     def __enter__(self) -> "Moment":
@@ -65,6 +77,7 @@ class Moment:
             tree.view.close()
         tree.view, tree.length = self._view, self._length
         vars(state).update(self._state)
+        del state.pending[self._count :]
 
     def close(self) -> None:
         self._pending.close()

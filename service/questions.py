@@ -13,6 +13,7 @@ from analysis import checked, descriptor_in
 from answers import Checked, CheckedAll, Described, Explained, Result
 from deadline import Deadline
 from edits import require_paths
+from entry import Place
 from errors import Fault
 from shown import Shown
 from spelling import fault_of, sid_of
@@ -188,6 +189,11 @@ class Questions:
     def gauges(self) -> dict[str, float]:
         accounts = self.tokens.accounts
         return {} if accounts is None else {"accounts_age_seconds": accounts.age}
+
+    def unchained(self) -> "Questions":
+        """The same, without the chain of what is published."""
+        shown = self.shown._replace(place=Place(self.shown.place.number, b""))
+        return Questions(shown, self.store, self.mapping)
 
     def beside(self, deadline: Deadline) -> "Questions":
         """The same, by a view of its own that is closed by itself: for a thread, up to the deadline."""

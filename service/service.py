@@ -17,39 +17,34 @@ import clock
 import leading
 import script
 from accounts import Accounts
-from answers import NO_MEMORY, NO_ROLE, Answer, Checked, CheckedAll, Result, Text, kind_of
+from answers import NO_MEMORY, NO_RECORD, Answer, Checked, CheckedAll, Result, Text, kind_of
 from caller import Caller
 from config import Config
 from deadline import Deadline
-from edits import PUBLISH, edit_of
+from edits_in_progress import EditsInProgress
 from errors import Fault, Mismatch, ServiceError
 from following import Following, feed_of, stream_of
 from held import Held
 from journal import Journal
 from loading import Loaded
-from logs import Log, in_json
-from long_answers import BUSY, STOPPING, LongAnswers, Work
+from logs import Log
+from long_answers import LongAnswers, Work
 from metrics import Metrics, seconds_since
 from questions import Questions
 from rarely import Rarely
 from shown import Shown
 from slots import Slots
-from task import UNMADE, Task
 from tree import MAPPINGS
 from turn import Turn
-from writer import NO_LEADER, UNAVAILABLE, Writer
+from writer import UNAVAILABLE, Writer
 
-#: The answer to a question that raised what nothing expects, and to what has no record in the log.
-FAILED, NO_RECORD = Result("unavailable", "failed"), Result("unavailable", "log")
+#: The answer to a question that raised what nothing expects.
+FAILED = Result("unavailable", "failed")
 #: What makes the bytes of an answer of its lines, by what was published then; and what learns how many there are.
 Form = Callable[[Shown, Iterator[Answer]], Iterable[bytes]]
 Hold = Callable[[int], None]
-#: Of an edit of a client that may not edit the log has so many characters.
-_REFUSED_LENGTH = 1_000
 #: The answers to checks. One that is answered so is logged where denials are.
 _CHECKS, _DENIALS = (Checked, CheckedAll), ("denied", "reserved")
-#: The most characters of all edits in progress.
-_EDIT_LENGTH = 1 << 26
 #: A warning is in the log after so many seconds, or isn't waited for.
 _WARNING_SECONDS = 1.0
 
@@ -64,8 +59,9 @@ class Service:
         self._journal = journal
         source, name = config.source, f"{socket.gethostname()} {secrets.token_hex(8)}"
         feed = None if source is None else feed_of(source, name, journal.store)
+        self.edits = EditsInProgress(config.limits, log, self.metrics)
         self._writer = Writer(
-            journal, state, self._done, Rarely(self._warn), config.limits.lines_in_epoch,
+            journal, state, self.edits.done, Rarely(self._warn), config.limits.lines_in_epoch,
             leads=source is None,
             fresh_until=math.inf if source is None else -math.inf,
             stream=stream_of(source, name) if source is not None and source.stream else None,
@@ -74,11 +70,8 @@ class Service:
         self._long_answers = LongAnswers(config.limits.long_answers, config.limits.long_seconds)
         self.slots, self.held = Slots(config.limits), Held(config.limits.held_bytes)
         self._turns: weakref.WeakValueDictionary[str, Turn] = weakref.WeakValueDictionary()
-        #: The edits in progress, their characters, and those that the writer gets once this round of the loop is over.
-        self._edits, self._edit_length, self._gathered = 0, 0, list[Task]()
-        #: The commits so far, and those that readers see.
-        self._commits = self._shown_commits = 0
         self.is_stopping = False
+        self.edits.start(self._writer, self.questions)
         self._writer.start()
         self._following = None
         if source is not None and feed is not None:
@@ -117,12 +110,14 @@ class Service:
     def answer(self, words: Sequence[str], caller: Caller, reader: script.Reader) -> Answer:
         """The answer to a question that doesn't take long. Fault: there is none."""
         began = time.perf_counter()
-        caller.require("check")
+        caller.require_for("check", words)
         # (to ask whether a replica is late takes longer than to see that a leader never is)
         if self.questions.shown.fresh_until != math.inf:
             self.require_fresh()
         try:
-            said = script.answer(words, self.questions, reader)
+            # (by a digest of all lines somebody could test guesses of other paths)
+            hides = words[0] == "status" and not caller.may("check")
+            said = script.answer(words, self.questions.unchained() if hides else self.questions, reader)
         except MemoryError:
             raise Fault(NO_MEMORY) from None
         if not self._is_counted(words, said, caller, began):
@@ -139,7 +134,7 @@ class Service:
 
     def takes_long(self, words: Sequence[str], caller: Caller) -> bool:
         """Whether a question that isn't about many nodes is answered by `long_checks`."""
-        return caller.may("check") and script.takes_long(words, self.questions)
+        return caller.may_somewhere("check") and script.takes_long(words, self.questions)
 
     async def long_answer(
         self, words: Sequence[str], caller: Caller, reader: script.Reader, form: Form, hold: Hold
@@ -151,7 +146,7 @@ class Service:
             # (replicas that are the same client don't wait for one another)
             who, kind, most = f"{caller.who} {id(reader)}", "follow", self.limits.held_bytes
         else:
-            self._require_reads(caller)
+            self._require_reads(caller, words)
             who, kind, most = caller.who, "edit" if caller.role == "edit" else "check", analysis.ANSWER_BYTES
 
         async def prepare(deadline: Deadline) -> Work:
@@ -165,11 +160,11 @@ class Service:
     ) -> tuple[Shown, list[Answer]]:
         """The answers to questions that take long, though they aren't about many nodes: all as of one moment, and what
         was published then. Fault: there is none."""
-        self._require_reads(caller)
+        self._require_reads(caller, *lines)
         began, found = time.perf_counter(), list[tuple[Questions, list[Answer]]]()
 
         async def prepare(deadline: Deadline) -> Work:
-            self._require_reads(caller)
+            self._require_reads(caller, *lines)
             return functools.partial(_answer_beside, lines, self.questions.beside(deadline), reader, found)
 
         await self._made("edit" if caller.role == "edit" else "check", caller.who, prepare, hold)
@@ -203,143 +198,29 @@ class Service:
             self.require_fresh()
             age = 0.0 if self._following is None else self._following.age(self.shown.fresh_until)
             return map(Text, leading.answer(self._journal.file, words, age))
-        self._require_reads(caller)
+        self._require_reads(caller, words)
         if words[0] == script.REVIEW:
-            return await self._review(words, deadline)
+            return await self._review(words, caller, deadline)
         return _lines_beside(words, self.questions.beside(deadline), reader, deadline)
 
-    async def _review(self, words: Sequence[str], deadline: Deadline) -> Iterator[Answer]:
+    async def _review(self, words: Sequence[str], caller: Caller, deadline: Deadline) -> Iterator[Answer]:
         path = script.reviewed_path(words, self.questions)
         pending, between = await asyncio.wrap_future(self._writer.look())
         lines = leading.made_between(self._journal.file, *between)
-        return analysis.reviewed(pending, lines, path, self.questions.mapping, deadline)
+        return analysis.reviewed(
+            pending, lines, path, lambda path: caller.may("check", (path,)), self.questions.mapping, deadline
+        )
 
-    def _require_reads(self, caller: Caller) -> None:
-        """Fault: the client may not ask, or a replica knows too little."""
-        caller.require("check")
+    def _require_reads(self, caller: Caller, *lines: Sequence[str]) -> None:
+        """Fault: the client may not ask so, or a replica knows too little."""
+        for words in lines:
+            caller.require_for("check", words)
         self.require_fresh()
 
     def require_fresh(self) -> None:
         """Fault: a replica, which doesn't know enough of its leader."""
         if clock.now() > self.shown.fresh_until:
             raise Fault(Result("unavailable", "behind"))
-
-    def submit(
-        self, lines: Sequence[list[str]], caller: Caller, reply: Callable[[Task], None], only_if: int | None = None
-    ) -> None:
-        """Has the writer make an edit or publish, or several, all or none and only if so many edits are published; and
-        calls `reply` once that is answered. Fault: nothing is carried out, and there is no reply."""
-        if not caller.may("edit"):
-            self.refuse(" ".join(lines[0]), caller, reply)
-            return
-        if len(lines) == 1 and only_if is None:
-            task = self._task(lines[0], caller, reply)
-            if task.answer:
-                raise Fault(task.answer)
-        else:
-            parts = [self._task(words, caller, reply) for words in lines]
-            task = Task(None, "", "", caller.who, reply, parts=parts, only_if=only_if)
-            if any(part.answer for part in parts):
-                task.settle(UNMADE)
-                reply(task)
-                return
-        is_alone = not self._edits
-        self._begin(task)
-        self._gathered.append(task)
-        if is_alone:
-            self._hand_over()
-        elif len(self._gathered) == 1:
-            self._loop.call_soon(self._hand_over)
-
-    def _hand_over(self) -> None:
-        """The writer gets the edits of a round of the loop at once: one by one, the two would take turns at each."""
-        for task in self._gathered:
-            self._writer.put(task)
-        self._gathered.clear()
-
-    def _begin(self, task: Task) -> None:
-        """The edits are in progress. Fault: they aren't taken now."""
-        count, length = self._edits, self._edit_length
-        for each in task.parts or (task,):
-            count += 1
-            length += len(each.line)
-        if not self._writer.leads:
-            raise Fault(NO_LEADER)
-        if self.is_stopping:
-            raise Fault(STOPPING)
-        if not self.log.takes_records:
-            raise Fault(NO_RECORD)
-        if count > self.limits.edits or length > _EDIT_LENGTH:
-            raise Fault(BUSY)
-        self._edits, self._edit_length = count, length
-
-    def _task(self, words: list[str], caller: Caller, reply: Callable[[Task], None]) -> Task:
-        """An edit or publish of these words, or one that is answered by its fault."""
-        try:
-            key, words = script.without_key(words)
-            if words[0] == PUBLISH and len(words) > 1:
-                raise Fault.of("words")
-            edit = None if words[0] == PUBLISH else edit_of(words, self.shown.view)
-            return Task(edit, PUBLISH if edit is None else edit.line(), key, caller.who, reply)
-        except (Fault, MemoryError) as error:
-            return Task(None, "", "", caller.who, reply, error.answer if isinstance(error, Fault) else NO_MEMORY)
-
-    def refuse(self, asked: str, caller: Caller, reply: Callable[[Task], None]) -> None:
-        """Answers an edit of a client that may not edit: `fault role`, once its record is written. Fault: none is."""
-        if not self.log.takes_records:
-            raise Fault(NO_RECORD)
-        if self.log.left_out("edit") is None:
-            raise Fault(BUSY)
-        task = Task(None, asked[:_REFUSED_LENGTH], "", caller.who, reply, NO_ROLE)
-        self._edits += 1
-        self._edit_length += len(task.line)
-        if self._record([task], functools.partial(self._reply, [task])):
-            self._loop.call_soon(self._reply, [task], True)
-
-    def _done(self, tasks: list[Task], shown: Shown) -> None:
-        """In the writer's thread, after each commit. The audit record of each edit is written before its answer goes
-        out: without it the answer is another one."""
-        self._commits += 1
-        deliver = functools.partial(self._deliver, tasks, self._commits, shown)
-        for task in tasks:
-            if task.parts:
-                task.settle()
-        if self._record(tasks, deliver):
-            self._loop.call_soon_threadsafe(deliver, True)
-        else:
-            self._loop.call_soon_threadsafe(self._show, self._commits, shown)
-
-    def _record(self, tasks: list[Task], then: Callable[[bool], None]) -> bool:
-        """Whether the records of the edits are written; otherwise the loop calls `then` with whether they are."""
-        # (to encode the fields of a record together takes longer)
-        return self.log.records("edit", [
-            f'"who": {in_json(each.who)}, "key": {in_json(each.key)}, "line": {in_json(each.line)}, '
-            f'"answer": {in_json(each.answer.line())}, "number": {each.number}'
-            for task in tasks for each in task.parts or (task,)
-        ], functools.partial(self._loop.call_soon_threadsafe, then))
-
-    def _show(self, commits: int, shown: Shown) -> None:
-        """Readers see it from here on, unless they see what was committed later."""
-        old = self.shown
-        if commits > self._shown_commits:
-            self._shown_commits, self.questions.shown = commits, shown
-            if old.view is not shown.view:
-                self._writer.retired.append(old.view)
-
-    def _deliver(self, tasks: list[Task], commits: int, shown: Shown, is_written: bool) -> None:
-        self._show(commits, shown)
-        self._reply(tasks, is_written)
-
-    def _reply(self, tasks: list[Task], is_written: bool) -> None:
-        now = time.perf_counter()
-        for task in tasks:
-            if not is_written:
-                task.settle(NO_RECORD)
-            for each in task.parts or (task,):
-                self._edits -= 1
-                self._edit_length -= len(each.line)
-                self.metrics.count_edit(each.line == PUBLISH, each.answer, now - each.began)
-            task.reply(task)
 
     def _warn(self, text: str) -> None:
         self.log.event("warning", text=text)
@@ -354,12 +235,12 @@ class Service:
     async def stop(self) -> None:
         """Takes no more edits, and returns once those in progress are answered and the journal is at rest."""
         self.is_stopping = True
-        self._hand_over()
+        self.edits.stop()
         await self._long_answers.stop()
         if self._following is not None:
             await self._loop.run_in_executor(None, self._following.stop)
         await self._loop.run_in_executor(None, self._writer.stop)
-        while self._edits:
+        while self.edits.count:
             self.tick()
             await asyncio.sleep(0.01)
         with contextlib.suppress(sqlite3.Error):
@@ -374,7 +255,7 @@ class Service:
             "epoch": shown.epoch,
             "takes_edits": int(self.takes_edits),
             "connections": len(self.slots),
-            "edits_in_progress": self._edits,
+            "edits_in_progress": self.edits.count,
             "held_bytes": self.held.total,
             "log_waiting_bytes": self.log.waiting_bytes,
             "journal_bytes": self._journal.bytes_on_disk(),

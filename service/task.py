@@ -33,6 +33,8 @@ class Task:
     parts: Sequence["Task"] = ()
     #: The published length that they are for.
     only_if: int | None = None
+    #: Of a publish: what says of an edit's words whether the client may make it, unless it may make each.
+    may_make: Callable[[Sequence[str]], bool] | None = None
 
     @property
     def each(self) -> Sequence["Task"]:

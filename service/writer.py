@@ -17,8 +17,8 @@ from dataclasses import dataclass, field
 from hudarin import View
 
 import clock
-from analysis import Pending
-from answers import NO_MEMORY, OTHER_KEY, Result
+from analysis import Reviewing
+from answers import NO_MEMORY, NO_ROLE, OTHER_KEY, Result
 from checkpoint import Checkpoint
 from edits import Edit, is_same
 from entry import Batch, Line, Place
@@ -26,7 +26,7 @@ from epochs import Maker
 from errors import Fault, Mismatch, ServiceError
 from journal import Journal
 from leading import Lines
-from loading import Loaded, load
+from loading import Loaded, Pending, load
 from shown import Shown
 from stream import Stream
 from task import Task, make_together
@@ -42,7 +42,7 @@ ACCEPTED = Result("ok")
 UNAVAILABLE, NO_LEADER = Result("unavailable", "journal"), Result("unavailable", "replica")
 
 #: What is pending, and the numbers of the published line and of the last one.
-Look = tuple[Pending, tuple[int, int]]
+Look = tuple[Reviewing, tuple[int, int]]
 
 
 @dataclass
@@ -218,9 +218,17 @@ class Writer:
         tree = self.state.tree
         has_pending = tree.pending > 0
         if has_pending:
+            if not self._may_publish(task):
+                task.answer = NO_ROLE
+                return False
             self._drop(tree.publish())
         task.answer = Result("published", number=tree.length)
         return has_pending
+
+    def _may_publish(self, task: Task) -> bool:
+        """Whether the client may make each edit that is pending."""
+        may_make = task.may_make
+        return may_make is None or all(may_make(each.line.split(" ")) for each in self.state.pending)
 
     def _was_made(self, task: Task, batch: Batch) -> bool:
         """Whether the key's line is there: its answer is given again. Another line, or another client's, isn't made."""
@@ -245,7 +253,9 @@ class Writer:
             batch.by_key[task.key] = line
         state.last = Place(task.number, chain)
         if length:
-            state.published = state.last
+            state.published, state.pending = state.last, []
+        else:
+            state.pending.append(Pending(task.who, task.line))
 
     def _drop(self, view: View) -> None:
         """Closes a view, unless readers may use it: then they retire it."""
@@ -290,7 +300,7 @@ class Writer:
             if self.is_lost:
                 raise Fault(UNAVAILABLE)
             length = shown.length + tree.pending
-            pending = Pending(shown.view.share(), tree.pending_view(), shown.length, length)
+            pending = Reviewing(shown.view.share(), tree.pending_view(), shown.length, length)
             found.set_result((pending, (shown.place.number, shown.last.number)))
         except (Fault, MemoryError) as error:
             found.set_exception(error)

@@ -8,7 +8,7 @@ from unittest import mock
 
 import rig
 
-from analysis import Pending, found, reviewed
+from analysis import Reviewing, found, reviewed
 from client import AsyncClient, Client, Rejected
 from deadline import Deadline
 from hudarin import FILES, Descriptor, Sid, Store, Token
@@ -147,8 +147,8 @@ class Analysis(rig.Case):
             new = store.publish()
 
         def lines() -> list[str]:
-            pending = Pending(old.share(), new.share(), 50, 51)
-            return [each.line() for each in reviewed(pending, [], "/", FILES, Deadline(rig.PATIENCE, print))]
+            pending = Reviewing(old.share(), new.share(), 50, 51)
+            return [each.line() for each in reviewed(pending, [], "/", bool, FILES, Deadline(rig.PATIENCE, print))]
 
         with old, new, mock.patch.object(Descriptor, "compare", autospec=True, side_effect=Descriptor.compare) as made:
             kept, count = lines(), made.call_count

@@ -18,13 +18,13 @@ from unittest import mock
 import rig
 
 from caller import Caller
-from config import Limits
+from config import Grant, Limits
 from connection import Connection
+from edits_in_progress import EditsInProgress
 from errors import Fault
 from held import Held
 from http_connection import HttpConnection
 from line_connection import LineConnection
-from service import Service
 from slots import Slots
 from task import Task
 from turn import Turn
@@ -261,7 +261,7 @@ class MemoryTests(unittest.TestCase):
             is_closing=lambda: False, is_reading=lambda: True, get_write_buffer_size=lambda: 0,
             **dict.fromkeys(("set_write_buffer_limits", "pause_reading", "resume_reading", "write"), nothing),
         )
-        place: Any = SimpleNamespace(connections=set(), name="x", caller=lambda transport: Caller("a", "check"))
+        place: Any = SimpleNamespace(connections=set(), name="x", caller=lambda transport: Caller("a", (Grant("check"),)))
         many = [kind(service, place) for _ in range(10)]
         for each in many:
             each.connection_made(transport)
@@ -290,19 +290,19 @@ class UnitTests(unittest.TestCase):
 class EditTests(unittest.TestCase):
     def test_edits_in_progress(self) -> None:
         """Their number has a limit, and so have their characters."""
-        service: Any = SimpleNamespace(
-            _writer=SimpleNamespace(leads=True), is_stopping=False, log=SimpleNamespace(takes_records=True),
-            limits=Limits(), _edits=4_000, _edit_length=(1 << 26) - 100)
+        edits: Any = SimpleNamespace(
+            _writer=SimpleNamespace(leads=True), _is_stopping=False, _log=SimpleNamespace(takes_records=True),
+            _limits=Limits(), count=4_000, _length=(1 << 26) - 100)
         def task(count: int, length: int) -> Task:
             parts = [Task(None, "x" * (length if at == 0 else 0), "", "a", print) for at in range(count)]
             return Task(None, "", "", "a", print, parts=parts)
 
         for count, length in ((97, 100), (96, 101)):
             with self.assertRaises(Fault) as busy:
-                Service._begin(service, task(count, length))
+                EditsInProgress._begin(edits, task(count, length))
             self.assertEqual(busy.exception.answer.line(), "unavailable busy")
-        Service._begin(service, task(96, 100))
-        self.assertEqual((service._edits, service._edit_length), (4_096, 1 << 26))
+        EditsInProgress._begin(edits, task(96, 100))
+        self.assertEqual((edits.count, edits._length), (4_096, 1 << 26))
 
 
 class Limited(rig.Case):
