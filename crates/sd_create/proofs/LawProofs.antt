@@ -109,7 +109,7 @@ inherited_is Container o e =
     (kept_either (is_split e) (effective_copy o e ∷ waiting_copy e ∷ []) (whole_copy e ∷ []) (all_pass (effective_copy o e) (waiting_copy e ∷ []) (effective_is o e) waiting) whole))
     (kept_either (passes_on (flags_of e)) _ [] (kept_either (holds (flags_of e) 2) [] (waiting_copy e ∷ []) refl waiting) refl)
 
-all_inherited : (o : NewValue) (parent : List WholeAce) → filter is_inherited (inherited o parent) ≡ inherited o parent
+pub all_inherited : (o : NewValue) (parent : List WholeAce) → filter is_inherited (inherited o parent) ≡ inherited o parent
 all_inherited o [] = refl
 all_inherited o (e ∷ es) =
     filter-append is_inherited (inherited_copies o e) (inherited o es)
@@ -121,7 +121,7 @@ none_either : (b : Bool) (xs ys : List WholeAce) → filter is_inherited xs ≡ 
 none_either true xs ys h k = h
 none_either false xs ys h k = k
 
-own_not : (o : NewValue) (e : WholeAce) → is_inherited e ≡ false → filter is_inherited (own_copies o e) ≡ []
+pub own_not : (o : NewValue) (e : WholeAce) → is_inherited e ≡ false → filter is_inherited (own_copies o e) ≡ []
 own_not o e h =
     let kept = ap (λ f. holds f 4) (flags_concrete o (bit_and (flags_of e) 0xC0) e) ∙ holds-and (flags_of e) 0xC0 4 ∙ and-false (holds (flags_of e) 4) in
     let waits = ap (λ f. holds f 4) (flags_with (bit_or (flags_of e) 0x08) e) ∙ holds-or (flags_of e) 0x08 4 ∙ ap (λ x. x || false) h in
@@ -135,7 +135,7 @@ given_not : (o : NewValue) (e : WholeAce) (b : Bool) → is_inherited e ≡ b �
 given_not o e true h = refl
 given_not o e false h = own_not o e h
 
-none_given : (o : NewValue) (given : List WholeAce) → filter is_inherited (flat_map (given_copies o) given) ≡ []
+pub none_given : (o : NewValue) (given : List WholeAce) → filter is_inherited (flat_map (given_copies o) given) ≡ []
 none_given o [] = refl
 none_given o (e ∷ es) =
     filter-append is_inherited (given_copies o e) (flat_map (given_copies o) es)

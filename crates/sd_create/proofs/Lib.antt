@@ -1,1 +1,2 @@
 mod LawProofs
+mod PropagationProofs

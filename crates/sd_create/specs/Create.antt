@@ -116,14 +116,14 @@ bit_in (Some d) acl bit = is_set bit d.control && not (is_without acl)
 abbrev pub may_own : CreationValue → SidValue → Bool
 may_own c sid = asks c 0x10 || c.token.restore || list_any (λ owner. same_sid owner sid) c.token.owners
 
--- the parent's, where that has one
-abbrev pub of_parent : CreateFault → Option SidValue → Result SidValue CreateFault
-of_parent fault None = Err fault
-of_parent fault (Some sid) = Ok sid
+-- a SID that has to be there
+abbrev pub present : CreateFault → Option SidValue → Result SidValue CreateFault
+present fault None = Err fault
+present fault (Some sid) = Ok sid
 
 abbrev pub owner_by : CreationValue → Option SidValue → Result SidValue CreateFault
 owner_by c (Some sid) = if may_own c sid then Ok sid else Err Owner
-owner_by c None = if asks c 0x20 then of_parent NoOwner (owner_in c.parent) else Ok c.token.owner
+owner_by c None = if asks c 0x20 then present NoOwner (owner_in c.parent) else Ok c.token.owner
 
 -- the creator's, else the parent's by DEFAULT_OWNER_FROM_PARENT, else the token's
 abbrev pub owner_of : CreationValue → Result SidValue CreateFault
@@ -131,7 +131,7 @@ owner_of c = owner_by c (owner_in c.creator)
 
 abbrev pub group_by : CreationValue → Option SidValue → Result SidValue CreateFault
 group_by c (Some sid) = Ok sid
-group_by c None = if asks c 0x40 then of_parent NoGroup (group_in c.parent) else Ok c.token.group
+group_by c None = if asks c 0x40 then present NoGroup (group_in c.parent) else Ok c.token.group
 
 -- the creator's, else the parent's by DEFAULT_GROUP_FROM_PARENT, else the token's
 abbrev pub group_of : CreationValue → Result SidValue CreateFault

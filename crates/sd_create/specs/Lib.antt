@@ -1,4 +1,5 @@
 pub mod Entry
 pub mod Acl
 pub mod Create
+pub mod Propagation
 pub mod Laws

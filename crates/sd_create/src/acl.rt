@@ -72,14 +72,14 @@ pub(crate) fn is_without(acl: Option<&WholeAcl>) -> bool
     matches!(acl, None | Some(WholeAcl::Absent))
 }
 
-fn is_list(acl: Option<&WholeAcl>) -> bool
+pub(crate) fn is_list(acl: Option<&WholeAcl>) -> bool
     ensures { result ≡ has_entries (lent_acl acl.entry) }
 {
     matches!(acl, Some(WholeAcl::List(_)))
 }
 
 /// Whether objects or containers inherit one of the entries ([MS-DTYP] 2.5.3.4, ContainsInheritableACEs).
-fn contains_inheritable(entries: &[WholeAce]) -> bool
+pub(crate) fn contains_inheritable(entries: &[WholeAce]) -> bool
     ensures { result ≡ contains_inheritable entries.now }
 {
     entries.iter().any(is_inheritable)
@@ -94,7 +94,7 @@ fn is_inheritable(entry: &WholeAce) -> bool
 // ---- the entries
 
 /// Appends what the object inherits of the parent's entries, in order.
-fn push_all_inherited(
+pub(crate) fn push_all_inherited(
     alloc: Global,
     list: &mut Vec<WholeAce>,
     object: &NewObject<'_>,
@@ -181,7 +181,7 @@ pub(crate) fn acl_of(
 }
 
 /// The list of what the object inherits.
-fn of_parent(
+pub(crate) fn of_parent(
     alloc: Global,
     object: &NewObject<'_>,
     parent: &[WholeAce],
@@ -232,7 +232,7 @@ fn otherwise_of(
 }
 
 /// The list of these entries.
-fn listed(entries: Vec<WholeAce>) -> Result<WholeAcl, CreateError>
+pub(crate) fn listed(entries: Vec<WholeAce>) -> Result<WholeAcl, CreateError>
     ensures exact { Gives (λ acl. acl) result (acl_with (Entries entries.items)) }
     ensures fault { IfErr result (λ e. e ≡ CreateError.Fault CreateFault.TooLarge) }
 {

@@ -28,16 +28,16 @@ const GROUP_DEFAULTED: u16 = 0x0002;
 const DACL_DEFAULTED: u16 = 0x0008;
 
 /// DI: the parent's entries were inherited automatically.
-const DACL_AUTO_INHERITED: u16 = 0x0400;
+pub(crate) const DACL_AUTO_INHERITED: u16 = 0x0400;
 
 /// SI: those of the parent's SACL were.
-const SACL_AUTO_INHERITED: u16 = 0x0800;
+pub(crate) const SACL_AUTO_INHERITED: u16 = 0x0800;
 
 /// PD: the DACL inherits nothing.
-const DACL_PROTECTED: u16 = 0x1000;
+pub(crate) const DACL_PROTECTED: u16 = 0x1000;
 
 /// PS: the SACL inherits nothing.
-const SACL_PROTECTED: u16 = 0x2000;
+pub(crate) const SACL_PROTECTED: u16 = 0x2000;
 
 /// The descriptor of a new object ([MS-DTYP] 2.5.3.4, CreateSecurityDescriptor), or the first of owner, group, SACL and
 /// DACL that is refused. Each list is allocated, with the data of its entries.
@@ -133,7 +133,7 @@ fn sacl_in(descriptor: Option<&WholeDescriptor>) -> Option<&WholeAcl>
     }
 }
 
-fn entries_of(acl: Option<&WholeAcl>) -> &[WholeAce]
+pub(crate) fn entries_of(acl: Option<&WholeAcl>) -> &[WholeAce]
     ensures { result.now ≡ entries_of (lent_acl acl.entry) }
 {
     match acl {

@@ -36,7 +36,7 @@ fn stops_here(flags: AceFlags) -> bool
     flags.contains(AceFlags::NP)
 }
 
-fn was_inherited(flags: AceFlags) -> bool
+pub(crate) fn was_inherited(flags: AceFlags) -> bool
     ensures { result ≡ holds flags.0 4 }
 {
     flags.contains(AceFlags::ID)

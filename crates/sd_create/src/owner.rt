@@ -1,8 +1,8 @@
 //! The owner and the group of a new object ([MS-DTYP] 2.5.3.4.1).
 
 ghost use Rattle.std.specs.Prelude.{◌≡◌};
-ghost use Rattle.sd_create.specs.Create.{creation_of, group_in, group_of, lent_descriptor, may_own, of_parent};
-ghost use Rattle.sd_create.specs.Create.{owner_in, owner_of};
+ghost use Rattle.sd_create.specs.Create.{creation_of, group_in, group_of, lent_descriptor, may_own};
+ghost use Rattle.sd_create.specs.Create.{owner_in, owner_of, present};
 ghost use Rattle.sd_sid.specs.Sid.{same_sid};
 ghost use Rattle.std.specs.List.{list_any};
 
@@ -30,7 +30,7 @@ pub(crate) fn owner_of(creation: &Creation<'_>) -> Result<Sid, CreateFault>
                 .flags
                 .contains(AutoInherit::DEFAULT_OWNER_FROM_PARENT)
             {
-                of_parent(CreateFault::NoOwner, owner_in(creation.parent))
+                present(CreateFault::NoOwner, owner_in(creation.parent))
             } else {
                 Ok(creation.token.owner)
             }
@@ -49,7 +49,7 @@ pub(crate) fn group_of(creation: &Creation<'_>) -> Result<Sid, CreateFault>
                 .flags
                 .contains(AutoInherit::DEFAULT_GROUP_FROM_PARENT)
             {
-                of_parent(CreateFault::NoGroup, group_in(creation.parent))
+                present(CreateFault::NoGroup, group_in(creation.parent))
             } else {
                 Ok(creation.token.group)
             }
@@ -72,9 +72,9 @@ fn is_in(owners: &[Sid], sid: &Sid) -> bool
     owners.iter().any(|owner| owner.is(sid))
 }
 
-/// The parent's, where that has one.
-fn of_parent(fault: CreateFault, sid: Option<Sid>) -> Result<Sid, CreateFault>
-    ensures { result ≡ of_parent fault sid }
+/// A SID that has to be there.
+pub(crate) fn present(fault: CreateFault, sid: Option<Sid>) -> Result<Sid, CreateFault>
+    ensures { result ≡ present fault sid }
 {
     match sid {
         Some(sid) => Ok(sid),

@@ -68,3 +68,39 @@ S:(AU;OICISA;FW;;;WD)(ML;CI;NW;;;HI) | D: | container audit | O:%G:$D:S:AI(AU;OI
 S:(AU;OISA;FW;;;WD) | D:S:P(AU;FA;FR;;;BG) | object audit | O:%G:$D:S:P(AU;FA;FR;;;BG) | 0x3
 S:(AU;OISA;FW;;;WD) | D:PS:(AU;FA;FR;;;BG) | object audit | O:%G:$D:PS:AI(AU;FA;FR;;;BG)(AU;IDSA;FW;;;WD) | 0x3
 S:(AU;OISA;FW;;;WD) | D:S:(AU;FA;FR;;;BG) | object auto | O:%G:$D:S:(AU;FA;FR;;;BG) | 0x3";
+
+/// Each object whose container's descriptor changed: that; its own descriptor; its kind and classes; then its
+/// descriptor after it inherited again, or the fault. The signs are those of `ROWS`, and `^` stands for O:%G:$.
+pub(crate) const LATER: &str = "\
+what is inherited takes the place of what was, after the object's own entries, which stay in their order
+D:(A;OICI;FR;;;WD) | ^D:AI(D;;FW;;;BG)(A;ID;FR;;;BU)(A;;FA;;;%) | object | ^D:AI(D;;FW;;;BG)(A;;FA;;;%)(A;ID;FR;;;WD)
+D:(A;OICI;FR;;;WD) | ^D:AI(D;;FW;;;BG)(A;ID;FR;;;BU) | container | ^D:AI(D;;FW;;;BG)(A;OICIID;FR;;;WD)
+D:(A;OI;FR;;;WD)(D;OI;FW;;;BG)(A;CI;FA;;;BU) | ^D:(A;;FA;;;%) | object | ^D:AI(A;;FA;;;%)(A;ID;FR;;;WD)(D;ID;FW;;;BG)
+D:(A;CI;FR;;;WD) | ^D:(A;CI;GA;;;CO)(A;OIIO;GR;;;CG) | container | ^D:AI(A;CI;GA;;;CO)(A;OIIO;GR;;;CG)(A;CIID;FR;;;WD)
+what is passed down no more goes
+D:(A;;FR;;;WD) | ^D:AI(A;;FA;;;%)(A;ID;FR;;;WD) | object | ^D:AI(A;;FA;;;%)
+O:BA | ^D:AI(A;ID;FR;;;WD)S:AI(AU;IDSA;FW;;;WD) | object | ^D:AIS:AI
+D:NO_ACCESS_CONTROL | ^D:(A;ID;FR;;;WD) | object | ^D:
+CREATOR OWNER and CREATOR GROUP are the object's own
+D:(A;OICIIO;GA;;;CO) | ^D:AI(A;ID;FA;;;BA)(A;OICIIOID;GA;;;CO) | container | ^D:AI(A;ID;FA;;;%)(A;OICIIOID;GA;;;CO)
+D:(A;OI;GR;;;CG) | ^D:AI | object | ^D:AI(A;ID;FR;;;$)
+D: | G:$D: | object | NoOwner
+D: | O:%D: | object | NoGroup
+a protected list stays as it is, and so does a null one
+D:(A;OI;FR;;;WD) | ^D:PAI(A;;FA;;;%)(A;ID;FR;;;BU) | object | ^D:PAI(A;;FA;;;%)(A;ID;FR;;;BU)
+D:(A;OI;FR;;;WD) | ^D:P | object | ^D:P
+D:(A;OI;FR;;;WD) | ^D:NO_ACCESS_CONTROL | object | ^D:NO_ACCESS_CONTROL
+where there is none, it is what is inherited, as at creation
+D:(A;OI;FR;;;WD) | ^ | object | ^D:AI(A;ID;FR;;;WD)
+D:(A;CI;FR;;;WD) | ^ | object | ^D:AI
+D:(A;;FR;;;WD) | ^ | object | ^
+the SACL likewise, by its own bits
+S:(AU;OISA;FW;;;WD) | ^D:P(A;;FA;;;%) | object | ^D:P(A;;FA;;;%)S:AI(AU;IDSA;FW;;;WD)
+D:(A;OI;FR;;;WD)S:(AU;OISA;FW;;;WD) | ^D:PS:(AU;FA;FR;;;BG)(AU;IDFA;FR;;;BU) | object \
+| ^D:PS:AI(AU;FA;FR;;;BG)(AU;IDSA;FW;;;WD)
+D:(A;OI;FR;;;WD)S:(AU;OISA;FW;;;WD) | ^D:S:P(AU;IDFA;FR;;;BU) | object | ^D:AI(A;ID;FR;;;WD)S:P(AU;IDFA;FR;;;BU)
+entries for a class, and with conditions, as at creation
+D:(OA;CI;FR;;~;WD) | ^D:AI | container ~ | ^D:AI(OA;CIID;FR;;~;WD)
+D:(OA;CI;FR;;~;WD) | ^D:AI | container # | ^D:AI(OA;CIIOID;FR;;~;WD)
+D:(XA;OI;GR;;;CO;(a == 1)) | ^D:(XA;;FA;;;BU;(b == 2))(XA;ID;FA;;;BU;(c == 3)) | object \
+| ^D:AI(XA;;FA;;;BU;(b == 2))(XA;ID;FR;;;%;(a == 1))";

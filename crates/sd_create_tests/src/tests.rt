@@ -1,8 +1,8 @@
 //! What new objects get, beside the rows.
 
-use crate::rows::ROWS;
+use crate::rows::{LATER, ROWS};
 use bitflags::Flags;
-use sd_create::{AutoInherit, CreateError, Creation, CreatorToken, create};
+use sd_create::{AutoInherit, CreateError, Creation, CreatorToken, Inheritance, create, inherit};
 use sd_inheritance::NodeKind;
 use sd_sid::{GenericMapping, Sid};
 use sd_text::{Aliases, RightNames, read_sid_text};
@@ -23,6 +23,7 @@ fn spelled(alloc: Global, text: &str) -> Result<String, AllocError> {
         match c {
             '%' => out.push_str("S-1-5-21-1-2-3-1001")?,
             '$' => out.push_str("S-1-5-21-1-2-3-513")?,
+            '^' => out.push_str("O:S-1-5-21-1-2-3-1001G:S-1-5-21-1-2-3-513")?,
             '~' => out.push_str("bf967aba-0de6-11d0-a285-00aa003049e2")?,
             '#' => out.push_str("bf967a9c-0de6-11d0-a285-00aa003049e2")?,
             _ => out.push(c)?,
@@ -176,5 +177,47 @@ fn objects_get_what_the_rows_say(rt: HostRuntime) -> Result<(), Fail> {
         count = count.saturating_add(1);
     }
     assert!(rt; count == 49, "{count}");
+    Ok(())
+}
+
+/// What the row's object has after it inherited again, as the last column says it.
+fn made_later(rt: &impl Abort, alloc: Global, row: &str) -> Result<String, AllocError> {
+    let (parent, rest) = column(rt, row);
+    let (child, rest) = column(rt, rest);
+    let (words, _) = column(rt, rest);
+    let words = words_of(rt, alloc, words)?;
+    let parent = whole_of(rt, alloc, parent)?.expect(rt, "a descriptor");
+    let child = whole_of(rt, alloc, child)?.expect(rt, "a descriptor");
+    let inheritance = Inheritance {
+        parent: &parent,
+        child: &child,
+        kind: words.kind,
+        types: &words.types,
+        mapping: &GenericMapping::file(),
+    };
+    match inherit(alloc, &inheritance) {
+        Ok(after) => Ok(print_whole(alloc, RightNames::All, &after).expect(rt, "a text")),
+        Err(CreateError::Fault(fault)) => String::from_str(alloc, fault.name()),
+        Err(CreateError::Memory) => Err(AllocError),
+    }
+}
+
+#[test]
+fn objects_inherit_again_what_the_rows_say(rt: HostRuntime) -> Result<(), Fail> {
+    let alloc = rt.alloc();
+    let mut count: u32 = 0;
+    for row in LATER.split('\n') {
+        if !row.contains(" | ") {
+            continue;
+        }
+        let (_, rest) = column(&rt, row);
+        let (_, rest) = column(&rt, rest);
+        let (_, wanted) = column(&rt, rest);
+        let wanted = spelled(alloc, wanted)?;
+        let found = made_later(&rt, alloc, row)?;
+        assert!(rt; found.as_str() == wanted.as_str(), "{row}: {found}");
+        count = count.saturating_add(1);
+    }
+    assert!(rt; count == 23, "{count}");
     Ok(())
 }
