@@ -11,7 +11,7 @@ const changesOf = (differences) => {
   const table = make("table", {}, make("caption", {}, "What the changes grant and take away here"));
   table.append(make("tr", {}, ...heads.map((text) => make("th", { scope: "col" }, text))));
   for (const [isGain, rights, by] of differences) {
-    const kind = make("td", { class: isGain ? "own" : "lost" }, isGain ? "Gained" : "Lost");
+    const kind = make("td", { class: isGain ? "own word" : "lost word" }, isGain ? "Gained" : "Lost");
     table.append(make("tr", {}, kind, make("td", {}, rights), make("td", {}, tokenOf(by))));
   }
   return table;
@@ -39,8 +39,7 @@ const changeOf = ([[isGain, rights, by], at]) => {
 };
 
 const openPage = (isOfChanges) => {
-  document.getElementById("changes-page").hidden = !isOfChanges;
-  document.getElementById("folders-page").hidden = isOfChanges;
+  for (const part of document.querySelectorAll("main > *")) part.hidden = isOfChanges === (part.id !== "changes-page");
   document.getElementById("search").hidden = isOfChanges;
   const [current, other] = isOfChanges ? ["to-changes", "to-folders"] : ["to-folders", "to-changes"];
   document.getElementById(current).setAttribute("aria-current", "page");

@@ -109,7 +109,7 @@
     make("div", { class: "wide", tabindex: "0", role: "region", "aria-labelledby": "people-title" }, table),
     under,
   );
-  document.querySelector("header").after(part);
+  document.getElementById("folders-page").before(part);
   draw();
   document.documentElement.dataset.ready = String(Math.round(performance.now()));
 }

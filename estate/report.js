@@ -212,8 +212,8 @@ const tableOf = (list) => {
   const heads = ["Kind", "Who", "Rights", "Applies to", "From"];
   table.append(make("tr", {}, ...heads.map((text) => make("th", { scope: "col" }, text))));
   for (const [isDeny, rights, applies, isInherited, sid] of list[1]) {
-    const kind = isDeny ? make("td", { class: "deny" }, "Deny") : make("td", {}, "Allow");
-    const from = isInherited ? make("td", {}, "inherited") : make("td", { class: "own" }, "own");
+    const kind = make("td", { class: isDeny ? "deny word" : "word" }, isDeny ? "Deny" : "Allow");
+    const from = make("td", { class: isInherited ? "word" : "own word" }, isInherited ? "inherited" : "own");
     table.append(make("tr", {}, kind, whoOf(sid), make("td", {}, rights), make("td", {}, applies), from));
   }
   return table;

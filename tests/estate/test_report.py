@@ -3,7 +3,7 @@
 import unittest
 
 import chromium
-from rig import TOP, Case, needs_program
+from rig import HERE, TOP, Case, needs_program
 from names import WELL_KNOWN
 
 USER = "S-1-5-21-1-2-3-1001"
@@ -22,6 +22,8 @@ import object /plain/file O:BAG:SYD:(A;ID;FA;;;BA)(A;ID;0x1200a9;;;{USER})
 # rows	3
 publish
 """
+#: What hinders somebody on a page.
+FAULTS = (HERE / "accessible.js").read_text("utf-8")
 #: Seconds of a processor until a report of 20,000 folders can be used. (Seconds of a clock depend on what else runs.)
 SECONDS = 1.0
 FOLDERS = 20_000
@@ -271,6 +273,41 @@ publish
             ("heading", "/"),
         ):
             self.assertIn(wanted, said)
+
+    def test_what_hinders(self) -> None:
+        """Nothing, by accessible.js: by keyboard, by a screen reader or on a small screen. It finds what is planted."""
+        self.write("names", f"{USER} CORP\\alice\n")
+        self.write("accounts", f"user {USER} CORP\\alice\nuser {OTHER} CORP\\{'bob' * 40}\n")
+        change = f"dacl /plain D:(D;OICI;0x2;;;{OTHER})(A;OICI;0x1200a9;;;BU)\npublish\n"
+        page = self.page(SCRIPT + change, "--names", "names", "--accounts", "accounts")
+        for width in (1280, 400):
+            size = {"width": width, "height": 800, "deviceScaleFactor": 1, "mobile": width < 800}
+            page.ask("Emulation.setDeviceMetricsOverride", **size)
+            for step in (
+                "document.getElementById('left-out').open = true; setOpen(items.get(1), true)",
+                "choose([...items.values()].at(-1))",
+                "document.getElementById('words').value = 'alice'; search()",
+                "document.querySelector('#kinds [data-kind=blocked]').click()",
+                "document.getElementById('to-changes').click()",
+                "document.getElementById('to-folders').click()",
+            ):
+                page.value(step)
+                with self.subTest(f"{width}: {step}"):
+                    self.assertEqual(page.value(FAULTS), [])
+        page.value("document.querySelector('h1').remove(); document.getElementById('words').tabIndex = 3")
+        rules = [fault.split(" ")[0] for fault in page.value(FAULTS)]
+        self.assertEqual(rules, ["2.4.3", "1.3.1"])
+
+    def test_the_pages(self) -> None:
+        """On that of the changes nothing else is shown."""
+        self.write("accounts", f"user {USER} CORP\\alice\n")
+        page = self.page(SCRIPT + "dacl /plain D:P\npublish\n", "--accounts", "accounts")
+        shown = "[...document.querySelectorAll('main > *')].filter((one) => !one.hidden).map((one) => one.id)"
+        self.assertEqual(page.value(shown), ["people", "folders-page"])
+        page.value("document.getElementById('to-changes').click()")
+        self.assertEqual(page.value(shown), ["changes-page"])
+        page.value("document.getElementById('to-folders').click()")
+        self.assertEqual(page.value(shown), ["people", "folders-page"])
 
     def test_contrast(self) -> None:
         """Each colour of text has a contrast of 4.5 or more on the panel and the page, in both themes (WCAG 2, AA)."""
