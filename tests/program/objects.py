@@ -20,8 +20,8 @@ from tally import close, holds  # noqa: E402
 
 PROGRAM = sys.argv[1]
 COMMANDS = (
-    "verdict why types who compare lint print sort tobin frombin show diff replace remove protect unprotect rights sid "
-    "each script serve audit"
+    "verdict why types who compare lint print sort tobin frombin show diff replace remove protect unprotect "
+    "create inherit stale rights sid each script serve audit"
 ).split()
 
 

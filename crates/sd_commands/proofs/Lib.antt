@@ -8,3 +8,4 @@ pub mod BytesByPart
 pub mod SortedOrder
 pub mod TypesAlike
 pub mod Everyone
+pub mod DefaultDacl

@@ -36,6 +36,7 @@ use Rattle.sd_answer.specs.Word.{AreGroups, IsFirstNoGroup, IsFirstNoWord, IsTok
 use Rattle.sd_commands.specs.Analysis.{AreWhoLines}
 pub use Rattle.sd_commands.specs.Argument.{AnswersOfSid, argument}
 use Rattle.sd_commands.specs.Change.{AnswersChange}
+use Rattle.sd_commands.specs.Heir.{AnswersHeir}
 use Rattle.sd_commands.specs.Logon.{fits_logon, words_for}
 use Rattle.sd_commands.specs.Object.{leaves_out, looked_at}
 use Rattle.sd_commands.specs.Labels.{label_changes}
@@ -444,5 +445,6 @@ AnswersQuestion settings questions.Show text arguments = AnswersShow settings te
 AnswersQuestion settings questions.Diff text arguments = AnswersDiff settings text (argument arguments 0)
 AnswersQuestion settings questions.Types text arguments = AnswersTypes settings text arguments
 AnswersQuestion settings (questions.Change question) text arguments = AnswersChange settings question text arguments
+AnswersQuestion settings (questions.Heir question) text arguments = AnswersHeir question settings text arguments
 AnswersQuestion settings questions.Rights text arguments = AnswersRights settings text
 AnswersQuestion settings questions.Sid text arguments = AnswersSid settings text

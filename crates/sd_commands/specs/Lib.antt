@@ -12,6 +12,7 @@ pub mod Escaped
 pub mod Findings
 pub mod ForEveryone
 pub mod Handed
+pub mod Heir
 pub mod FromBinary
 pub mod Kinds
 pub mod Labels

@@ -134,6 +134,7 @@ pub fn answer_question(
         TextCommand::Diff => command.diff(text, argument(arguments, 0)),
         TextCommand::Types => command.types(text, arguments),
         TextCommand::Change(question) => command.change(question, text, arguments),
+        TextCommand::Heir(question) => command.heir(question, text, arguments),
         TextCommand::Rights => command.rights(text),
         TextCommand::Sid => command.sid(text),
     }

@@ -1,8 +1,8 @@
 //! The commands about one descriptor: text in, the lines of an answer out.
 //!
 //! `answer_question` answers `verdict`, `why`, `types`, `who`, `compare`, `lint`, `print`, `sort`, `tobin`, `frombin`,
-//! `show`, `diff`, `replace`, `remove`, `protect`, `unprotect`, `rights` and `sid`, as `Settings` says.
-//! It needs no stream and no thread. `sd_command_line` parses a command line to its arguments.
+//! `show`, `diff`, `replace`, `remove`, `protect`, `unprotect`, `create`, `inherit`, `stale`, `rights` and `sid`, as
+//! `Settings` says. It needs no stream and no thread. `sd_command_line` parses a command line to its arguments.
 //!
 //! ```text
 //! let question = TextCommand::Descriptor(DescriptorCommand::Verdict);
@@ -26,6 +26,7 @@ mod escaped;
 mod for_everyone;
 mod forms;
 mod handed;
+mod heir;
 mod kinds;
 mod labels;
 mod laws;

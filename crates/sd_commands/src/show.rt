@@ -53,7 +53,7 @@ impl CommandContext<'_> {
         }
     }
 
-    fn diff_between(&self, old: &WholeDescriptor, new: &WholeDescriptor) -> Answered
+    pub(crate) fn diff_between(&self, old: &WholeDescriptor, new: &WholeDescriptor) -> Answered
         ensures { IfOk result (λ answer. PrintsDiff old.now new.now (answer_of answer)) }
     {
         let lines = diff_lines(self.alloc, old, new)?;

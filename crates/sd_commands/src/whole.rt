@@ -26,7 +26,7 @@ use sd_wire::{WireError, has_bits};
 use std::alloc::{AllocError, Global};
 
 /// The control bits that a word of SDDL says: P, AR and AI of both lists ([MS-DTYP] 2.4.6).
-const WORDED_BITS: u16 = 0xbf14;
+pub(crate) const WORDED_BITS: u16 = 0xbf14;
 
 impl CommandContext<'_> {
     /// All that the bytes hold ([MS-DTYP] 2.4.6), if it has the list that is required.

@@ -15,7 +15,8 @@ use Rattle.sd_line.specs.declared.print.Style.{Style}
 use Rattle.sd_text.specs.Alias.{in_domain}
 use Rattle.sd_usage.specs.declared.row.DescriptorCommand.TheVariants as about
 use Rattle.sd_usage.specs.declared.row.TextCommand.{TextCommand}
-use Rattle.sd_usage.specs.declared.row.TextCommand.TheVariants.{Descriptor, Diff, Show, Types}
+use Rattle.sd_usage.specs.declared.row.TextCommand.TheVariants.{Descriptor, Diff, Heir, Show, Types}
+use Rattle.sd_usage.specs.declared.row.HeirCommand.TheVariants as heirs
 use Rattle.sd_commands.specs.Answer.{AnswerValue, IsFault}
 use Rattle.sd_commands.specs.CommandAnswer.{AnswersQuestion, argument}
 use Rattle.sd_commands.specs.Concern.{IsConcernReason}
@@ -63,14 +64,18 @@ IsBadValue NoEdits answer = IsBadOption (codes "edits") (codes "no number of edi
 
 -- ---- questions that have an answer
 
--- which of the texts that are compared is blank
+-- which of two texts is blank
+abbrev pub blank_of : (name text other_name other : List ℕ) → Option (List ℕ)
+blank_of name text other_name other =
+    if is_blank text then Some name else (if is_blank other then Some other_name else None)
+
+-- which of the descriptors is blank, of a command that needs them
 abbrev pub blank_name : TextCommand → List ℕ → List (Bor (List ℕ)) → Option (List ℕ)
 blank_name (Descriptor about.Compare) text arguments =
-    if is_blank text then Some (codes "OLD")
-    else (if is_blank (argument arguments 0) then Some (codes "NEW") else None)
-blank_name Diff text arguments =
-    if is_blank text then Some (codes "OLD")
-    else (if is_blank (argument arguments 0) then Some (codes "NEW") else None)
+    blank_of (codes "OLD") text (codes "NEW") (argument arguments 0)
+blank_name Diff text arguments = blank_of (codes "OLD") text (codes "NEW") (argument arguments 0)
+blank_name (Heir heirs.Create) text arguments = if is_blank text then Some (codes "PARENT") else None
+blank_name (Heir question) text arguments = blank_of (codes "CHILD") text (codes "PARENT") (argument arguments 0)
 blank_name question text arguments = None
 
 abbrev pub asks_who : TextCommand → Bool
@@ -167,6 +172,7 @@ after_answer (Descriptor about.Lint) = text_line [] ∷ []
 after_answer Types = text_line [] ∷ []
 after_answer Show = text_line [] ∷ []
 after_answer Diff = text_line [] ∷ []
+after_answer (Heir heirs.Stale) = text_line [] ∷ []
 after_answer question = []
 
 -- the lines of a line's answer, and what came of it

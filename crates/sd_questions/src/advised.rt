@@ -5,12 +5,13 @@ ghost use Rattle.sd_questions.specs.TextAnswer.{Advising, AnswersText};
 ghost use Rattle.sd_arguments.specs.CommandLine.{request_of};
 
 use crate::found::{
-    found_in_descriptor, found_in_group, found_in_mask, found_in_sids, found_in_user, found_in_word,
+    found_in_descriptor, found_in_group, found_in_mask, found_in_sids, found_in_user,
+    found_in_whole, found_in_word,
 };
 use crate::notes::notes_on;
 use crate::remedies::{
     ALL_BUT_LABELS, CHILDREN, EACH, HEX, NO_BITS, NO_CHILDREN, OBJECT_ENTRY, ODD_ENTRY, OTHER_USER,
-    POLICIES, RemedyRow, SACLS, WHOLE_BITS, WHOLE_ENTRY, WHOLE_RANGE, WHOLE_SACL, row_line,
+    POLICIES, RemedyRow, SACLS, WHOLE_BITS, WHOLE_ENTRY, WHOLE_SACL, row_line,
 };
 use crate::spoken::{answer_text, asks_who};
 use sd_answer::{TokenError, read_base, read_token};
@@ -95,7 +96,7 @@ pub(crate) fn advice_on_each(
         let note = told_line(alloc, "--without-bits", NO_BITS)?;
         advice.push_str(note.as_str())?;
     }
-    if options.has(OptionName::Object) {
+    if options.has(OptionName::Object) && !matches!(request.question, TextCommand::Heir(_)) {
         let note = told_line(alloc, "--object", NO_CHILDREN)?;
         advice.push_str(note.as_str())?;
     }
@@ -188,6 +189,7 @@ fn remedy(
             Some(row) => Some(row),
             None => found_in_sids(settings.aliases, request.arguments),
         },
+        TextCommand::Heir(_) => heir_row(alloc, settings, text, request.arguments),
         TextCommand::Rights => found_in_mask(settings, text),
         TextCommand::Sid => found_in_user(settings.aliases, text),
     };
@@ -264,11 +266,16 @@ fn diff_row(
     }
 }
 
-fn found_in_whole(text: &str, fault: TextFault, place: u64) -> Option<RemedyRow> {
-    match fault {
-        TextFault::EntryKind => None,
-        TextFault::Range => Some(WHOLE_RANGE),
-        _ => found_in_descriptor(text, fault, place),
+/// The row of advice for the first of two whole descriptors, or of the SIDs after them, whose text has a fault.
+fn heir_row(
+    alloc: Global,
+    settings: &Settings,
+    text: &str,
+    arguments: &[&str],
+) -> Option<RemedyRow> {
+    match diff_row(alloc, settings, text, arguments) {
+        Some(row) => Some(row),
+        None => found_in_sids(settings.aliases, arguments.get(1..)?),
     }
 }
 

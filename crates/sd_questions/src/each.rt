@@ -23,7 +23,7 @@ use sd_arguments::{BadValue, GivenFlags, Options, TextRequest};
 use sd_commands::{Answer, Outcome, Settings, fault, told_line};
 use sd_line::{Line, Style, Tag, push_printed};
 use sd_lines::{AnswersLines, Ending, Form, RunError, Watched, answer_lines};
-use sd_usage::{DescriptorCommand, OptionName, TextCommand};
+use sd_usage::{DescriptorCommand, HeirCommand, OptionName, TextCommand};
 use std::alloc::{AllocError, Global};
 use std::io::{Read, Write};
 use std::str::from_utf8;
@@ -231,6 +231,7 @@ fn push_after_answer(
         TextCommand::Types
         | TextCommand::Show
         | TextCommand::Diff
+        | TextCommand::Heir(HeirCommand::Stale)
         | TextCommand::Descriptor(
             DescriptorCommand::Why
             | DescriptorCommand::Who

@@ -232,3 +232,12 @@ pub(crate) fn found_in_word(whole: bool, known: Aliases, text: &str) -> Option<R
         _ => found_in_sid(known, text),
     }
 }
+
+/// What was found at a fault of the text of a whole descriptor.
+pub(crate) fn found_in_whole(text: &str, fault: TextFault, place: u64) -> Option<RemedyRow> {
+    match fault {
+        TextFault::EntryKind => None,
+        TextFault::Range => Some(WHOLE_RANGE),
+        _ => found_in_descriptor(text, fault, place),
+    }
+}

@@ -2,17 +2,17 @@
 ghost use Rattle.std.specs.Prelude.{◌≡◌, ◌==◌, ◌&&◌, IfOk, length, option_map};
 ghost use Rattle.sd_commands.specs.Answer.{answer_of};
 ghost use Rattle.sd_commands.specs.CommandAnswer.{argument};
-ghost use Rattle.sd_questions.specs.TextAnswer.{AnswersText, IsSaid, asks_who, blank_name};
+ghost use Rattle.sd_questions.specs.TextAnswer.{AnswersText, IsSaid, asks_who, blank_name, blank_of};
 ghost use Rattle.sd_arguments.specs.CommandLine.{request_of};
 
 use crate::input::is_blank;
 use sd_arguments::TextRequest;
 use sd_commands::{Answer, Settings, answer_question, fault, told_line};
-use sd_usage::{DescriptorCommand, TextCommand};
+use sd_usage::{DescriptorCommand, HeirCommand, TextCommand};
 use std::alloc::{AllocError, Global};
 
-/// The answer of a command to a text: a fault where `compare` has a blank text, and where `who` is asked for no right.
-/// The only error is out of memory.
+/// The answer of a command to a text: a fault where one of two descriptors is blank, and where `who` is asked for no
+/// right. The only error is out of memory.
 pub(crate) fn answer_text(
     alloc: Global,
     settings: &Settings,
@@ -42,22 +42,32 @@ fn said(alloc: Global, question: TextCommand, answer: Answer) -> Result<Answer, 
     Ok(answer)
 }
 
-/// Which of the texts that are compared is blank.
+/// Which of the descriptors is blank, of a command that needs them.
 fn blank_name(question: TextCommand, text: &str, arguments: &[&str]) -> Option<&'static str>
     ensures { option_map (λ name. name.now) result ≡ blank_name question text.now arguments.now }
 {
     match question {
         TextCommand::Diff | TextCommand::Descriptor(DescriptorCommand::Compare) => {
-            let new = first(arguments);
-            if is_blank(text.as_bytes()) {
-                Some("OLD")
-            } else if is_blank(new.as_bytes()) {
-                Some("NEW")
-            } else {
-                None
-            }
+            blank_of(("OLD", text), ("NEW", first(arguments)))
         }
+        TextCommand::Heir(HeirCommand::Create) if is_blank(text.as_bytes()) => Some("PARENT"),
+        TextCommand::Heir(HeirCommand::Create) => None,
+        TextCommand::Heir(_) => blank_of(("CHILD", text), ("PARENT", first(arguments))),
         _ => None,
+    }
+}
+
+/// The name of the first of two texts that is blank.
+fn blank_of(one: (&'static str, &str), other: (&'static str, &str)) -> Option<&'static str>
+    ensures { option_map (λ name. name.now) result
+        ≡ blank_of one.entry.0.now one.entry.1.now other.entry.0.now other.entry.1.now }
+{
+    if is_blank(one.1.as_bytes()) {
+        Some(one.0)
+    } else if is_blank(other.1.as_bytes()) {
+        Some(other.0)
+    } else {
+        None
     }
 }
 

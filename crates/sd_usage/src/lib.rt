@@ -10,6 +10,7 @@
 //! ```
 #![tactic(auto)]
 
+mod heir_notes;
 mod names;
 mod notes;
 mod option_table;
@@ -23,8 +24,8 @@ pub use names::{Commands, argument_name, listed_commands, usage_line};
 pub use option_table::OPTIONS;
 pub use row::{
     Argument, Arguments, Beside, ChangeCommand, Command, CommandName, CommandRow,
-    DescriptorCommand, Flag, Flags, OPTION_COUNT, OptionName, OptionRow, ProgramOption,
-    TextCommand, Value, command_named, option_named, takes_option,
+    DescriptorCommand, Flag, Flags, HeirCommand, OPTION_COUNT, OptionName, OptionRow,
+    ProgramOption, TextCommand, Value, command_named, option_named, takes_option,
 };
 pub use table::COMMANDS;
 pub use usage::help;

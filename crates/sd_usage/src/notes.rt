@@ -1,5 +1,6 @@
 //! The end of the help on each command, and on the program.
 
+use crate::heir_notes::heir_notes;
 use crate::row::{ChangeCommand, CommandName, DescriptorCommand, TextCommand};
 
 /// The end of a command's help, before its example.
@@ -11,6 +12,7 @@ pub(crate) fn notes_of(command: CommandName) -> &'static str {
         CommandName::Ask(TextCommand::Diff) => DIFF_NOTES,
         CommandName::Ask(TextCommand::Types) => TYPES_NOTES,
         CommandName::Ask(TextCommand::Change(question)) => change_notes(question),
+        CommandName::Ask(TextCommand::Heir(question)) => heir_notes(question),
         CommandName::Ask(TextCommand::Rights) => RIGHTS_NOTES,
         CommandName::Ask(TextCommand::Sid) => SID_NOTES,
         CommandName::Script => SCRIPT_NOTES,

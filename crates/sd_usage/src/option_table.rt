@@ -89,7 +89,7 @@ byte, and reports it on standard error",
         "\
 the descriptor is that of an object and of no container, as of a file: the flags OI and CI of its
 entries say nothing, and are left out, also where plain entries are printed; then 'lint' takes object
-and conditional entries under '--whole'",
+and conditional entries under '--whole'; of 'create', 'inherit' and 'stale' that inherits is an object",
     ),
     (
         "--risks",

@@ -57,6 +57,35 @@ pub(crate) const CHANGE_OPTIONS: &[OptionName] = &[
     OptionName::StrictStatus,
 ];
 
+/// The options of the commands that print what an object has in a container.
+pub(crate) const HEIR_OPTIONS: &[OptionName] = &[
+    OptionName::Stdin,
+    OptionName::Names,
+    OptionName::RequireDacl,
+    OptionName::Object,
+    OptionName::Domain,
+    OptionName::Aliases,
+    OptionName::Mapping,
+    OptionName::Json,
+    OptionName::Color,
+    OptionName::Caret,
+    OptionName::StrictStatus,
+];
+
+/// The options of `stale`.
+pub(crate) const STALE_OPTIONS: &[OptionName] = &[
+    OptionName::Stdin,
+    OptionName::Names,
+    OptionName::Object,
+    OptionName::Domain,
+    OptionName::Aliases,
+    OptionName::Mapping,
+    OptionName::Json,
+    OptionName::Color,
+    OptionName::Caret,
+    OptionName::StrictStatus,
+];
+
 /// The options of `sort`.
 pub(crate) const SORT_OPTIONS: &[OptionName] = &[
     OptionName::Stdin,

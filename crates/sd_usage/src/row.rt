@@ -53,6 +53,8 @@ pub enum TextCommand {
     Types,
     /// A command that changes a whole descriptor.
     Change(ChangeCommand),
+    /// A command about what an object inherits.
+    Heir(HeirCommand),
     /// `rights`.
     Rights,
     /// `sid`.
@@ -91,6 +93,17 @@ pub enum ChangeCommand {
     Protect,
     /// `unprotect`.
     Unprotect,
+}
+
+/// A command about the whole descriptor of an object in a container.
+#[derive(Clone, Copy, PartialEq, Eq)]
+pub enum HeirCommand {
+    /// `create`.
+    Create,
+    /// `inherit`.
+    Inherit,
+    /// `stale`.
+    Stale,
 }
 
 /// An option before a command.
@@ -207,12 +220,20 @@ pub enum Argument {
     Old,
     /// `NEW`: a descriptor in SDDL ([MS-DTYP] 2.5.1.1), after a change.
     New,
+    /// `PARENT`: the descriptor, in SDDL ([MS-DTYP] 2.5.1.1), of a container.
+    Parent,
+    /// `CHILD`: the descriptor, in SDDL ([MS-DTYP] 2.5.1.1), of an object in it.
+    Child,
+    /// `CREATOR`: what the creator of an object gives, in SDDL ([MS-DTYP] 2.5.1.1).
+    Creator,
     /// `BYTES`: a descriptor in self-relative form ([MS-DTYP] 2.4.6).
     Bytes,
     /// `TREE`: a tree of object types ([MS-DTYP] 2.5.3.2, ObjectTypeList).
     Tree,
     /// `USER`: a user's SID ([MS-DTYP] 2.4.2.1).
     User,
+    /// `GROUP`: the SID ([MS-DTYP] 2.4.2.1) of the user's primary group.
+    PrimaryGroup,
     /// `MASK`: an access mask ([MS-DTYP] 2.4.3).
     Mask,
     /// `SID`: a SID ([MS-DTYP] 2.4.2.1).

@@ -1,13 +1,13 @@
 //! The table of commands. It and that of options alone say which arguments are a command line.
 
 use crate::options::{
-    BYTES_OPTIONS, CHANGE_OPTIONS, COMPARE_OPTIONS, LINT_OPTIONS, PRINT_OPTIONS, RIGHTS_OPTIONS,
-    SCRIPT_OPTIONS, SHOW_OPTIONS, SID_OPTIONS, SORT_OPTIONS, TO_BINARY_OPTIONS, TYPES_OPTIONS,
-    VERDICT_OPTIONS, WHO_OPTIONS,
+    BYTES_OPTIONS, CHANGE_OPTIONS, COMPARE_OPTIONS, HEIR_OPTIONS, LINT_OPTIONS, PRINT_OPTIONS,
+    RIGHTS_OPTIONS, SCRIPT_OPTIONS, SHOW_OPTIONS, SID_OPTIONS, SORT_OPTIONS, STALE_OPTIONS,
+    TO_BINARY_OPTIONS, TYPES_OPTIONS, VERDICT_OPTIONS, WHO_OPTIONS,
 };
 use crate::row::{
     Argument, Arguments, ChangeCommand, Command, CommandName, CommandRow, DescriptorCommand, Flag,
-    Flags, TextCommand,
+    Flags, HeirCommand, TextCommand,
 };
 
 /// The commands, in the order in which help lists them.
@@ -211,6 +211,48 @@ sdstore --whole types 'O:BAG:SYD:(OA;;RP;bf967950-0de6-11d0-a285-00aa003049e2;;S
         CHANGE_OPTIONS,
         "Prints a descriptor whose DACL may inherit",
         "sdstore unprotect 'D:PAI(A;;FA;;;BA)'",
+    ),
+    (
+        "create",
+        Command {
+            name: CommandName::Ask(TextCommand::Heir(HeirCommand::Create)),
+            flags: Flags::Nothing,
+            arguments: Arguments::Four(
+                Argument::Parent,
+                Argument::Creator,
+                Argument::User,
+                Argument::PrimaryGroup,
+            ),
+            repeated: None,
+        },
+        HEIR_OPTIONS,
+        "Prints the descriptor that a new object gets in a container",
+        "\
+sdstore create 'O:BAG:SYD:(A;OICIIO;GA;;;CO)(A;CI;FR;;;BU)' '' S-1-5-21-1-2-3-1001 S-1-5-21-1-2-3-513",
+    ),
+    (
+        "inherit",
+        Command {
+            name: CommandName::Ask(TextCommand::Heir(HeirCommand::Inherit)),
+            flags: Flags::Nothing,
+            arguments: Arguments::Two(Argument::Child, Argument::Parent),
+            repeated: None,
+        },
+        HEIR_OPTIONS,
+        "Prints a descriptor with what it inherits now from its container's",
+        "sdstore inherit 'O:BAG:SYD:AI(A;;FA;;;SY)(A;ID;FR;;;WD)' 'D:(A;OICI;FR;;;BU)'",
+    ),
+    (
+        "stale",
+        Command {
+            name: CommandName::Ask(TextCommand::Heir(HeirCommand::Stale)),
+            flags: Flags::Nothing,
+            arguments: Arguments::Two(Argument::Child, Argument::Parent),
+            repeated: None,
+        },
+        STALE_OPTIONS,
+        "Prints in words what 'inherit' would change",
+        "sdstore stale 'O:BAG:SYD:AI(A;;FA;;;SY)(A;ID;FR;;;WD)' 'D:(A;OICI;FR;;;BU)'",
     ),
     (
         "rights",

@@ -7,6 +7,9 @@ use std::alloc::{AllocError, Global};
 
 const USER: &str = "The user's SID: in full, as S-1-5-21-1-2-3-1001, or an alias, as SY";
 
+const CREATOR: &str = "\
+What the creator gives, in SDDL: its owner, group and lists, where they are there; '' for nothing";
+
 const TREE: &str = "\
 The nodes with commas between them, each LEVEL:GUID after the one above it: the class has level 0, its
 property sets and properties 1 to 4";
@@ -64,9 +67,14 @@ impl CommandTexts {
             Argument::Descriptor => "The descriptor in SDDL",
             Argument::Old => "The descriptor before the change, in SDDL",
             Argument::New => "The descriptor after the change, in SDDL",
+            Argument::Parent => "The descriptor of the container, in SDDL",
+            Argument::Child => "The descriptor of the object in it, in SDDL",
+            Argument::Creator => CREATOR,
             Argument::Bytes => "The bytes of the descriptor, in hexadecimal",
             Argument::Tree => TREE,
             Argument::User => USER,
+            Argument::PrimaryGroup =>
+                "The SID of the user's primary group, as DU or S-1-5-21-1-2-3-513",
             Argument::Mask => MASK,
             Argument::Sid => "The SID: in full, as S-1-5-21-1-2-3-1001, or an alias, as SY",
             Argument::OldSid => "The SID that is replaced: in full, or an alias, as SY",
