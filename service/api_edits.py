@@ -5,6 +5,7 @@ from http import HTTPStatus
 
 from answers import NO_ROLE, OTHER_KEY, UNANSWERED
 from api_request import Request, Response, fault_response, state_of
+from edits import ALL, PUBLISH
 from errors import Fault
 from json_request import Given
 from script import is_key
@@ -17,16 +18,22 @@ _MOST_EDITS = 1_000
 def edit(request: Request) -> None:
     """Edits, and then a publish if it is asked for: all or none."""
     given = request.given
-    given.know("edits", "publish", "key", "published")
+    given.know("edits", "publish", "all", "key", "published")
     edits = [_words_of(Given(each, "edits")) for each in given.list("edits", _MOST_EDITS)]
-    only_if = given.number("published", 0) if given.has("published") else None
-    _submit(request, edits + ([["publish"]] if given.flag("publish") else []), only_if)
+    if given.flag("all") and not given.flag("publish"):
+        raise Fault.of("all")
+    _submit(request, edits + ([_publish(given)] if given.flag("publish") else []))
 
 
 def publish(request: Request) -> None:
     given = request.given
-    given.know("key", "published")
-    _submit(request, [["publish"]], given.number("published", 0) if given.has("published") else None)
+    given.know("all", "key", "published")
+    _submit(request, [_publish(given)])
+
+
+def _publish(given: Given) -> list[str]:
+    """The words of a publish: of the edits of all clients, or of this one."""
+    return [PUBLISH, ALL] if given.flag("all") else [PUBLISH]
 
 
 _VALUES = {
@@ -48,8 +55,9 @@ def _words_of(given: Given) -> list[str]:
     return words
 
 
-def _submit(request: Request, lines: Sequence[list[str]], only_if: int | None) -> None:
+def _submit(request: Request, lines: Sequence[list[str]]) -> None:
     """Has the lines made, all or none, and replies once they are answered."""
+    only_if = request.given.number("published", 0) if request.given.has("published") else None
     keys = _keys(request.given, len(lines))
     if not lines:
         is_for_this = only_if in (None, request.service.shown.length)

@@ -48,8 +48,8 @@ _EDITS: dict[str, tuple[tuple[_Argument, ...], Callable[..., None]]] = {
     "move": ((_PATH, _PATH), Store.move),
 }
 NAMES = frozenset(_EDITS)
-#: The line that publishes all pending edits.
-PUBLISH = "publish"
+#: The line that publishes the pending edits, and the word after it of a client that publishes those of others too.
+PUBLISH, ALL = "publish", "all"
 
 
 def edit_of(words: Sequence[str], view: View) -> Edit:

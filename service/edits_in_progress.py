@@ -9,7 +9,7 @@ import script
 from answers import NO_MEMORY, NO_RECORD, NO_ROLE
 from caller import Caller
 from config import Limits
-from edits import PUBLISH, edit_of
+from edits import ALL, PUBLISH, edit_of
 from errors import Fault
 from logs import Log, in_json
 from long_answers import BUSY, STOPPING
@@ -101,10 +101,10 @@ class EditsInProgress:
         try:
             key, words = script.without_key(words)
             if words[0] == PUBLISH:
-                if words[1:]:
+                if words[1:] not in ([], [ALL]):
                     raise Fault.of("words")
                 may_make = None if caller.may("edit") else functools.partial(caller.may_do, "edit")
-                return Task(None, PUBLISH, key, caller.who, reply, may_make=may_make)
+                return Task(None, PUBLISH, key, caller.who, reply, of_all=len(words) > 1, may_make=may_make)
             edit = edit_of(words, self._questions.shown.view)
             return Task(edit, edit.line(), key, caller.who, reply)
         except (Fault, MemoryError) as error:

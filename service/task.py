@@ -33,7 +33,9 @@ class Task:
     parts: Sequence["Task"] = ()
     #: The published length that they are for.
     only_if: int | None = None
-    #: Of a publish: what says of an edit's words whether the client may make it, unless it may make each.
+    #: Of a publish: whether it is of the pending edits of others too; and what says of an edit's words whether the
+    #: client may make it, unless it may make each.
+    of_all: bool = False
     may_make: Callable[[Sequence[str]], bool] | None = None
 
     @property

@@ -18,7 +18,7 @@ from hudarin import View
 
 import clock
 from analysis import Reviewing
-from answers import NO_MEMORY, NO_ROLE, OTHER_KEY, Result
+from answers import NO_MEMORY, NO_ROLE, OTHER_KEY, UNANSWERED, Result
 from checkpoint import Checkpoint
 from edits import Edit, is_same
 from entry import Batch, Line, Place
@@ -218,17 +218,21 @@ class Writer:
         tree = self.state.tree
         has_pending = tree.pending > 0
         if has_pending:
-            if not self._may_publish(task):
-                task.answer = NO_ROLE
+            task.answer = self._why_unpublished(task)
+            if task.answer:
                 return False
             self._drop(tree.publish())
         task.answer = Result("published", number=tree.length)
         return has_pending
 
-    def _may_publish(self, task: Task) -> bool:
-        """Whether the client may make each edit that is pending."""
+    def _why_unpublished(self, task: Task) -> Result:
+        """Why the client may not publish what is pending, if so: others made some of it, or it may not make some."""
+        pending = self.state.pending
+        others = 0 if task.of_all else sum(each.who != task.who for each in pending)
+        if others:
+            return Result("fault", f"pending {others}")
         may_make = task.may_make
-        return may_make is None or all(may_make(each.line.split(" ")) for each in self.state.pending)
+        return UNANSWERED if may_make is None or all(may_make(each.line.split(" ")) for each in pending) else NO_ROLE
 
     def _was_made(self, task: Task, batch: Batch) -> bool:
         """Whether the key's line is there: its answer is given again. Another line, or another client's, isn't made."""

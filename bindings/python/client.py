@@ -190,8 +190,8 @@ class _Words:
             raise ValueError(f"not a question: {words[0]}")
         return (yield from self._asked(*words))
 
-    def _publish(self) -> _Talk[int]:
-        said = yield from self._edit(["publish"])
+    def _publish(self, of_all: bool) -> _Talk[int]:
+        said = yield from self._edit(["publish", "all"] if of_all else ["publish"])
         return int(said.split(" ")[1])
 
     def _why(self, path: str, user: str, mask: str, groups: Sequence[str]) -> _Talk[Tuple[Verdict, List[str]]]:
@@ -266,9 +266,10 @@ class Client(_Words):
         the next publish. Rejected: the tree refuses it."""
         self._run(self._edit(words))
 
-    def publish(self) -> int:
-        """Publishes all pending edits, and returns the published length."""
-        return self._run(self._publish())
+    def publish(self, of_all: bool = False) -> int:
+        """Publishes the pending edits, and returns the published length. Rejected: other clients have some, and
+        ``of_all`` isn't there, which says that these are published too."""
+        return self._run(self._publish(of_all))
 
     def why(self, path: str, user: str, mask: str, groups: Sequence[str] = ()) -> Tuple[Verdict, List[str]]:
         """The verdict of `check`, and a line for each reason."""
@@ -390,8 +391,8 @@ class AsyncClient(_Words):
     async def edit(self, *words: str) -> None:
         await self._run(self._edit(words))
 
-    async def publish(self) -> int:
-        return await self._run(self._publish())
+    async def publish(self, of_all: bool = False) -> int:
+        return await self._run(self._publish(of_all))
 
     async def why(self, path: str, user: str, mask: str, groups: Sequence[str] = ()) -> Tuple[Verdict, List[str]]:
         return await self._run(self._why(path, user, mask, groups))

@@ -21,6 +21,7 @@ from tree import dumped
 from writer import Shown, Writer
 
 ADD = "addo /{} O:BAG:SYD:"
+PUBLISHES = ("publish", "publish all")
 
 
 class Batches(rig.Case):
@@ -37,10 +38,11 @@ class Batches(rig.Case):
         self.writer = Writer(self.journal, loading.load(self.journal),
                              lambda tasks, shown: self.answered.put((tasks, shown)), self.warned.append)
 
-    def task(self, *lines: str, key: str = "", only_if: int | None = None) -> Task:
+    def task(self, *lines: str, key: str = "", only_if: int | None = None, who: str = "uid:0") -> Task:
         """Several edits, all or none, or the one."""
-        parts = [Task(None if line == "publish" else edit_of(line.split(" "), self.writer.shown.view), line,
-                      f"{key}/{at}" if key else "", "uid:0", lambda task: None) for at, line in enumerate(lines)]
+        parts = [Task(None if line in PUBLISHES else edit_of(line.split(" "), self.writer.shown.view),
+                      "publish" if line in PUBLISHES else line, f"{key}/{at}" if key else "", who, lambda task: None,
+                      of_all=line == "publish all") for at, line in enumerate(lines)]
         if len(parts) == 1 and only_if is None:
             return parts[0]
         return Task(None, "", "", "uid:0", lambda task: None, parts=parts, only_if=only_if)
@@ -83,6 +85,47 @@ class Batches(rig.Case):
             ["fault key"] * 2])
         self.assertEqual((self.shown.length, self.shown.last.number, self.warned), (3, 4, []))
         self.assertEqual(sorted(self.nodes()), ["/after", "/before", "/x"])
+
+    def test_edits_of_others(self) -> None:
+        """While any are pending nothing is published without a word that says so; a key's answer is given again."""
+        def of_other(*lines: str, key: str = "") -> Task:
+            return self.task(*lines, key=key, who="uid:1")
+
+        tasks = [
+            self.task(ADD.format("a")), of_other(ADD.format("b")), of_other("publish"), self.task("publish", key="k"),
+            of_other(ADD.format("c"), "publish"), self.task(ADD.format("c"), "publish", only_if=0),
+            of_other(ADD.format("c")), of_other("publish all", key="o"), of_other("publish"), self.task("publish"),
+            self.task(ADD.format("d"), key="k"), of_other("publish all", key="o"), of_other("publish", key="o"),
+            of_other("publish"), self.task("remove /d", "publish"), of_other(ADD.format("e"), "publish"),
+            self.task(ADD.format("f")),
+        ]
+        with mock.patch("writer.MOST_AT_ONCE", 1):
+            answers = self.run_all(*tasks)
+        self.assertEqual(answers, [
+            ["ok"], ["ok"], ["fault pending 1"], ["fault pending 1"], ["unmade", "fault pending 1"],
+            ["unmade", "fault pending 1"], ["ok"], ["published 3"], ["published 3"], ["published 3"], ["ok"],
+            ["published 3"], ["published 3"], ["fault pending 1"], ["ok", "published 5"], ["ok", "published 6"], ["ok"]])
+        state = loading.load(self.journal)
+        self.assertEqual(state.pending, [("uid:0", ADD.format("f"))])
+        self.assertEqual((sorted(self.nodes()), self.shown.length), (["/a", "/b", "/c", "/e", "/f"], 6))
+
+    def test_whose_edits_after_a_commit_that_fails(self) -> None:
+        """What isn't on disk is nobody's pending edit."""
+        append, left = Journal.append, [0]
+
+        def fail(journal: Journal, lines: list[object]) -> None:
+            left[0] += 1
+            if left[0] in (2, 4):
+                raise sqlite3.OperationalError("disk I/O error")
+            append(journal, lines)
+
+        with mock.patch.object(Journal, "append", fail), mock.patch("writer.MOST_AT_ONCE", 1):
+            answers = self.run_all(*(self.task(line, who=f"uid:{who}") for who, line in (
+                (1, ADD.format("a")), (2, ADD.format("b")), (1, "publish"), (2, ADD.format("b")), (2, "publish all"),
+                (1, "publish"))))
+        self.assertEqual(answers, [["ok"], ["unavailable journal"], ["published 1"], ["unavailable journal"],
+                                   ["published 1"], ["published 1"]])
+        self.assertEqual((self.writer.state.pending, self.nodes()), ([], ["/a"]))
 
     def test_a_commit_that_fails(self) -> None:
         """None of them was made, and the next ones are."""
