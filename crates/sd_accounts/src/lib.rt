@@ -3,7 +3,7 @@
 //! An accounts file has a row a line. Its rows give users and groups names, say who is a member of which group, which
 //! group is a user's primary group, and which account is disabled. It is parsed once; the questions are then answered
 //! from memory, the groups of a user and the ways to them by one walk over an index of the direct memberships. A
-//! `Search` says of many users, one after another, whether each has one of the wanted SIDs.
+//! `Search` has of many users, one after another, the groups of each who has one of the wanted SIDs.
 //!
 //! ```text
 //! let accounts = Accounts::read(alloc, text)?;

@@ -1,6 +1,6 @@
 //! Searches for wanted SIDs among those that one has.
 
-ghost use Rattle.std.specs.Prelude.{◌≡◌, ◌⊎◌, false, true, IfOk, OnOk, Contains, not, slice_index_or};
+ghost use Rattle.std.specs.Prelude.{◌≡◌, ◌⊎◌, false, true, IfNone, IfOk, IfSome, OnOk, Contains, not, slice_index_or};
 ghost use Rattle.std.specs.Bool.{Decides};
 ghost use Rattle.std.specs.List.{list_any};
 ghost use Rattle.indexmap.specs.IndexMap.{keys};
@@ -11,6 +11,7 @@ ghost use Rattle.sd_accounts.specs.Wanted.{AreUnwanted, HasNone, HasWanted, IsOn
 
 use crate::accounts::Accounts;
 use crate::index::{Index, groups_in};
+use crate::membership::Membership;
 use crate::search::Search;
 use indexmap::IndexSet;
 use sd_sid::Sid;
@@ -43,28 +44,33 @@ impl<'a> Search<'a> {
         })
     }
 
-    /// Whether one who has these SIDs has one of the wanted ones: one of these is, or a group to which one belongs.
-    /// The only error is out of memory.
-    pub fn finds(&mut self, starts: &[Sid]) -> Result<bool, AllocError>
-        ensures one { IfOk result (λ found. found ≡ true
-            → HasWanted (searched self.old) (wanted_by self.old) starts.now) }
-        ensures none { IfOk result (λ found. found ≡ false
-            → HasNone (searched self.old) (wanted_by self.old) starts.now) }
+    /// The groups of one who has these SIDs, where one has one of the wanted ones: one of these is, or a group to which
+    /// one belongs ([MS-DTYP] 2.4.2). None where one has none of them. The only error is out of memory.
+    pub fn find<'b>(&mut self, starts: &'b [Sid]) -> Result<Option<Membership<'b>>, AllocError>
+    where
+        'a: 'b,
+        ensures member { IfOk result (λ found. IfSome found (λ member.
+            (member.rows ≡ searched self.old) × (member.starts ≡ starts.now))) }
+        ensures one { IfOk result (λ found. IfSome found (λ _.
+            HasWanted (searched self.old) (wanted_by self.old) starts.now)) }
+        ensures none { IfOk result (λ found. IfNone found
+            (HasNone (searched self.old) (wanted_by self.old) starts.now)) }
         ensures searched { searched self.new ≡ searched self.old }
         ensures wanted { wanted_by self.new ≡ wanted_by self.old }
     {
+        let accounts = self.accounts;
         if any_wanted(&self.wanted, starts) {
-            return Ok(true);
+            return Ok(Some(accounts.membership(self.alloc, starts)?));
         }
         if self.leads_nowhere(starts) {
-            return Ok(false);
+            return Ok(None);
         }
-        let groups = self.accounts.groups_of(self.alloc, starts)?;
-        if any_wanted(&self.wanted, &groups) {
-            return Ok(true);
+        let member = accounts.membership(self.alloc, starts)?;
+        if any_wanted(&self.wanted, member.groups()) {
+            return Ok(Some(member));
         }
-        keep(&mut self.nowhere, &self.accounts.index, &groups);
-        Ok(false)
+        keep(&mut self.nowhere, &accounts.index, member.groups());
+        Ok(None)
     }
 
     /// Whether it is kept of each group in which one of the starts directly is that none of the wanted is reached.

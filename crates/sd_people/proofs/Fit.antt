@@ -4,7 +4,7 @@ use Rattle.std.proofs.lemmas.List.{append_assoc, take_more}
 use Rattle.std.proofs.lemmas.List.Elements.{Contains-append_left, Contains-append_right, Contains-get_or, Contains-push, filter_map-append}
 use Rattle.std.specs.List.{AllByRecursion, Contains, cons_option, filter_map}
 use Rattle.std.specs.Option.{option_to_list}
-use Rattle.std.specs.Prelude.{if◌then◌else◌}
+use Rattle.std.specs.Prelude.{if◌then◌else◌, IfNone}
 use Rattle.sd_sid.specs.Sid.{SidValue}
 use Rattle.sd_acl.specs.Ace.{is_allow, is_inherit_only}
 use Rattle.sd_acl.specs.declared.ace.Ace.{Ace}
@@ -22,22 +22,22 @@ use Rattle.sd_people.specs.Passed.{IsFit, allowed_sid, subjects}
 use Rattle.sd_people.specs.People.{IsGrantedNothing}
 use Rattle.sd_people.proofs.Passed.{passed}
 
-not_found : (found : Bool) → not found ≡ true → found ≡ false
-not_found true e = sym e
-not_found false e = refl
-
-pub passed_over : (rows : List AccountRow) (settings : Settings) (words : List NamedWord) (user : SidValue) (search : Search) (all : List SidValue) (found : Bool)
-    → all ≡ starts (is_some settings.logon) user words → (found ≡ false → HasNone (searched search) (wanted_by search) all)
-    → (each : EachAsked) → IsFit rows settings words each (Some search) → not found ≡ true → IsGrantedNothing rows settings words each user
-passed_over rows settings words user search all found are none (Changed old new) fit not = absurd fit
-passed_over rows settings words user search all found are none (Granted text mask) fit not = λ answer why.
+pub passed_over : (rows : List AccountRow) (settings : Settings) (words : List NamedWord) (user : SidValue) (search : Search) (all : List SidValue)
+    → all ≡ starts (is_some settings.logon) user words → HasNone (searched search) (wanted_by search) all
+    → (each : EachAsked) → IsFit rows settings words each (Some search) → IsGrantedNothing rows settings words each user
+passed_over rows settings words user search all are none (Changed old new) fit = absurd fit
+passed_over rows settings words user search all are none (Granted text mask) fit = λ answer why.
     let same : all ≡ starts false user [] =
     are ∙ ap (λ (ws : List NamedWord). starts (is_some settings.logon) user ws) fit.0 ∙ ap (λ (l : Option Logon). starts (is_some l) user []) fit.2.logon in
     let has : HasNone rows (wanted_by search) (starts false user []) =
     subst (λ (ss : List SidValue). HasNone rows (wanted_by search) ss) same
-    (subst (λ (rs : List AccountRow). HasNone rs (wanted_by search) all) fit.1 (none (not_found found not))) in
+    (subst (λ (rs : List AccountRow). HasNone rs (wanted_by search) all) fit.1 none) in
     passed rows settings text mask (wanted_by search) user fit.2 has why.arguments
     (subst (λ (ws : List NamedWord). AreOfAccount rows (is_some settings.logon) user mask ws (texts why.arguments)) fit.0 why.are_of) answer why.answers
+
+pub none_found : {A : Type 0} (found : Option A) {P Q : Type 0} → (P → Q) → IfNone found P → IfNone found Q
+none_found None more is = more is
+none_found (Some one) more is = is
 
 -- ---- whom the search is for
 

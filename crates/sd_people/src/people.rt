@@ -1,5 +1,5 @@
 //! What is said about each user.
-ghost use Rattle.std.specs.Prelude.{◌≡◌, ◌||◌, ℕ, IfOk, List, Some, [], drop, is_some, true};
+ghost use Rattle.std.specs.Prelude.{◌≡◌, ◌||◌, ℕ, IfNone, IfOk, IfSome, List, Some, [], drop, is_some};
 ghost use Rattle.sd_answer.specs.Word.{texts};
 ghost use Rattle.sd_sid.specs.Sid.{SidValue};
 ghost use Rattle.sd_accounts.specs.Accounts.{rows_of};
@@ -125,7 +125,7 @@ struct Asker<'a> {
     readings: &'a Readings,
 }
 
-impl Asker<'_> {
+impl<'a> Asker<'a> {
     /// What is said of the users in turn; or the first answer that is a fault.
     fn of_all(
         &self,
@@ -144,11 +144,10 @@ impl Asker<'_> {
         let mut left = false;
         for user in users {
             let starts = self.naming.starts(has_logon, &user.0, self.words)?;
-            let passed = passes_over(search, &starts)?;
-            if passed {
+            let Some(member) = self.member_asked(search, &starts)? else {
                 continue;
-            }
-            match self.of_user(each, &starts, &user.0, user.1)? {
+            };
+            match self.of_member(each, &member, &user.0, user.1)? {
                 People::Fault(answer) => return Ok(People::Fault(answer)),
                 People::Told {
                     told: mut more,
@@ -162,23 +161,48 @@ impl Asker<'_> {
         Ok(People::Told { told, left })
     }
 
-    fn of_user(
+    /// The groups of who has these SIDs; none where nothing is granted to it, as the search says without asking `why`.
+    fn member_asked<'s, 'b>(
+        &self,
+        search: &mut Option<Search<'s>>,
+        own: &'b [Sid],
+    ) -> Result<Option<Membership<'b>>, AllocError>
+    where
+        'a: 'b,
+        's: 'b,
+        ensures member { (settings : Settings) (words : List NamedWord) (each : EachAsked)
+            → IsFit (rows_of self.now.naming.accounts.now) settings words each search.old
+            → IfOk result (λ found. IfSome found (λ member.
+            (member.rows ≡ rows_of self.now.naming.accounts.now) × (member.starts ≡ own.now))) }
+        ensures passed { (rows : List AccountRow) (settings : Settings) (words : List NamedWord) (each : EachAsked)
+            (user : SidValue) → own.now ≡ starts (is_some settings.logon) user words
+            → IsFit rows settings words each search.old
+            → IfOk result (λ found. IfNone found (IsGrantedNothing rows settings words each user)) }
+        ensures fit { (rows : List AccountRow) (settings : Settings) (words : List NamedWord) (each : EachAsked)
+            → IsFit rows settings words each search.old → IsFit rows settings words each search.new }
+    {
+        match search {
+            Some(search) => search.find(own),
+            None => Ok(Some(self.naming.accounts.membership(self.naming.alloc, own)?)),
+        }
+    }
+
+    fn of_member(
         &self,
         each: OfEach<'_>,
-        own: &[Sid],
+        member: &Membership<'_>,
         user: &Sid,
         name: &str,
     ) -> Result<People, AllocError>
-        requires own { own.now
-            ≡ starts (is_some self.now.settings.now.logon) user.now self.now.words.now }
+        requires member { IsMemberOf (rows_of self.now.naming.accounts.now) self.now.settings.now self.now.words.now
+            user.now member.now }
         requires ready { AreReady self.now.settings.now self.now.words.now (each_of each) self.now.readings.now }
         ensures { IfOk result (λ people. IsOfUser (rows_of self.now.naming.accounts.now) self.now.settings.now
             self.now.words.now (each_of each.entry) (user.now, name.now) (people_of people)) }
     {
-        let member = self.naming.accounts.membership(self.naming.alloc, own)?;
         match each {
-            OfEach::Granted { text, mask } => self.granted(text, mask, &member, user, name),
-            OfEach::Changed { old, new } => self.changed(old, new, &member, user, name),
+            OfEach::Granted { text, mask } => self.granted(text, mask, member, user, name),
+            OfEach::Changed { old, new } => self.changed(old, new, member, user, name),
         }
     }
 
@@ -283,21 +307,6 @@ impl Asker<'_> {
         let question = TextCommand::Descriptor(DescriptorCommand::Why);
         answer_question(alloc, self.settings, question, text, &arguments)
     }
-}
-
-/// Whether nothing is granted to who has these SIDs, as the search says without asking `why`.
-fn passes_over(search: &mut Option<Search<'_>>, own: &[Sid]) -> Result<bool, AllocError>
-    ensures passed { (rows : List AccountRow) (settings : Settings) (words : List NamedWord) (each : EachAsked)
-        (user : SidValue) → own.now ≡ starts (is_some settings.logon) user words
-        → IsFit rows settings words each search.old → IfOk result (λ passed. passed ≡ true
-        → IsGrantedNothing rows settings words each user) }
-    ensures fit { (rows : List AccountRow) (settings : Settings) (words : List NamedWord) (each : EachAsked)
-        → IsFit rows settings words each search.old → IsFit rows settings words each search.new }
-{
-    let Some(search) = search else {
-        return Ok(false);
-    };
-    Ok(!search.finds(own)?)
 }
 
 fn after_first(sids: &[Sid]) -> &[Sid]

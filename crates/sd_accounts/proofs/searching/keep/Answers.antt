@@ -1,4 +1,4 @@
-use Rattle.std.proofs.Common.{subst, sym, take, true, ◌+◌}
+use Rattle.std.proofs.Common.{subst, sym, take, ◌+◌}
 use Rattle.indexmap.specs.IndexMap.{keys}
 use Rattle.sd_accounts.specs.Wanted.{Keeps}
 use Rattle.sd_accounts.proofs.Indexed.{key_found}

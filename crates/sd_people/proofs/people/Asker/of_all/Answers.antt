@@ -1,5 +1,5 @@
 -- One user more; and a fault.
-use Rattle.std.proofs.Common.{ap, subst, ◌∙◌}
+use Rattle.std.proofs.Common.{ap, IfNone, IfSome, subst, ◌∙◌, ◌≡◌}
 use Rattle.sd_accounts.specs.Accounts.{rows_of}
 use Rattle.sd_accounts.specs.Users.{named_user}
 use Rattle.sd_named.specs.Arguments.{starts}
@@ -11,11 +11,6 @@ use Rattle.sd_people.proofs.people.Asker.of_all.Goals as goal
 pub loop-user-init : goal.loop-user-init
 loop-user-init c = record { told = rw c.new-told.ensures.items nobody; fit = c.requires.fit }
 
-pub of_user-requires-clause-own : goal.of_user-requires-clause-own
-of_user-requires-clause-own c =
-    let asker = c.args.self.now in
-    c.deref-in-loop-user.ensures.value ∙ c.in_ok-starts.ensures ∙ ap (λ b. starts b c.user-item.result.0 asker.words.now) c.is_some-has_logon.ensures
-
 pub returns-in-Fault : goal.returns-in-Fault
 returns-in-Fault c =
     let asker = c.args.self.now in
@@ -23,6 +18,13 @@ returns-in-Fault c =
     let is = subst (λ p. IsOfUser (rows_of asker.naming.accounts.now) asker.settings.now asker.words.now (each_of c.args.each) (named_user user) (people_of p))
     c.in-Fault.is c.in_ok-answer.ensures in
     (named_user user, at_place c.args.users.now c.loop-user.user-index user c.loop-user-test.true c.user-item.is, is)
+
+pub of_member-requires-clause-member : goal.of_member-requires-clause-member
+of_member-requires-clause-member c =
+    let asker = c.args.self.now in
+    let are = subst (λ o. IfSome o (λ m. (m.rows ≡ rows_of asker.naming.accounts.now) × (m.starts ≡ c.deref.result.now))) c.in-Some.is
+    (c.in_ok-member.ensures.member asker.settings.now asker.words.now (each_of c.args.each) c.loop-user.invariant.fit) in
+    (are.0, are.1 ∙ c.deref.ensures.value ∙ c.in_ok-starts.ensures ∙ ap (λ b. starts b c.user-item.result.0 asker.words.now) c.is_some-has_logon.ensures)
 
 pub loop-user-preserved : goal.loop-user-preserved
 loop-user-preserved c =
@@ -36,19 +38,20 @@ loop-user-preserved c =
       told = rw c.either-left.ensures
           (one_more rows asker.settings.now asker.words.now each c.args.users.now c.loop-user.user-index user c.loop-user.told.items c.in-Told.more.items
           c.append.new.self.items c.loop-user.left c.in-Told.some c.loop-user-test.true c.loop-user.invariant.told is c.in_ok-append-in-Told.ensures.items);
-      fit = c.passes_over.ensures.fit rows asker.settings.now asker.words.now each c.loop-user.invariant.fit;
+      fit = c.member_asked.ensures.fit rows asker.settings.now asker.words.now each c.loop-user.invariant.fit;
     }
 
-pub loop-user-preserved-then-passed : goal.loop-user-preserved-then-passed
-loop-user-preserved-then-passed c =
+pub loop-user-preserved-in_default : goal.loop-user-preserved-in_default
+loop-user-preserved-in_default c =
     let asker = c.args.self.now in
     let rows = rows_of asker.naming.accounts.now in
     let each = each_of c.args.each in
     let user = c.user-item.result in
-    let nothing = c.in_ok-passed.ensures.passed rows asker.settings.now asker.words.now each user.0
-    (c.deref.ensures.value ∙ c.in_ok-starts.ensures ∙ ap (λ b. starts b user.0 asker.words.now) c.is_some-has_logon.ensures) c.loop-user.invariant.fit c.if-passed.true in
+    let own = c.deref.ensures.value ∙ c.in_ok-starts.ensures ∙ ap (λ b. starts b user.0 asker.words.now) c.is_some-has_logon.ensures in
+    let nothing = subst (λ o. IfNone o (IsGrantedNothing rows asker.settings.now asker.words.now each user.0)) c.in_default.is
+    (c.in_ok-member.ensures.passed rows asker.settings.now asker.words.now each user.0 own c.loop-user.invariant.fit) in
     record {
       told = one_passed rows asker.settings.now asker.words.now each c.args.users.now c.loop-user.user-index user c.loop-user.told.items c.loop-user.left
           c.loop-user-test.true c.loop-user.invariant.told (subst (λ u. IsGrantedNothing rows asker.settings.now asker.words.now each u.0) c.user-item.is nothing);
-      fit = c.passes_over.ensures.fit rows asker.settings.now asker.words.now each c.loop-user.invariant.fit;
+      fit = c.member_asked.ensures.fit rows asker.settings.now asker.words.now each c.loop-user.invariant.fit;
     }
