@@ -39,7 +39,9 @@ def route(request: Request, method: str, target: str, fields: dict[str, str], bo
         try:
             if role == "edit" and not request.caller.may_somewhere(role):
                 refused = f"{method} {path}"
-                request.service.edits.refuse(refused, request.caller, lambda task: request.reply(fault_response(task.answer)))
+                request.service.edits.refuse(
+                    refused, request.caller, lambda task: request.reply(fault_response(task.answer)), request.origin
+                )
                 return
             if not request.caller.may_somewhere(role):
                 raise Fault(NO_ROLE)
@@ -95,14 +97,14 @@ def _ask(
 
     async def later() -> None:
         try:
-            reply(*await service.long_checks(lines, caller, Reader(), request.asker.hold))
+            reply(*await service.long_checks(lines, caller, Reader(), request.asker.hold, request.origin))
         except Fault as fault:
             request.reply(fault_response(fault.answer))
 
     if takes_long:
         request.asker.start_long(later())
     else:
-        reply(service.shown, (service.answer(words, caller, Reader()) for words in lines))
+        reply(service.shown, (service.answer(words, caller, Reader(), request.origin) for words in lines))
 
 
 def _check(request: Request) -> None:

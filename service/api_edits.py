@@ -69,7 +69,7 @@ def _submit(request: Request, lines: Sequence[list[str]]) -> None:
 
     try:
         given = [[*key, *words] for key, words in zip(keys, lines)]
-        request.service.edits.submit(given, request.caller, reply, only_if)
+        request.service.edits.submit(given, request.caller, reply, only_if, request.origin)
     except Fault as fault:
         # None of them is made.
         who = request.caller.who

@@ -8,6 +8,7 @@ from typing import Any, Protocol
 from answers import Result
 from caller import Caller
 from json_request import Given
+from origin import UNNAMED, Origin
 from service import Service
 from shown import Shown
 
@@ -39,6 +40,7 @@ class Request:
     reply: Callable[[Response], None]
     asker: Asker
     given: Given = Given({}, "json")
+    origin: Origin = UNNAMED
 
 
 #: By the names of faults; the others are BAD_REQUEST.

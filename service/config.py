@@ -16,6 +16,8 @@ ROLES = ("watch", "check", "follow", "edit")
 #: Those that may be for a path: the others are about the whole store.
 _ROLES_BELOW = ("check", "edit")
 PROTOCOLS = ("lines", "http")
+#: The decisions that may be logged.
+DECISIONS = ("none", "denied", "all")
 #: The most bytes of a Unix socket's path, of which the system has an array with a zero at its end.
 _SOCKET_BYTES = 107
 
@@ -107,8 +109,8 @@ class Config:
     listen: tuple[Listen, ...]
     source: Source | None = None
     limits: Limits = Limits()
-    #: Whether each check that isn't granted has a record in the log.
-    logs_denials: bool = False
+    #: Which decisions have a record in the log.
+    decisions: str = "none"
     #: The file that says which groups a user has. Without one clients say so.
     accounts: Path | None = None
 
@@ -130,14 +132,18 @@ def read_config(file: Path) -> Config:
 def _config(given: dict[str, Any]) -> Config:
     _know(given, {"folder", "listen", "accounts", "leader", "redis", "limits", "log"}, "")
     log = _typed(given, "log", dict, {})
-    _know(log, {"denials"}, "log: ")
+    if "denials" in log:
+        raise ValueError("log: 'denials' is replaced: write decisions = \"denied\" for true, and nothing for false")
+    _know(log, {"decisions"}, "log: ")
+    decisions = _typed(log, "decisions", str, "none")
+    if decisions not in DECISIONS:
+        raise ValueError(f"log: decisions: {decisions!a} is none of {', '.join(DECISIONS)}")
     listen = tuple(_listen(each) for each in _typed(given, "listen", list))
     names = [each.name for each in listen]
     if not listen or len(set(names)) != len(names):
         raise ValueError("listen: at least one is required, and each at a place of its own")
     limits = _limits(_typed(given, "limits", dict, {}))
-    denials = _typed(log, "denials", bool, False)
-    return Config(Path(_typed(given, "folder", str)), listen, _source(given), limits, denials, _accounts(given))
+    return Config(Path(_typed(given, "folder", str)), listen, _source(given), limits, decisions, _accounts(given))
 
 
 def _accounts(config: dict[str, Any]) -> Path | None:

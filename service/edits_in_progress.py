@@ -14,6 +14,7 @@ from errors import Fault
 from logs import Log, in_json
 from long_answers import BUSY, STOPPING
 from metrics import Metrics
+from origin import UNNAMED, Origin
 from questions import Questions
 from shown import Shown
 from task import UNMADE, Task
@@ -47,20 +48,21 @@ class EditsInProgress:
         self._hand_over()
 
     def submit(
-        self, lines: Sequence[list[str]], caller: Caller, reply: Callable[[Task], None], only_if: int | None = None
+        self, lines: Sequence[list[str]], caller: Caller, reply: Callable[[Task], None], only_if: int | None = None,
+        origin: Origin = UNNAMED,
     ) -> None:
         """Has the writer make an edit or publish, or several, all or none and only if so many edits are published; and
         calls `reply` once that is answered. Fault: nothing is carried out, and there is no reply."""
         for words in lines:
             if not caller.may_do("edit", words):
-                self.refuse(" ".join(words), caller, reply)
+                self.refuse(" ".join(words), caller, reply, origin)
                 return
         if len(lines) == 1 and only_if is None:
-            task = self._task(lines[0], caller, reply)
+            task = self._task(lines[0], caller, reply, origin)
             if task.answer:
                 raise Fault(task.answer)
         else:
-            parts = [self._task(words, caller, reply) for words in lines]
+            parts = [self._task(words, caller, reply, origin) for words in lines]
             task = Task(None, "", "", caller.who, reply, parts=parts, only_if=only_if)
             if any(part.answer for part in parts):
                 task.settle(UNMADE)
@@ -96,7 +98,7 @@ class EditsInProgress:
             raise Fault(BUSY)
         self.count, self._length = count, length
 
-    def _task(self, words: list[str], caller: Caller, reply: Callable[[Task], None]) -> Task:
+    def _task(self, words: list[str], caller: Caller, reply: Callable[[Task], None], origin: Origin) -> Task:
         """An edit or publish of these words, or one that is answered by its fault."""
         try:
             key, words = script.without_key(words)
@@ -104,19 +106,20 @@ class EditsInProgress:
                 if words[1:] not in ([], [ALL]):
                     raise Fault.of("words")
                 may_make = None if caller.may("edit") else functools.partial(caller.may_do, "edit")
-                return Task(None, PUBLISH, key, caller.who, reply, of_all=len(words) > 1, may_make=may_make)
+                of_all = len(words) > 1
+                return Task(None, PUBLISH, key, caller.who, reply, of_all=of_all, may_make=may_make, origin=origin)
             edit = edit_of(words, self._questions.shown.view)
-            return Task(edit, edit.line(), key, caller.who, reply)
+            return Task(edit, edit.line(), key, caller.who, reply, origin=origin)
         except (Fault, MemoryError) as error:
             return Task(None, "", "", caller.who, reply, error.answer if isinstance(error, Fault) else NO_MEMORY)
 
-    def refuse(self, asked: str, caller: Caller, reply: Callable[[Task], None]) -> None:
+    def refuse(self, asked: str, caller: Caller, reply: Callable[[Task], None], origin: Origin) -> None:
         """Answers an edit of a client that may not edit: `fault role`, once its record is written. Fault: none is."""
         if not self._log.takes_records:
             raise Fault(NO_RECORD)
         if self._log.left_out("edit") is None:
             raise Fault(BUSY)
-        task = Task(None, asked[:_REFUSED_LENGTH], "", caller.who, reply, NO_ROLE)
+        task = Task(None, asked[:_REFUSED_LENGTH], "", caller.who, reply, NO_ROLE, origin=origin)
         self.count += 1
         self._length += len(task.line)
         if self._record([task], functools.partial(self._reply, [task])):
@@ -140,7 +143,7 @@ class EditsInProgress:
         # (to encode the fields of a record together takes longer)
         return self._log.records("edit", [
             f'"who": {in_json(each.who)}, "key": {in_json(each.key)}, "line": {in_json(each.line)}, '
-            f'"answer": {in_json(each.answer.line())}, "number": {each.number}'
+            f'"answer": {in_json(each.answer.line())}, "number": {each.number}{each.origin.text()}'
             for task in tasks for each in task.parts or (task,)
         ], functools.partial(self._loop.call_soon_threadsafe, then))
 

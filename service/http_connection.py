@@ -8,6 +8,7 @@ from http import HTTPStatus
 from api import route
 from api_request import Request, Response
 from connection import Connection, Place
+from origin import origin_of
 from service import Service
 
 _HEAD_BYTES = 16 << 10
@@ -16,7 +17,7 @@ _END = b"\r\n\r\n"
 _SMALL = 1 << 15
 _CONTINUE = b"HTTP/1.1 100 Continue\r\n\r\n"
 #: The fields of a head that are used: the others aren't kept.
-_USED = frozenset({"connection", "content-length", "content-type", "expect"})
+_USED = frozenset({"connection", "content-length", "content-type", "expect", "traceparent", "x-request-id"})
 _NAME = frozenset(b"!#$%&'*+-.^_`|~0123456789abcdefghijklmnopqrstuvwxyzABCDEFGHIJKLMNOPQRSTUVWXYZ")
 
 
@@ -104,7 +105,8 @@ class HttpConnection(Connection):
             self._answer(response, head.closes)
             self.finished()
 
-        route(Request(self.service, self.caller, reply, self), head.method, head.target, head.fields, body)
+        request = Request(self.service, self.caller, reply, self, origin=origin_of(head.fields))
+        route(request, head.method, head.target, head.fields, body)
 
     def _answer(self, response: Response, closes: bool) -> None:
         kind, content = "application/json", response.body

@@ -6,6 +6,7 @@ from collections.abc import Iterator, Sequence
 from answers import Answer
 from connection import Connection, Place
 from errors import Fault
+from origin import UNNAMED, Origin
 from script import LONG, OF_LINES, OF_WRITER, Reader
 from service import Service
 from task import Task
@@ -70,13 +71,17 @@ class LineConnection(Connection):
             if words[0] in LONG or self.service.takes_long(words, self.caller):
                 self._start_long(words, tag)
                 return True
-            answer = self.service.answer(words, self.caller, self._reader)
+            answer = self.service.answer(words, self.caller, self._reader, self._origin(tag))
         except Fault as fault:
             if self.in_progress:
                 return False
             answer = fault.answer
         said.append(_lines_of(tag, answer, words[0]))
         return True
+
+    def _origin(self, tag: str) -> Origin:
+        """What a question is called, where the log has it."""
+        return Origin(tag[:-1]) if self.service.decisions.are_logged else UNNAMED
 
     def _submit(self, words: list[str], tag: str) -> bool:
         if self.in_progress >= self.service.limits.edits_of_client:
@@ -86,7 +91,7 @@ class LineConnection(Connection):
             self.send(f"{tag}{task.answer.line()}\n".encode())
             self.finished()
 
-        self.service.edits.submit([words], self.caller, reply)
+        self.service.edits.submit([words], self.caller, reply, origin=Origin(tag[:-1]))
         self.in_progress += 1
         return True
 
@@ -102,7 +107,9 @@ class LineConnection(Connection):
                     words, self.caller, self._reader, lambda _, lines: _pieces(tag, lines), self.hold
                 )
             else:
-                _, said = await self.service.long_checks([words], self.caller, self._reader, self.hold)
+                _, said = await self.service.long_checks(
+                    [words], self.caller, self._reader, self.hold, self._origin(tag)
+                )
                 answer = _lines_of(tag, said[0], words[0]).encode()
         except Fault as fault:
             answer = _lines_of(tag, fault.answer, words[0]).encode()

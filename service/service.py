@@ -17,10 +17,11 @@ import clock
 import leading
 import script
 from accounts import Accounts
-from answers import NO_MEMORY, NO_RECORD, Answer, Checked, CheckedAll, Result, Text, kind_of
+from answers import NO_MEMORY, NO_RECORD, Answer, Checked, CheckedAll, Result, Text
 from caller import Caller
 from config import Config
 from deadline import Deadline
+from decisions import Decisions
 from edits_in_progress import EditsInProgress
 from errors import Fault, Mismatch, ServiceError
 from following import Following, feed_of, stream_of
@@ -30,6 +31,7 @@ from loading import Loaded
 from logs import Log
 from long_answers import LongAnswers, Work
 from metrics import Metrics, seconds_since
+from origin import UNNAMED, Origin
 from questions import Questions
 from rarely import Rarely
 from shown import Shown
@@ -43,8 +45,8 @@ FAILED = Result("unavailable", "failed")
 #: What makes the bytes of an answer of its lines, by what was published then; and what learns how many there are.
 Form = Callable[[Shown, Iterator[Answer]], Iterable[bytes]]
 Hold = Callable[[int], None]
-#: The answers to checks. One that is answered so is logged where denials are.
-_CHECKS, _DENIALS = (Checked, CheckedAll), ("denied", "reserved")
+#: The answers that are counted as checks.
+_CHECKS = (Checked, CheckedAll)
 #: A warning is in the log after so many seconds, or isn't waited for.
 _WARNING_SECONDS = 1.0
 
@@ -54,7 +56,7 @@ class Service:
 
     def __init__(self, config: Config, journal: Journal, state: Loaded, log: Log, accounts: Accounts | None) -> None:
         self.limits, self.log, self.metrics = config.limits, log, Metrics()
-        self._logs_denials = config.logs_denials
+        self.decisions = Decisions(config.decisions, log)
         self._loop, self._thread = asyncio.get_running_loop(), threading.get_ident()
         self._journal = journal
         source, name = config.source, f"{socket.gethostname()} {secrets.token_hex(8)}"
@@ -107,7 +109,9 @@ class Service:
             turn = self._turns[who] = Turn()
         return turn
 
-    def answer(self, words: Sequence[str], caller: Caller, reader: script.Reader) -> Answer:
+    def answer(
+        self, words: Sequence[str], caller: Caller, reader: script.Reader, origin: Origin = UNNAMED
+    ) -> Answer:
         """The answer to a question that doesn't take long. Fault: there is none."""
         began = time.perf_counter()
         caller.require_for("check", words)
@@ -120,17 +124,17 @@ class Service:
             said = script.answer(words, self.questions.unchained() if hides else self.questions, reader)
         except MemoryError:
             raise Fault(NO_MEMORY) from None
-        if not self._is_counted(words, said, caller, began):
+        if not self._is_counted(words, said, caller, origin, began):
             raise Fault(NO_RECORD)
         return said
 
-    def _is_counted(self, words: Sequence[str], said: Answer, caller: Caller, began: float) -> bool:
-        """Counts an answer, if it is that of a check. False: it has to be in the log, which doesn't take it."""
+    def _is_counted(
+        self, words: Sequence[str], said: Answer, caller: Caller, origin: Origin, began: float
+    ) -> bool:
+        """Counts an answer, if it is that of a check, and logs it, if that is asked for. False: it has to be in the log, which doesn't take it."""
         if isinstance(said, _CHECKS):
             self.metrics.count_checks(said, time.perf_counter() - began)
-            if self._logs_denials and any(kind_of(verdict) in _DENIALS for verdict in said.verdicts):
-                return self.log.event("denial", who=caller.who, asked=" ".join(words), answer=said.line())
-        return True
+        return not self.decisions.are_logged or self.decisions.log(words, said, caller.who, origin)
 
     def takes_long(self, words: Sequence[str], caller: Caller) -> bool:
         """Whether a question that isn't about many nodes is answered by `long_checks`."""
@@ -156,7 +160,8 @@ class Service:
         return await self._made(kind, who, prepare, hold)
 
     async def long_checks(
-        self, lines: Sequence[Sequence[str]], caller: Caller, reader: script.Reader, hold: Hold
+        self, lines: Sequence[Sequence[str]], caller: Caller, reader: script.Reader, hold: Hold,
+        origin: Origin = UNNAMED,
     ) -> tuple[Shown, list[Answer]]:
         """The answers to questions that take long, though they aren't about many nodes: all as of one moment, and what
         was published then. Fault: there is none."""
@@ -170,7 +175,7 @@ class Service:
         await self._made("edit" if caller.role == "edit" else "check", caller.who, prepare, hold)
         [(questions, answers)] = found
         self.questions.tokens.adopt(questions.tokens)
-        if not all([self._is_counted(words, said, caller, began) for words, said in zip(lines, answers)]):
+        if not all([self._is_counted(words, said, caller, origin, began) for words, said in zip(lines, answers)]):
             raise Fault(NO_RECORD)
         return questions.shown, answers
 

@@ -8,6 +8,7 @@ from answers import NO_MEMORY, OTHER_KEY, UNANSWERED, Result
 from edits import Edit
 from entry import Batch
 from loading import Loaded, Moment
+from origin import UNNAMED, Origin
 
 #: The answer to an edit that isn't made, since another one that was sent with it isn't.
 UNMADE = Result("unmade")
@@ -37,6 +38,8 @@ class Task:
     #: client may make it, unless it may make each.
     of_all: bool = False
     may_make: Callable[[Sequence[str]], bool] | None = None
+    #: What its request is called.
+    origin: Origin = UNNAMED
 
     @property
     def each(self) -> Sequence["Task"]:

@@ -168,26 +168,36 @@ class Costs(rig.Case):
         say(f"start with a full tree from a snapshot; {self.memory() / 1024:.0f} MiB then", f"{event['seconds']} s",
             f"{self.processor():.2f} s")
         paths = [f"/{folder}/{number}" for folder in range(250) for number in range(0, 256, 8)]
-        singles = itertools.cycle(paths)
         with self.connect() as asked:
-            def single() -> int:
-                asked.send(b"x check 0 %s %s FR BU\n" % (next(singles).encode(), rig.USER.encode()))
-                assert asked.read().startswith(b"x seen")
-                return 1
-
-            self.say_rate("checks over the Unix socket, one client, each after the answer before", single)
-            batch = f"x checks 0 100 {' '.join(paths[:100])} {rig.USER} FR BU\n".encode()
-
-            def hundred() -> int:
-                asked.send(batch)
-                assert asked.read().count(b"granted") == 100
-                return 100
-
-            self.say_rate("the same in batches of 100", hundred)
+            single = self.checks(asked, paths, "")
             for line in (f"find 0 / {rig.USER} FR BU", "list", "review"):
                 self.whole(asked, line, "of a full tree")
             self.beside_edits(single)
         self.stop()
+        self.start(more='[log]\ndecisions = "all"')
+        with self.connect() as asked:
+            self.checks(asked, paths, ", all decisions logged")
+        self.stop()
+
+    def checks(self, asked: rig.Lines, paths: list[str], where: str) -> Callable[[], int]:
+        """Says how many are answered; one is made by what it returns."""
+        singles = itertools.cycle(paths)
+
+        def single() -> int:
+            asked.send(b"x check 0 %s %s FR BU\n" % (next(singles).encode(), rig.USER.encode()))
+            assert asked.read().startswith(b"x seen")
+            return 1
+
+        self.say_rate(f"checks over the Unix socket, one client, each after the answer before{where}", single)
+        batch = f"x checks 0 100 {' '.join(paths[:100])} {rig.USER} FR BU\n".encode()
+
+        def hundred() -> int:
+            asked.send(batch)
+            assert asked.read().count(b"granted") == 100
+            return 100
+
+        self.say_rate(f"the same in batches of 100{where}", hundred)
+        return single
 
     def whole(self, asked: rig.Lines, line: str, what: str) -> None:
         """A question that looks at each node."""

@@ -17,7 +17,9 @@ REJECTED = (
     ("more = 1", "'more' is unknown"),
     ("[limits]\nconnections = 0", "connections: a whole number of at least 1"),
     ("[limits]\nconnections = true", "connections: a whole number of at least 1"),
-    ("[log]\ndenials = 1", "denials: a value of the type bool"),
+    ("[log]\ndenials = true", "'denials' is replaced: write decisions = \"denied\""),
+    ("[log]\ndecisions = true", "decisions: a value of the type str"),
+    ('[log]\ndecisions = "granted"', "decisions: 'granted' is none of none, denied, all"),
     ("[accounts]", "accounts: file: a path is required"),
     ('[accounts]\nfile = ""', "accounts: file: a path is required"),
     ("[accounts]\nfile = true", "file: a value of the type str"),
@@ -84,7 +86,7 @@ class Configs(rig.Case):
         self.assertEqual({name: found[f"limits.{name}"] for name in limits}, limits)
         known = {f"limits.{name}" for name in limits} | {f"leader.{each.name}" for each in fields(Source)}
         known |= {f"redis.{each.name}" for each in fields(Source)} | {f"listen.{each.name}" for each in fields(Listen)}
-        known = known - {"leader.stream", "leader.lease_seconds"} | {"folder", "accounts.file", "log.denials"}
+        known = known - {"leader.stream", "leader.lease_seconds"} | {"folder", "accounts.file", "log.decisions"}
         self.assertEqual(set(found), known)
 
     def test_sources(self) -> None:

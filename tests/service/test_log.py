@@ -60,7 +60,7 @@ class Logs(rig.Case):
 
     def test_events_that_are_too_many(self) -> None:
         log, _ = self.log_to_pipe()
-        taken = sum(log.event("denial", text="x" * 1000) for _ in range(3000))
+        taken = sum(log.event("decision", text="x" * 1000) for _ in range(3000))
         self.assertEqual(taken + log.lost, 3000)
         self.assertGreater(log.lost, 1000)
         # (what records of edits have is beyond that)
@@ -145,7 +145,7 @@ class Services(rig.Case):
         self.make()
         out, into = os.pipe()
         with open(out, "rb"), open(into, "wb") as end:
-            self.start_into(end.fileno(), "[log]\ndenials = true")
+            self.start_into(end.fileno(), '[log]\ndecisions = "denied"')
             with self.connect() as asked:
                 said: list[bytes] = []
                 for _ in range(40):

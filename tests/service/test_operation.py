@@ -1,5 +1,6 @@
 """What an operator sees: the records of the log, what systemd is sent, and when a service is ready."""
 
+import json
 import os
 import signal
 import socket
@@ -32,18 +33,18 @@ class Operation(rig.Case):
                 ("publish", "", "published 2", 0),
             )):
                 self.assertEqual(asked.ask(f"once {key} {line}" if key else line), answer)
-                record = {"who": WHO, "key": key, "line": line, "answer": answer, "number": number}
+                record = {"who": WHO, "key": key, "line": line, "answer": answer, "number": number, "request": "x"}
                 self.assertEqual(self.records("edit")[at:], [record])
             # What isn't an edit has none, and no check that is denied has one unless that is asked for.
             self.assertEqual(asked.ask("addo /b X"), "fault sddl 1 Syntax at 0")
             self.assertEqual(asked.ask(f"check 0 / {rig.USER} FW"), "seen 2 denied 0x120116")
-        self.assertEqual((len(self.records("edit")), self.records("denial")), (5, []))
+        self.assertEqual((len(self.records("edit")), self.records("decision")), (5, []))
 
     def test_an_edit_of_who_may_not_edit(self) -> None:
         """It has a record before its answer, of either protocol; so many at most that they fill no disk."""
         self.make()
         self.start(allow=f'{{"{WHO}" = "check"}}')
-        record = {"who": WHO, "key": "", "answer": "fault role", "number": 0}
+        record = {"who": WHO, "key": "", "answer": "fault role", "number": 0, "request": "x"}
         with self.connect() as asked:
             for at, line in enumerate(("addo /a O:BAG:SYD:", "publish", f"once k remove /{'x' * 2000}")):
                 self.assertEqual(asked.ask(line), "fault role")
@@ -51,6 +52,7 @@ class Operation(rig.Case):
             with rig.Lines(self.http) as http:
                 http.send(b"POST /v1/edit HTTP/1.1\r\nHost: x\r\nContent-Length: 2\r\n\r\n{}")
                 self.assertEqual(http.read(), b"HTTP/1.1 403 Forbidden\r\n")
+                del record["request"]
                 self.assertEqual(self.records("edit")[3:], [record | {"line": "POST /v1/edit"}])
             # (more than two minutes' records, as a minute may end meanwhile)
             asked.send(b"x publish\n" * 1500)
@@ -59,15 +61,73 @@ class Operation(rig.Case):
         self.assertEqual(len(self.records("edit")), 4 + said.count(b"x fault role\n"))
         self.assertLess(len(self.records("edit")), 1201)
 
-    def test_denials(self) -> None:
+    def test_decisions(self) -> None:
+        """Those that are denied, or all: each answer with a verdict, whoever makes it, and no other."""
         self.make()
-        self.start(more="[log]\ndenials = true")
-        asked = [f"check 0 / {rig.USER} FR BU", f"check 0 / {rig.USER} FW BU", f"checks 0 2 / /x {rig.USER} FW",
-                 f"check 0 /x {rig.USER} FW"]
-        answers = ["seen 0 granted 0x120089", "seen 0 denied 0x116", "seen 0 denied 0x120116, nonode", "seen 0 nonode"]
-        self.assertEqual(self.said(*asked), answers)
-        wanted = [{"who": WHO, "asked": asked[at], "answer": answers[at]} for at in (1, 2)]
-        self.wait_for(lambda: self.records("denial") == wanted)
+        many = " ".join(f"S-1-5-21-1-2-3-{at}" for at in range(300))
+        asked = [
+            (f"check 0 / {rig.USER} FR BU", ["BU"], "FR", ["/"], ["granted 0x120089"]),
+            (f"check 0 / {rig.USER} FW BU", ["BU"], "FW", ["/"], ["denied 0x116"]),
+            (f"checks 0 3 / /%20x / {rig.USER} FW", [], "FW", ["/", "/%20x", "/"], ["denied 0x120116", "nonode", "denied 0x120116"]),
+            (f"check 0 /x {rig.USER} FW", [], "FW", ["/x"], ["nonode"]),
+            (f"why 0 / {rig.USER} FW", [], "FW", ["/"], ["denied 0x120116"]),
+            (f"delete 0 / {rig.USER}", [], "SD", ["/"], ["denied"]),
+            (f"check 0 / {rig.USER} FW {many}", many.split(" "), "FW", ["/"], ["denied 0x120116"]),
+            (f"check 0 / {rig.USER} 0", [], "0", ["/"], ["empty"]),
+        ]
+        for which in ("denied", "all"):
+            self.start(more=f'[log]\ndecisions = "{which}"')
+            wanted = []
+            with self.connect() as lines:
+                for line, words, mask, paths, answers in asked:
+                    lines.send(f"x {line}\nx tell\n".encode())
+                    while lines.read() != b"x told 0\n":
+                        pass
+                    at = [place for place, each in enumerate(answers) if which == "all" or each.startswith("denied")]
+                    if at:
+                        wanted.append({
+                            "who": WHO, "asked": line.split(" ")[0], "user": rig.USER, "words": words, "mask": mask, "seen": 0,
+                            "paths": [paths[place] for place in at], "answers": [answers[place] for place in at], "request": "x"})
+                for line in ("show 0 /", "status", "check 0 x BU FR", f"find 0 / {rig.USER} FW"):
+                    lines.send(f"x {line}\n".encode())
+                self.wait_for(lambda: self.records("decision")[len(wanted) - 1 :] != [])
+            self.assertEqual(self.records("decision"), wanted)
+            self.kill()
+
+    def test_what_requests_are_called(self) -> None:
+        """By the fields of a head, where these are valid; nobody writes a line of the log, or another member, by them."""
+        self.make()
+        self.start(more='[log]\ndecisions = "all"')
+        trace = "00-4bf92f3577b34da6a3ce929d0e0e4736-00f067aa0ba902b7-01"
+        check = {"user": rig.USER, "checks": [{"path": "/", "mask": "FR"}]}
+        edit = {"edits": [{"edit": "remove", "path": "/none"}]}
+        for request, parent, named in (
+            ("a-1", trace, {"request": "a-1", "traceparent": trace}), ("x" * 100, "", {"request": "x" * 100}),
+            ("x" * 101, trace + "-more", {}), ("a b", trace.upper(), {}), ("a\tb", "", {}), ("", trace + " ", {"traceparent": trace}),
+            ('","who":"cn:root"}', "ff" + trace[2:], {"request": '","who":"cn:root"}'}),
+            ("\\u000a", "01" + trace[2:] + "-more", {"request": "\\u000a", "traceparent": "01" + trace[2:]}),
+            ("1", f"00-{'0' * 32}-00f067aa0ba902b7-01", {"request": "1"}), ("1", trace[:-3], {"request": "1"}),
+            ("1", f"00-{'4' * 32}-{'0' * 16}-01", {"request": "1"}), ("1", "01" + trace[2:] + "x", {"request": "1"}),
+        ):
+            head = f"X-Request-Id: {request}\r\nTraceParent: {parent}\r\n"
+            for name, body, event in (("check", check, "decision"), ("edit", edit, "edit")):
+                before = len(self.records(event))
+                self.assertIn(self.post(name, body, head), (200, 409))
+                self.wait_for(lambda: len(self.records(event)) > before)
+                [record] = self.records(event)[before:]
+                with self.subTest(head, event=event):
+                    self.assertEqual({each: record[each] for each in record if each in ("request", "traceparent")}, named)
+                    self.assertEqual(record["who"], WHO)
+        for head in ("X-Request-Id: é\r\n", "X-Request-Id: a\r\nx-request-id: b\r\n", "Traceparent: a\nb\r\n", "X-Request-Id: a\0\r\n"):
+            self.assertEqual(self.post("check", check, head), 400)
+
+    def post(self, name: str, body: object, head: str) -> int:
+        """The status of a request."""
+        text = json.dumps(body)
+        with rig.Lines(self.http) as asked:
+            asked.send(f"POST /v1/{name} HTTP/1.1\r\nHost: x\r\nConnection: close\r\n{head}Content-Type: application/json\r\n"
+                       f"Content-Length: {len(text)}\r\n\r\n{text}".encode())
+            return int(asked.rest().split(b" ")[1])
 
     def test_a_warning_that_comes_again(self) -> None:
         """It is there once a minute, with how often it came."""

@@ -22,7 +22,7 @@ from unittest import mock
 import rig
 
 from client import AsyncClient, Client, Rejected, Unavailable
-from config import Limits, Listen
+from config import Grant, Limits, Listen
 from connection import Connection
 from errors import Failed
 from held import Held
@@ -277,7 +277,7 @@ class Memory(unittest.IsolatedAsyncioTestCase):
         for name in ("server", "web"):
             self.ours.sign(name, f"/CN={name}")
         self.listen = Listen("lines", tcp=("127.0.0.1", rig.free_port()), certificate=f"{room}/server.pem",
-                             key=f"{room}/server.key", clients=f"{room}/authority.pem", allow={"cn:web": "check"})
+                             key=f"{room}/server.key", clients=f"{room}/authority.pem", allow={"cn:web": (Grant("check"),)})
 
     async def asyncSetUp(self) -> None:
         limits = Limits(handshake_seconds=rig.PATIENCE)
