@@ -73,8 +73,8 @@ typedef enum hudarin_status {
     HUDARIN_TEXT = 4,
     /* Bytes hold no descriptor, or no entries: the fault is HUDARIN_WIRE_... */
     HUDARIN_WIRE = 5,
-    /* Bytes don't start with a SID: the fault is HUDARIN_SID_... Of groups and restricting SIDs `place` is the index.
-     */
+    /* Bytes don't start with a SID: the fault is HUDARIN_SID_... Of groups, restricting SIDs and owners `place` is the
+     * index. */
     HUDARIN_SID = 6,
     /* More bytes follow the groups than there are states for. `place` is the number of states. */
     HUDARIN_BEHIND_GROUPS = 7,
@@ -114,7 +114,7 @@ typedef enum hudarin_status {
     HUDARIN_WORD = 22,
     /* The last word has no zero byte after it. */
     HUDARIN_UNENDED = 23,
-    /* Object types are more than five, or not of 16 bytes each. */
+    /* Object types are more than five, or not of 16 bytes each; an object's classes aren't of 16 bytes each. */
     HUDARIN_TYPES = 24,
     /* A whole descriptor can't be decided for the question: the fault is HUDARIN_UNDECIDED_.. Of an entry of the DACL it
      * is of the first such one, whose index is `place`. */
@@ -128,7 +128,9 @@ typedef enum hudarin_status {
     HUDARIN_KIND = 28,
     /* The nodes are no tree of object types: the fault is HUDARIN_TREE_.., of the first one that can't stand where it
      * does, whose index is `place`. */
-    HUDARIN_TREE = 29
+    HUDARIN_TREE = 29,
+    /* A new object gets no descriptor: the fault is HUDARIN_CREATE_... */
+    HUDARIN_NOT_CREATED = 30
 } hudarin_status;
 
 /* ---- Faults of a text (HUDARIN_TEXT) */
@@ -293,6 +295,19 @@ typedef enum hudarin_tree_fault {
     HUDARIN_TREE_REPEATED = 5
 } hudarin_tree_fault;
 
+/* ---- Why a new object gets no descriptor (HUDARIN_NOT_CREATED): the first of these */
+
+typedef enum hudarin_create_fault {
+    /* The creator gave an owner that its token may not set. */
+    HUDARIN_CREATE_OWNER = 1,
+    /* The owner is to be the parent's, and there is none. */
+    HUDARIN_CREATE_NO_OWNER = 2,
+    /* The group is to be the parent's, and there is none. */
+    HUDARIN_CREATE_NO_GROUP = 3,
+    /* A list takes more than 65,535 bytes. */
+    HUDARIN_CREATE_TOO_LARGE = 4
+} hudarin_create_fault;
+
 /* ---- Kinds of objects, whose names masks have in words */
 
 typedef enum hudarin_kind {
@@ -350,8 +365,12 @@ typedef enum hudarin_argument {
     /* Those of hudarin_check_types. */
     HUDARIN_ARGUMENT_TREE = 25,
     HUDARIN_ARGUMENT_VERDICTS = 26,
-    /* That of hudarin_check_open; the file is HUDARIN_ARGUMENT_DESCRIPTOR. */
-    HUDARIN_ARGUMENT_PARENT = 27
+    /* That of hudarin_check_open, whose file is HUDARIN_ARGUMENT_DESCRIPTOR, and of hudarin_create. */
+    HUDARIN_ARGUMENT_PARENT = 27,
+    /* Those of hudarin_create; the classes are HUDARIN_ARGUMENT_TYPES. */
+    HUDARIN_ARGUMENT_CREATOR = 28,
+    HUDARIN_ARGUMENT_DEFAULTS = 29,
+    HUDARIN_ARGUMENT_OWNERS = 30
 } hudarin_argument;
 
 /* ---- Verdicts */
@@ -615,6 +634,31 @@ typedef struct hudarin_written {
     uint64_t length; /* with HUDARIN_OK as the call says, with HUDARIN_ROOM the bytes required, else 0 */
 } hudarin_written;
 
+/* What the descriptor of a new object is made of; what isn't set is none. */
+typedef struct hudarin_creation {
+    const void *parent; /* the descriptor of the container that the object is made in */
+    size_t parent_length;
+    const void *creator; /* what the creator gave: a descriptor whose owner, group and lists may be missing */
+    size_t creator_length;
+    const void *defaults; /* a descriptor with the owner, the group and the DACL that its token has by default */
+    size_t defaults_length;
+    const void *owners; /* the SIDs that the token may make the owner: the user's, unless that counts for denies alone,
+                           and those of enabled groups with SE_GROUP_OWNER */
+    size_t owners_length;
+    const void *types; /* the object's classes, of 16 bytes each as in an entry */
+    size_t types_length;
+    uint32_t container; /* 0 for an object that contains none */
+    uint32_t flags;     /* HUDARIN_DACL_AUTO_INHERIT .., joined by | */
+    uint32_t restores;  /* 0 without SeRestorePrivilege, with which any SID may be the owner */
+    hudarin_mapping mapping;
+} hudarin_creation;
+
+/* The answer of hudarin_create. */
+typedef struct hudarin_created {
+    hudarin_written written;
+    uint32_t argument; /* HUDARIN_ARGUMENT_.. of the invalid one, else 0 */
+} hudarin_created;
+
 /* The answer of hudarin_whole_to_sddl and hudarin_whole_plain. */
 typedef struct hudarin_trimmed {
     hudarin_written written;
@@ -707,6 +751,20 @@ typedef enum hudarin_review_kind {
 #define HUDARIN_PART_GROUP 0x2u
 #define HUDARIN_PART_DACL 0x4u
 #define HUDARIN_PART_SACL 0x8u
+
+/* How a new object gets its descriptor, joined by |: AutoInheritFlags ([MS-DTYP] 2.5.3.4.1), with the bits that Windows
+ * gives them. Others have no effect. */
+
+/* What the parent's DACL, or its SACL, passes on follows the creator's own entries. */
+#define HUDARIN_DACL_AUTO_INHERIT 0x01u
+#define HUDARIN_SACL_AUTO_INHERIT 0x02u
+/* A list that the creator gave counts only where the parent's list passes on nothing. */
+#define HUDARIN_DEFAULT_DESCRIPTOR_FOR_OBJECT 0x04u
+/* Any SID may be the owner. */
+#define HUDARIN_AVOID_OWNER_CHECK 0x10u
+/* Where the creator gave no owner, or no group, it is the parent's. */
+#define HUDARIN_DEFAULT_OWNER_FROM_PARENT 0x20u
+#define HUDARIN_DEFAULT_GROUP_FROM_PARENT 0x40u
 
 /* The answer of hudarin_descriptor_dacl. */
 typedef struct hudarin_dacl {
@@ -912,6 +970,30 @@ HUDARIN_ANSWERS hudarin_written hudarin_whole_with_parts(const void *bytes, size
 HUDARIN_ANSWERS hudarin_written hudarin_whole_with_entries(const void *bytes, size_t bytes_length, uint32_t list,
                                                            uint32_t revision, const void *entries,
                                                            size_t entries_length, void *room, size_t room_length);
+
+/*
+ * The one self-relative form of a new object's descriptor, as CreatePrivateObjectSecurityEx of Windows makes it ([MS-DTYP]
+ * 2.5.3.4, CreateSecurityDescriptor), with entries of every type and a SACL. hudarin_creation says what each argument
+ * is. Without bytes there is no parent, the creator gave nothing, or nobody else may be the owner; the token's defaults
+ * are always there. They are tested in their order, the mapping last: HUDARIN_WIRE; HUDARIN_PARTS for defaults without an
+ * owner or a group; HUDARIN_SID; HUDARIN_TYPES; HUDARIN_MAPPING. Then comes HUDARIN_NOT_CREATED. Whether the creator may
+ * make the object, and give it a SACL or a label, the caller checks first.
+ */
+HUDARIN_ANSWERS hudarin_created hudarin_create(const void *parent, size_t parent_length, const void *creator,
+                                               size_t creator_length, const void *defaults, size_t defaults_length,
+                                               const void *owners, size_t owners_length, const void *types,
+                                               size_t types_length, uint32_t container, uint32_t flags,
+                                               uint32_t restores, hudarin_mapping mapping, void *room,
+                                               size_t room_length);
+
+/* The same of what a struct has. */
+static inline HUDARIN_ANSWERS hudarin_created hudarin_create_of(const hudarin_creation *of, void *room,
+                                                                size_t room_length)
+{
+    return hudarin_create(of->parent, of->parent_length, of->creator, of->creator_length, of->defaults,
+                          of->defaults_length, of->owners, of->owners_length, of->types, of->types_length,
+                          of->container, of->flags, of->restores, of->mapping, room, room_length);
+}
 
 /* The SID of the owner, HUDARIN_PART_OWNER, or of the group, HUDARIN_PART_GROUP, of the whole descriptor at the front of
  * the bytes. */

@@ -5,6 +5,8 @@ from typing import Iterator, List, Optional, Tuple
 from uuid import UUID
 
 from hudarin import (
+    AVOID_OWNER_CHECK,
+    DACL_AUTO_INHERIT,
     DENY_ONLY,
     FILES,
     OF_DACL,
@@ -73,6 +75,9 @@ blob: WholeDescriptor = WholeDescriptor.from_blob(memoryview(b""), 0)
 plain: Tuple[Descriptor, int] = whole.plain()
 printed: Tuple[str, int] = whole.without_bits()
 joined: WholeDescriptor = whole.with_parts(descriptor, OF_OWNER | OF_GROUP).with_parts(blob, OF_DACL | OF_SACL)
+created: WholeDescriptor = WholeDescriptor.create(
+    whole, descriptor, blob, iter([user]), container=True, types=["", UUID(int=1)],
+    flags=DACL_AUTO_INHERIT | AVOID_OWNER_CHECK, restores=True, mapping=FILES)
 listed: WholeDescriptor = joined.with_entries(joined.dacl, 4).with_entries(iter(joined.sacl or ()), sacl=True)
 revisions: Tuple[Optional[int], ...] = (listed.dacl_revision, listed.sacl_revision)
 audits: Optional[Tuple[WholeEntry, ...]] = whole.sacl
@@ -154,6 +159,8 @@ WholeDescriptor.from_sddl("S:").with_parts("S:", OF_SACL)  # type: ignore
 whole.with_entries(["(A;;FA;;;WD)"])  # type: ignore
 whole.with_entries(descriptor.entries)  # type: ignore
 whole.with_entries((), "2")  # type: ignore
+WholeDescriptor.create(None, None, None)  # type: ignore
+WholeDescriptor.create(None, b"", whole)  # type: ignore
 number: int = whole.dacl_revision  # type: ignore
 Client(user, [user])  # type: ignore
 Accounts(b"")  # type: ignore

@@ -20,6 +20,9 @@ static uint32_t states[MOST_GROUPS];
 static size_t text_length, length, group_count;
 static hudarin_descriptor descriptor = HUDARIN_NOTHING;
 static hudarin_token token = HUDARIN_NOTHING;
+/* The descriptor with entries that containers and objects inherit, and a token's defaults. */
+static unsigned char parent[8000], defaults[200];
+static size_t defaults_length;
 
 static int check(void)
 {
@@ -80,6 +83,13 @@ static int whole_from_sddl(void)
 static int whole_to_sddl(void)
 {
     return hudarin_whole_to_sddl(bytes, length, 0, canonical_room, sizeof canonical_room).written.status == HUDARIN_OK;
+}
+
+static int create(void)
+{
+    return hudarin_create(parent, length, NULL, 0, defaults, defaults_length, NULL, 0, NULL, 0, 0, HUDARIN_DACL_AUTO_INHERIT, 0, files,
+                          room, sizeof room)
+               .written.status == HUDARIN_OK;
 }
 
 static int keep_sddl(void)
@@ -146,6 +156,7 @@ static const struct call {
     { "`hudarin_whole_plain`", whole_plain },
     { "`hudarin_whole_from_sddl`", whole_from_sddl },
     { "`hudarin_whole_to_sddl`", whole_to_sddl },
+    { "`hudarin_create`", create },
     { "`hudarin_keep_sddl`, and its end", keep_sddl },
     { "`hudarin_keep_bytes`, and its end", keep_bytes },
     { "`hudarin_keep_token`, and its end", keep_token },
@@ -157,6 +168,19 @@ static const struct call {
 
 #define CALLS (sizeof calls / sizeof calls[0])
 #define COLUMNS 3
+
+/* The flags OI and CI of each entry of the parent, which is the descriptor but for these: the first stands after the header, the
+ * SIDs of BA and SY, and the list's header. */
+static void pass_on(size_t entries)
+{
+    static const char text_of_defaults[] = "O:BAG:SYD:(A;;GA;;;BA)(A;;GA;;;SY)";
+    size_t at, size = 8 + sizeof user;
+    memcpy(parent, bytes, length);
+    for (at = 0; at < entries; at++) {
+        parent[20 + 16 + 12 + 8 + at * size + 1] = 3;
+    }
+    defaults_length = (size_t)hudarin_sddl_to_bytes(text_of_defaults, sizeof text_of_defaults - 1, defaults, sizeof defaults).length;
+}
 
 static void prepare(size_t entries, size_t held)
 {
@@ -174,6 +198,7 @@ static void prepare(size_t entries, size_t held)
         states[at] = HUDARIN_GROUP_ENABLED;
     }
     length = (size_t)hudarin_sddl_to_bytes(text, text_length, bytes, sizeof bytes).length;
+    pass_on(entries);
     hudarin_free(&descriptor.kept);
     hudarin_free(&token.kept);
     HOLDS(hudarin_keep_bytes(bytes, length, &descriptor).status == HUDARIN_OK);

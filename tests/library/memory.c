@@ -7,8 +7,8 @@
 
 /* The three before CHECK keep lines; it and those after it check, or keep something by which a check is made. */
 enum call {
-    TO_BYTES, TO_SDDL, CANONICAL, LENGTH, WHOLE_BYTES, WHOLE_TEXT, WHOLE_AT, PLAIN, JOINED, LISTED, TRUSTEE, ACE, SID_BYTES, SID_TEXT,
-    FULL_TEXT, MASK_TEXT, OWNER, ENTRY, SUBJECT, LINE, OBJECT, VALUE, KEEP_ACCOUNTS, ACCOUNT_SIDS, ACCOUNT_USERS, WHO, LINT, COMPARE, CHECK,
+    TO_BYTES, TO_SDDL, CANONICAL, LENGTH, WHOLE_BYTES, WHOLE_TEXT, WHOLE_AT, PLAIN, JOINED, LISTED, CREATE, TRUSTEE, ACE, SID_BYTES,
+    SID_TEXT, FULL_TEXT, MASK_TEXT, OWNER, ENTRY, SUBJECT, LINE, OBJECT, VALUE, KEEP_ACCOUNTS, ACCOUNT_SIDS, ACCOUNT_USERS, WHO, LINT, COMPARE, CHECK,
     CHECK_OPEN, CHECK_WHOLE, CHECK_TYPES, KEEP_SDDL, KEEP_BYTES, KEEP_TOKEN, KEEP_CLIENT, SHARE
 };
 
@@ -78,6 +78,7 @@ static const row rows[] = {
     { PLAIN, row_1, row_1, 76, 0, 0 },
     { JOINED, row_1, row_1, 76, 0, 0 },
     { LISTED, row_1, row_1, 76, 0, 0 },
+    { CREATE, row_1, row_1, 76, 0, 0 },
     { TRUSTEE, row_1, "01020000000000052000000020020000", 16, 0, 0 },
     { ACE, row_1, "010100000000000100000000", 12, 0, 0 },
     { OWNER, CHECKED, "01020000000000052000000020020000", 16, 0, 0 },
@@ -241,6 +242,12 @@ static void made(const row *row, outcome *it)
         /* The entry of the list, after the header, the owner, the group and the list's header. */
         written(it, hudarin_whole_with_entries(lent.bytes, lent.length, HUDARIN_LIST_DACL, 2, lent.bytes + 56, 20, it->room,
                                                room));
+        break;
+    case CREATE:
+        /* Its owner as one of whom the token may make the owner, and a class. */
+        written(it, hudarin_create(lent.bytes, lent.length, lent.bytes, lent.length, lent.bytes, lent.length, lent.bytes + 20, 16,
+                                   lent.bytes, 16, 0, HUDARIN_DACL_AUTO_INHERIT, 0, files, it->room, room)
+                        .written);
         break;
     case TRUSTEE: written(it, hudarin_whole_trustee(lent.bytes, lent.length, HUDARIN_PART_OWNER, it->room, room)); break;
     case ACE:

@@ -225,6 +225,7 @@ static const struct {
     { HUDARIN_ROW, { "Keyword", "Sid", "Name", "Surplus", "Incomplete" } },
     { HUDARIN_ACCOUNT, { "Unknown", "Ambiguous", "NoUser", "Disabled" } },
     { HUDARIN_TREE, { "NoClass", "LevelLeftOut", "SecondClass", "TooDeep", "Repeated" } },
+    { HUDARIN_NOT_CREATED, { "Owner", "NoOwner", "NoGroup", "TooLarge" } },
 };
 
 static void names(void)
@@ -245,7 +246,7 @@ static void names(void)
     WRITES(hudarin_status_text(HUDARIN_MEMORY, room, length), "out of memory", 13);
     WRITES(hudarin_status_text(HUDARIN_REFUSED, room, length), "the tree refuses the edit", 25);
     /* Each status has a text of its own, and no other number has one. */
-    for (status = 0; status <= HUDARIN_TREE; status++) {
+    for (status = 0; status <= HUDARIN_NOT_CREATED; status++) {
         hudarin_written answer = hudarin_status_text(status, one, sizeof one);
         HOLDS(answer.status == HUDARIN_OK && answer.length > 0);
         for (before = 0; before < status; before++) {
@@ -253,7 +254,7 @@ static void names(void)
             HOLDS(earlier.length != answer.length || memcmp(one, other, (size_t)answer.length) != 0);
         }
     }
-    HOLDS(is_unwritten(hudarin_status_text(HUDARIN_TREE + 1, one, sizeof one), HUDARIN_OK));
+    HOLDS(is_unwritten(hudarin_status_text(HUDARIN_NOT_CREATED + 1, one, sizeof one), HUDARIN_OK));
     HOLDS(is_unwritten(hudarin_status_text(UINT32_MAX, one, sizeof one), HUDARIN_OK));
 }
 

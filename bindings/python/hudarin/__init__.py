@@ -28,7 +28,12 @@ from ._library import __version__ as __version__
 from ._masks import Kind, Mask, map_mask, mask, mask_names
 from ._numbers import (
     ARGUMENTS,
+    AVOID_OWNER_CHECK,
     CAUSES,
+    DACL_AUTO_INHERIT,
+    DEFAULT_DESCRIPTOR_FOR_OBJECT,
+    DEFAULT_GROUP_FROM_PARENT,
+    DEFAULT_OWNER_FROM_PARENT,
     DENY_ONLY,
     DISABLED,
     ENABLED,
@@ -41,6 +46,7 @@ from ._numbers import (
     OF_OWNER,
     OF_SACL,
     PROCESSES,
+    SACL_AUTO_INHERIT,
     SECURITY,
     SERVICES,
     STATUSES,
@@ -58,6 +64,7 @@ from ._wholes import WholeDescriptor, WholeEntry
 
 __all__ = [
     "ARGUMENTS",
+    "AVOID_OWNER_CHECK",
     "Access",
     "Accesses",
     "Accounts",
@@ -66,6 +73,10 @@ __all__ = [
     "Client",
     "Closed",
     "Comparison",
+    "DACL_AUTO_INHERIT",
+    "DEFAULT_DESCRIPTOR_FOR_OBJECT",
+    "DEFAULT_GROUP_FROM_PARENT",
+    "DEFAULT_OWNER_FROM_PARENT",
     "DENY_ONLY",
     "DISABLED",
     "Data",
@@ -95,6 +106,7 @@ __all__ = [
     "Part",
     "Refused",
     "Reviewed",
+    "SACL_AUTO_INHERIT",
     "SECURITY",
     "SERVICES",
     "STATUSES",

@@ -60,6 +60,10 @@ class _Trimmed(ctypes.Structure):
     _fields_ = [("written", _Written), ("left_out", _U32), ("list", _U32)]
 
 
+class _Created(ctypes.Structure):
+    _fields_ = [("written", _Written), ("argument", _U32)]
+
+
 class _WholeList(ctypes.Structure):
     _fields_ = [
         ("status", _U32),
@@ -143,6 +147,7 @@ _CALLS: Dict[str, Tuple[Any, Any]] = {
     "whole_plain": (_GIVEN + _BUFFER, _Trimmed),
     "whole_with_parts": (_GIVEN * 2 + [_U32] + _BUFFER, _Written),
     "whole_with_entries": (_GIVEN + [_U32] * 2 + _GIVEN + _BUFFER, _Written),
+    "create": (_GIVEN * 5 + [_U32] * 3 + [_Mapping] + _BUFFER, _Created),
     "whole_list": (_GIVEN + [_U32], _WholeList),
     "whole_entry": (_GIVEN + [_U32, _U64] + _BUFFER, _WholeEntry),
     "map_mask": ([_U32, _Mapping], _Mask),

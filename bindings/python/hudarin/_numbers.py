@@ -32,6 +32,7 @@ STATUSES = {
     27: "account",
     28: "kind",
     29: "tree",
+    30: "not created",
 }
 VERDICTS = {1: "granted", 2: "denied", 3: "reserved", 4: "empty"}
 ARGUMENTS = {
@@ -62,6 +63,9 @@ ARGUMENTS = {
     25: "tree",
     26: "verdicts",
     27: "parent",
+    28: "creator",
+    29: "defaults",
+    30: "owners",
 }
 
 CAUSES = {
@@ -107,6 +111,9 @@ MAPPINGS = {
 
 #: The parts of a whole descriptor, joined by |.
 OF_OWNER, OF_GROUP, OF_DACL, OF_SACL = 0x1, 0x2, 0x4, 0x8
+#: How a new object gets its descriptor, joined by |: AutoInheritFlags ([MS-DTYP] 2.5.3.4.1).
+DACL_AUTO_INHERIT, SACL_AUTO_INHERIT, DEFAULT_DESCRIPTOR_FOR_OBJECT = 0x1, 0x2, 0x4
+AVOID_OWNER_CHECK, DEFAULT_OWNER_FROM_PARENT, DEFAULT_GROUP_FROM_PARENT = 0x10, 0x20, 0x40
 
 _MAXIMUM_ALLOWED = 0x02000000
 _MEMORY, _ROOM, _TEXT, _SID, _HANDLE, _NO_NODE, _DOMAIN, _NO_PART = 1, 2, 4, 6, 11, 16, 17, 18

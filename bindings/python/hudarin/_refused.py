@@ -7,7 +7,7 @@ from typing import Any, Iterator, Optional, Tuple
 from ._library import _library
 from ._numbers import _TEXT, STATUSES
 
-_WITH_FAULTS = (_TEXT, 5, 6, 13, 15, 19, 20, 21, 25, 26, 27, 29)
+_WITH_FAULTS = (_TEXT, 5, 6, 13, 15, 19, 20, 21, 25, 26, 27, 29, 30)
 
 
 def _fault_names(status: int) -> Iterator[str]:
@@ -23,7 +23,7 @@ def _fault_names(status: int) -> Iterator[str]:
 #: The names of faults, by status and in the order of their numbers, which count from 1: of a text (SDDL, a SID or a
 #: mask), of a descriptor's bytes, of a SID's bytes, of a path, of an edit that the tree refuses, of the limits of a
 #: store, of what has no text, of an entry that isn't plain, of a DACL that can't be decided, of a line of accounts, of
-#: a text that means no user, and of a node of a tree of object types.
+#: a text that means no user, of a node of a tree of object types, and of an object that gets no descriptor.
 FAULTS = {STATUSES[status]: tuple(_fault_names(status)) for status in _WITH_FAULTS}
 
 
@@ -36,8 +36,8 @@ class Refused(ValueError):
     fault: int
     #: The fault's name in ``FAULTS``, or None.
     name: Optional[str]
-    #: Of a text the offset of the fault in bytes, of groups, restricting SIDs, words, nodes and entries the index, of
-    #: accounts the number of the line, from 1; otherwise 0.
+    #: Of a text the offset of the fault in bytes, of groups, restricting SIDs, owners, words, nodes and entries the
+    #: index, of accounts the number of the line, from 1; otherwise 0.
     place: int
     #: The name of the argument in ``ARGUMENTS``, or "accounts", or None. Of what has no text or isn't plain its list,
     #: "DACL" or "SACL".

@@ -100,6 +100,18 @@ def _self(principal_self: Optional[Sid]) -> Tuple[bytes, int]:
     return who, len(who)
 
 
+def _form(descriptor: object, what: str) -> Tuple[bytes, int]:
+    """A descriptor of either kind as arguments of the library."""
+    if not isinstance(descriptor, (WholeDescriptor, Descriptor)):
+        raise TypeError(f"{what}: expected a WholeDescriptor or a Descriptor, not {descriptor!r}")
+    return bytes(descriptor), len(bytes(descriptor))
+
+
+def _optional_form(descriptor: object, what: str) -> Tuple[bytes, int]:
+    """One, or none."""
+    return (b"", 0) if descriptor is None else _form(descriptor, what)
+
+
 class WholeDescriptor(_SelfRelative):
     """A security descriptor with all that Windows writes: a SACL, entries of every type in both lists, every control
     bit. ``WholeDescriptor(data)`` is the one at the front of the bytes, which are in self-relative form; its own bytes
@@ -124,6 +136,34 @@ class WholeDescriptor(_SelfRelative):
         front, as in Samba's security.NTACL."""
         given, at = _data(data), _number(place, "place", 64)
         return cls._of(_filled(lambda *buffer: _library.hudarin_whole_at(given, len(given), at, *buffer))[0])
+
+    @classmethod
+    def create(
+        cls,
+        parent: Union["WholeDescriptor", Descriptor, None],
+        creator: Union["WholeDescriptor", Descriptor, None],
+        defaults: Union["WholeDescriptor", Descriptor],
+        owners: Iterable[Sid] = (),
+        *,
+        container: bool = False,
+        types: Iterable[ObjectType] = (),
+        flags: int = 0,
+        restores: bool = False,
+        mapping: Iterable[Mask] = FILES,
+    ) -> "WholeDescriptor":
+        """The descriptor of a new object ([MS-DTYP] 2.5.3.4, CreateSecurityDescriptor): of the one of the ``parent`` that
+        it is made in, of what the ``creator`` gave, whose owner, group and lists may be missing, and of ``defaults``,
+        the owner, the group and the DACL that the creator's token has for what is given none. The ``owners`` are those
+        that the token may set; with SeRestorePrivilege, ``restores``, any may. ``types`` are the object's classes, and
+        ``flags`` are joined by |, as ``DACL_AUTO_INHERIT``. An object that gets no descriptor is ``Refused`` as "not
+        created"; a ``defaults`` without an owner or a group as "parts"."""
+        both = *_optional_form(parent, "parent"), *_optional_form(creator, "creator")
+        sids = b"".join(bytes(_of_type(sid, Sid, "owners")) for sid in owners)
+        classes = _types(types)
+        kind, restoring = _of_type(container, bool, "container"), _of_type(restores, bool, "restores")
+        terms = int(kind), _number(flags, "flags"), int(restoring), _mapping(mapping)
+        arguments = *both, *_form(defaults, "defaults"), sids, len(sids), classes, len(classes), *terms
+        return cls._of(_filled(lambda *buffer: _library.hudarin_create(*arguments, *buffer))[0])
 
     def __str__(self) -> str:
         """The SDDL text. What has none is ``Refused``."""
@@ -221,11 +261,9 @@ class WholeDescriptor(_SelfRelative):
     def with_parts(self, other: Union["WholeDescriptor", Descriptor], parts: int) -> "WholeDescriptor":
         """The descriptor with these parts of another, ``OF_OWNER`` and so on, joined by |, each with the control bits
         that speak of it."""
-        if not isinstance(other, (WholeDescriptor, Descriptor)):
-            raise TypeError(f"expected a WholeDescriptor or a Descriptor, not {other!r}")
-        one, two, number = self._bytes, bytes(other), _number(parts, "parts")
+        one, two, number = self._bytes, _form(other, "other"), _number(parts, "parts")
         call = _library.hudarin_whole_with_parts
-        return WholeDescriptor._of(_filled(lambda *buffer: call(one, len(one), two, len(two), number, *buffer))[0])
+        return WholeDescriptor._of(_filled(lambda *buffer: call(one, len(one), *two, number, *buffer))[0])
 
     def with_entries(self, entries: Iterable[WholeEntry], revision: int = 2, sacl: bool = False) -> "WholeDescriptor":
         """The descriptor with a DACL, or with ``sacl`` a SACL, of just these entries in their order and of this

@@ -13,3 +13,4 @@ mod Words
 mod EntriesLoop
 mod Joined
 mod Opened
+pub mod Stopped

@@ -2,6 +2,7 @@
 use Rattle.std.specs.Prelude.{ℕ, ◌-◌, Result, Ok, Err}
 use Rattle.sd_sid.specs.Sid.{sid_error_number}
 use Rattle.sd_wire.specs.Fault.{wire_fault_number}
+use Rattle.sd_create.specs.Create.{fault_number as create_fault_number}
 use Rattle.sd_check.specs.declared.verdict.Verdict.{Verdict}
 use Rattle.sd_check.specs.declared.verdict.Verdict.TheVariants.{Granted, Denied, Reserved, EmptyRequest}
 use Rattle.sd_specialize.specs.Specialize.{fault_number}
@@ -15,7 +16,8 @@ use Rattle.sd_c.specs.declared.stop.NotRead.TheVariants.{Descriptor, User, Group
 use Rattle.sd_c.specs.declared.stop.NotRead.TheVariants.{PrivilegeBits, MappingBits, DescriptorHandle, TokenHandle}
 use Rattle.sd_c.specs.declared.stop.NotRead.TheVariants.{NewHandle, DomainSid, NoDomain, WordsUtf8, Unended, NoWord}
 use Rattle.sd_c.specs.declared.stop.NotRead.TheVariants.{ClientHandle, Types, Tree, PrincipalSelf, Undecided}
-use Rattle.sd_c.specs.declared.stop.NotRead.TheVariants.{MayBeDenied, Parent}
+use Rattle.sd_c.specs.declared.stop.NotRead.TheVariants.{MayBeDenied, Parent, Creator, Defaults, NoDefault, Owner}
+use Rattle.sd_c.specs.declared.stop.NotRead.TheVariants.{NotCreated}
 use Rattle.sd_c.specs.declared.stop.Stop.{Stop}
 use Rattle.sd_c.specs.declared.stop.Stop.TheVariants as stops
 use Rattle.sd_c.specs.Request.{RequestValue, verdict_of}
@@ -70,6 +72,11 @@ not_read ClientHandle = unread 11 22 0 0
 not_read (Undecided fault) = unread 25 1 (fault_number fault) (undecided_place fault)
 not_read MayBeDenied = unread 25 1 7 0
 not_read (Parent fault) = unread 5 27 (wire_fault_number fault) 0
+not_read (Creator fault) = unread 5 28 (wire_fault_number fault) 0
+not_read (Defaults fault) = unread 5 29 (wire_fault_number fault) 0
+not_read NoDefault = unread 14 29 0 0
+not_read (Owner fault at) = unread 6 30 (sid_error_number fault) at
+not_read (NotCreated fault) = unread 30 0 (create_fault_number fault) 0
 
 -- out of memory
 abbrev pub check_memory : CheckAnswer

@@ -30,3 +30,4 @@ pub mod Open
 pub mod Analysis
 pub mod Review
 pub mod Accounts
+pub mod Creating

@@ -30,6 +30,9 @@ use Rattle.sd_named.specs.declared.arguments.NamedError.TheVariants as named
 use Rattle.sd_types.specs.Tree.{kind_name, kind_number}
 use Rattle.sd_types.specs.declared.tree.TreeFaultKind.{TreeFaultKind}
 use Rattle.sd_types.specs.declared.tree.TreeFaultKind.TheVariants as kinds
+use Rattle.sd_create.specs.Create.{fault_name as create_fault_name, fault_number as create_fault_number}
+use Rattle.sd_create.specs.declared.fault.CreateFault.{CreateFault}
+use Rattle.sd_create.specs.declared.fault.CreateFault.TheVariants as creates
 use Rattle.sd_c.specs.Accounts.{no_user, row_number}
 
 -- what a status means; nothing of a number that is no status
@@ -65,6 +68,7 @@ status_text n =
     else if n == 27 then codes "the text means no user that may log on"
     else if n == 28 then codes "no kind of object has the number"
     else if n == 29 then codes "the nodes are no tree of object types"
+    else if n == 30 then codes "the new object gets no descriptor"
     else []
 
 -- ---- the fault with a number
@@ -161,6 +165,14 @@ tree_fault_kind n =
     else if n == 5 then Some kinds.Repeated
     else None
 
+abbrev pub create_fault : ℕ → Option CreateFault
+create_fault n =
+    if n == 1 then Some creates.Owner
+    else if n == 2 then Some creates.NoOwner
+    else if n == 3 then Some creates.NoGroup
+    else if n == 4 then Some creates.TooLarge
+    else None
+
 -- ---- its name
 
 -- nothing where there is no such fault
@@ -207,6 +219,7 @@ fault_name status n =
     else if status == 26 then row_fault_name n
     else if status == 27 then account_fault_name n
     else if status == 29 then name_or_nothing kind_name (tree_fault_kind n)
+    else if status == 30 then name_or_nothing create_fault_name (create_fault n)
     else []
 
 -- each fault that a call answers has its name at its number. Bytes have no authority of 2^48, and want of memory is a
@@ -236,3 +249,4 @@ FaultsHaveNames =
     × (fault_name 27 (no_user named.NoUser).fault ≡ codes "NoUser")
     × (fault_name 27 (no_user named.Disabled).fault ≡ codes "Disabled")
     × ((k : TreeFaultKind) → fault_name 29 (kind_number k) ≡ kind_name k)
+    × ((f : CreateFault) → fault_name 30 (create_fault_number f) ≡ create_fault_name f)

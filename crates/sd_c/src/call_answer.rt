@@ -73,6 +73,8 @@ pub const ACCOUNT: u32 = 27;
 pub const KIND: u32 = 28;
 /// Nodes are no tree of object types; the fault is one of those of `TreeFaultKind`.
 pub const TREE: u32 = 29;
+/// A new object gets no descriptor; the fault is one of those of `CreateFault`.
+pub const NOT_CREATED: u32 = 30;
 
 /// The answer of a check: a verdict and its mask, or which argument is invalid.
 #[repr(C)]
@@ -164,6 +166,11 @@ pub(crate) fn not_read(why: NotRead) -> CheckAnswer
         NotRead::Undecided(fault) => unread(UNDECIDED, 1, fault.number(), undecided_place(fault)),
         NotRead::MayBeDenied => unread(UNDECIDED, 1, 7, 0),
         NotRead::Parent(fault) => unread(WIRE, 27, fault.number(), 0),
+        NotRead::Creator(fault) => unread(WIRE, 28, fault.number(), 0),
+        NotRead::Defaults(fault) => unread(WIRE, 29, fault.number(), 0),
+        NotRead::NoDefault => unread(PARTS, 29, 0, 0),
+        NotRead::Owner { fault, at } => unread(SID, 30, fault.number(), at),
+        NotRead::NotCreated(fault) => unread(NOT_CREATED, 0, fault.number(), 0),
     }
 }
 

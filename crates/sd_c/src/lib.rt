@@ -15,6 +15,8 @@ mod bytes;
 mod call_answer;
 mod check;
 mod client;
+mod creating;
+mod creation;
 mod edits;
 mod entries;
 mod explaining;
@@ -90,6 +92,9 @@ pub use stores::{
 pub use text::{hudarin_sddl_canonical, hudarin_sddl_to_bytes, hudarin_sid_text_to_bytes};
 pub use version::{Version, hudarin_version};
 pub use views::{ViewAnswer, hudarin_journal_length, hudarin_view_check, hudarin_view_descriptor};
+
+// Whole descriptors.
+pub use creating::{Created, hudarin_create};
 pub use whole::{hudarin_whole_at, hudarin_whole_from_sddl};
 pub use whole_check::hudarin_check_whole;
 pub use whole_explaining::hudarin_explain_whole;

@@ -3,16 +3,17 @@
 ghost use Rattle.std.specs.Prelude.{◌≡◌};
 ghost use Rattle.sd_c.specs.Meaning.{FaultsHaveNames, fault_name, limits_fault, no_text_fault_name, odd_kind};
 ghost use Rattle.sd_c.specs.Meaning.{path_fault_name, refusal_of, sid_fault, status_text, text_fault, wire_fault};
-ghost use Rattle.sd_c.specs.Meaning.{account_fault_name, name_or_nothing, row_fault_name, tree_fault_kind};
-ghost use Rattle.sd_c.specs.Meaning.{undecided_fault_name};
+ghost use Rattle.sd_c.specs.Meaning.{account_fault_name, create_fault, name_or_nothing, row_fault_name};
+ghost use Rattle.sd_c.specs.Meaning.{tree_fault_kind, undecided_fault_name};
 ghost use Rattle.sd_types.specs.Tree.{kind_name};
 ghost use Rattle.sd_c.specs.Written.{Writes};
 
 use crate::call_answer::{
     ACCOUNT, BEHIND_GROUPS, DOMAIN, EDIT, HANDLE, KIND, LIMITS, MAPPING, MEMORY, NO_NODE, NO_PART,
-    NO_TEXT, NOT_PLAIN, OK, PARTS, PATH, PRIVILEGES, REFUSED, ROOM, ROW, SID, STATE, TEXT, TREE,
-    TYPES, UNDECIDED, UNENDED, UTF8, WIRE, WORD, Written, write,
+    NO_TEXT, NOT_CREATED, NOT_PLAIN, OK, PARTS, PATH, PRIVILEGES, REFUSED, ROOM, ROW, SID, STATE,
+    TEXT, TREE, TYPES, UNDECIDED, UNENDED, UTF8, WIRE, WORD, Written, write,
 };
+use sd_create::CreateFault;
 use sd_sid::SidError;
 use sd_text::TextFault;
 use sd_tree::{EditRefusal, LimitsError};
@@ -75,6 +76,7 @@ fn status_text(status: u32) -> &'static str
         ACCOUNT => "the text means no user that may log on",
         KIND => "no kind of object has the number",
         TREE => "the nodes are no tree of object types",
+        NOT_CREATED => "the new object gets no descriptor",
         _ => "",
     }
 }
@@ -113,6 +115,10 @@ fn fault_name(status: u32, fault: u32) -> &'static str
         ROW => row_fault_name(fault),
         ACCOUNT => account_fault_name(fault),
         TREE => tree_fault_name(fault),
+        NOT_CREATED => match create_fault(fault) {
+            Some(fault) => fault.name(),
+            None => "",
+        },
         _ => "",
     }
 }
@@ -257,6 +263,18 @@ fn tree_fault_kind(number: u32) -> Option<TreeFaultKind>
         3 => Some(TreeFaultKind::SecondClass),
         4 => Some(TreeFaultKind::TooDeep),
         5 => Some(TreeFaultKind::Repeated),
+        _ => None,
+    }
+}
+
+fn create_fault(number: u32) -> Option<CreateFault>
+    ensures { result ≡ create_fault number }
+{
+    match number {
+        1 => Some(CreateFault::Owner),
+        2 => Some(CreateFault::NoOwner),
+        3 => Some(CreateFault::NoGroup),
+        4 => Some(CreateFault::TooLarge),
         _ => None,
     }
 }

@@ -115,7 +115,7 @@ pub(crate) fn types_in(alloc: Global, bytes: &[u8]) -> Result<Vec<Guid>, Stop>
 }
 
 /// Each part as an object type.
-fn types_of(alloc: Global, parts: &[[u8; GUID_BYTES]]) -> Result<Vec<Guid>, AllocError>
+pub(crate) fn types_of(alloc: Global, parts: &[[u8; GUID_BYTES]]) -> Result<Vec<Guid>, AllocError>
     ensures types { IfOk result (λ types. types.items ≡ types_of parts.now) }
     ensures memory { OnErr result (0 < length parts.now) }
 {

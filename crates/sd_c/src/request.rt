@@ -154,7 +154,7 @@ fn restricting_sid(bytes: &[u8], at: usize) -> Result<(Sid, usize), NotRead>
 
 /// The restricting SIDs, to the end of the bytes. Memory is taken first, for no more than fit the bytes.
 #[tactic(auto, unfolding(crate::specs::Request::sids_read))]
-fn restricting_of(alloc: Global, bytes: &[u8]) -> Result<Vec<Sid>, Stop>
+pub(crate) fn restricting_of(alloc: Global, bytes: &[u8]) -> Result<Vec<Sid>, Stop>
     ensures read { Gives (λ sids. sids.items) result (restricting_read bytes.now) }
     ensures memory { IsErrOf result Stop.Memory → 0 < length bytes.now }
 {

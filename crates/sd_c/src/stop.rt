@@ -3,6 +3,7 @@
 ghost use Rattle.std.specs.Prelude.{◌≡◌};
 ghost use Rattle.sd_c.specs.declared.stop.Stop.TheVariants as stops;
 
+use sd_create::CreateFault;
 use sd_sid::SidError;
 use sd_specialize::SpecializeFault;
 use sd_types::TreeFault;
@@ -56,8 +57,18 @@ pub enum NotRead {
     Undecided(SpecializeFault),
     /// An entry of the descriptor's SACL may deny what the verdict grants.
     MayBeDenied,
-    /// The bytes of a file's parent hold no descriptor.
+    /// The bytes of a file's or a new object's parent hold no descriptor.
     Parent(WireFault),
+    /// The bytes of what a creator gave hold none.
+    Creator(WireFault),
+    /// The bytes of what its token has by default hold none.
+    Defaults(WireFault),
+    /// They have no owner, or no group.
+    NoDefault,
+    /// There is no SID where the SID of a possible owner with this index must be.
+    Owner { fault: SidError, at: u64 },
+    /// The object gets no descriptor.
+    NotCreated(CreateFault),
 }
 
 /// Why a check stops: an invalid argument, or out of memory.
