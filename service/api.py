@@ -28,7 +28,7 @@ _ANSWERS_AT_ONCE = 16
 
 def route(request: Request, method: str, target: str, fields: dict[str, str], body: bytes) -> None:
     """Has a request answered."""
-    path = target.partition("?")[0]
+    path, _, query = target.partition("?")
     methods = ROUTES.get(path)
     if methods is None:
         request.reply(Response(HTTPStatus.NOT_FOUND, {"fault": "path of the request"}))
@@ -46,7 +46,8 @@ def route(request: Request, method: str, target: str, fields: dict[str, str], bo
             if not request.caller.may_somewhere(role):
                 raise Fault(NO_ROLE)
             kind = fields.get("content-type", "")
-            work(replace(request, given=Given.of_body(kind, body)) if method == "POST" else request)
+            given = Given.of_body(kind, body) if method == "POST" else request.given
+            work(replace(request, given=given, query=query))
         except Fault as fault:
             request.reply(fault_response(fault.answer))
 
@@ -217,7 +218,26 @@ def _status(request: Request) -> None:
     request.reply(Response(HTTPStatus.OK, {**state_of(request), **place, "takes_edits": request.service.takes_edits}))
 
 
-# To watch
+def _watch(request: Request) -> None:
+    """Replies once more is published than the client has seen, or after some time."""
+    service, given = request.service, Given.of_query(request.query, "seen")
+    given.know("store", "seen")
+    if not given.has("seen"):
+        raise Fault.of("seen")
+    if given.text("store", service.store) != service.store:
+        raise Fault(NO_NOTICE)
+
+    async def work() -> None:
+        try:
+            shown = await service.watched(given.number("seen", 0), request.caller)
+            request.reply(Response(HTTPStatus.OK, state_of(request, shown)))
+        except Fault as fault:
+            request.reply(fault_response(fault.answer))
+
+    request.asker.start_long(work(), is_watching=True)
+
+
+# For who may watch alone
 
 
 def _healthz(request: Request) -> None:
@@ -245,6 +265,7 @@ ROUTES: dict[str, dict[str, tuple[str, Callable[[Request], None]]]] = {
     "/v1/compare": {"POST": ("check", _compare)},
     "/v1/review": {"POST": ("check", _review)},
     "/v1/status": {"GET": ("check", _status)},
+    "/v1/watch": {"GET": ("check", _watch)},
     "/v1/edit": {"POST": ("edit", api_edits.edit)},
     "/v1/publish": {"POST": ("edit", api_edits.publish)},
     "/healthz": {"GET": ("watch", _healthz)},

@@ -1,6 +1,6 @@
 """A request of HTTP, and what it is answered."""
 
-from collections.abc import Callable, Coroutine
+from collections.abc import Callable, Coroutine, Sequence
 from dataclasses import dataclass
 from http import HTTPStatus
 from typing import Any, Protocol
@@ -24,7 +24,9 @@ class Response:
 class Asker(Protocol):
     """The connection of a request."""
 
-    def start_long(self, work: Coroutine[Any, Any, None]) -> None:
+    def start_long(
+        self, work: Coroutine[Any, Any, None], words: Sequence[str] = (), is_watching: bool = False
+    ) -> None:
         """Has the answer made by a task, until the client leaves."""
 
     def hold(self, count: int) -> None:
@@ -41,6 +43,8 @@ class Request:
     asker: Asker
     given: Given = Given({}, "json")
     origin: Origin = UNNAMED
+    #: What the target has after its path.
+    query: str = ""
 
 
 #: By the names of faults; the others are BAD_REQUEST.

@@ -62,6 +62,8 @@ class Connection(asyncio.BufferedProtocol):
         self._turn = service.turn_of("")
         #: The answer that another thread makes, its bytes so far, and those of what was asked; and all that is held.
         self._long: asyncio.Task[None] | None = None
+        #: It is one to a client that waits for a publish, and asks nothing else.
+        self._is_watching = False
         self._made = self._asked = self._held = 0
 
     # Who it is
@@ -190,8 +192,11 @@ class Connection(asyncio.BufferedProtocol):
         if self.has_waiting or self._is_ended:
             self._turn.again(self)
 
-    def start_long(self, work: Coroutine[Any, Any, None], words: Sequence[str] = ()) -> None:
+    def start_long(
+        self, work: Coroutine[Any, Any, None], words: Sequence[str] = (), is_watching: bool = False
+    ) -> None:
         """Has a task make an answer that takes long, to a question of these words, until the client leaves."""
+        self._is_watching = is_watching
         self._asked = sum(map(sys.getsizeof, words))
         self._long = self._loop.create_task(work)
         self._long.add_done_callback(self._end_long)
@@ -199,7 +204,7 @@ class Connection(asyncio.BufferedProtocol):
     def _end_long(self, done: "asyncio.Task[None]") -> None:
         # (the next one may have begun)
         if self._long is done:
-            self._long, self._made, self._asked = None, 0, 0
+            self._long, self._made, self._asked, self._is_watching = None, 0, 0, False
             self._count_held()
 
     def hold(self, count: int) -> None:
@@ -276,8 +281,8 @@ class Connection(asyncio.BufferedProtocol):
 
     @property
     def idle_since(self) -> float | None:
-        """Since when the client asks nothing; None while it does, or takes answers."""
-        is_busy = self.in_progress or self.has_waiting or self._unsent or self._is_full
+        """Since when the client asks nothing, but to wait for a publish; None while it does, or takes answers."""
+        is_busy = self.in_progress and not self._is_watching or self.has_waiting or self._unsent or self._is_full
         return None if is_busy else self._asked_nothing_since
 
     def reject(self, reason: str) -> None:
@@ -303,7 +308,7 @@ class Connection(asyncio.BufferedProtocol):
             before, self._taken, self._full_since = self._taken, taken, now
             if taken - before < _LEAST_TAKEN:
                 self.reject("answers not taken")
-        elif now - (self.idle_since or now) > limits.idle_seconds:
+        elif not self._is_watching and now - (self.idle_since or now) > limits.idle_seconds:
             self.transport.close()
 
     def _has_left(self) -> bool:

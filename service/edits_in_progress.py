@@ -18,6 +18,7 @@ from origin import UNNAMED, Origin
 from questions import Questions
 from shown import Shown
 from task import UNMADE, Task
+from watching import Watching
 from writer import NO_LEADER, Writer
 
 #: Of an edit of a client that may not edit the log has so many characters.
@@ -27,8 +28,8 @@ _EDIT_LENGTH = 1 << 26
 
 
 class EditsInProgress:
-    """All calls but `done` are made in the event loop's thread. `start` says who makes the edits, and who is asked
-    what is published."""
+    """All calls but `done` are made in the event loop's thread. `start` says who makes the edits, who is asked what is
+    published, and who waits for that."""
 
     def __init__(self, limits: Limits, log: Log, metrics: Metrics) -> None:
         self._limits, self._log, self._metrics = limits, log, metrics
@@ -39,8 +40,8 @@ class EditsInProgress:
         self._commits = self._shown_commits = 0
         self._is_stopping = False
 
-    def start(self, writer: Writer, questions: Questions) -> None:
-        self._writer, self._questions = writer, questions
+    def start(self, writer: Writer, questions: Questions, watching: Watching) -> None:
+        self._writer, self._questions, self._watching = writer, questions, watching
 
     def stop(self) -> None:
         """Takes no more."""
@@ -152,6 +153,8 @@ class EditsInProgress:
         old = self._questions.shown
         if commits > self._shown_commits:
             self._shown_commits, self._questions.shown = commits, shown
+            if shown.length != old.length:
+                self._watching.show(shown.length)
             if old.view is not shown.view:
                 self._writer.retired.append(old.view)
 

@@ -5,7 +5,7 @@ from collections.abc import Sequence
 from typing import Any
 
 from errors import Fault
-from spelling import spelled
+from spelling import number_of, spelled
 
 
 #: The marks of a body, each of which may be that of a value: the most edits, or checks and groups, have far fewer. More
@@ -33,6 +33,16 @@ class Given:
         except (ValueError, RecursionError):
             raise Fault.of("json") from None
         return cls(value, "json")
+
+    @classmethod
+    def of_query(cls, query: str, *numbers: str) -> "Given":
+        """The values of a target's query, which are texts but for these numbers."""
+        values: dict[str, Any] = {}
+        for name, _, value in (part.partition("=") for part in query.split("&")):
+            if name in values:
+                raise Fault.of("query")
+            values[name] = number_of(value) if name in numbers else value
+        return cls(values, "query")
 
     def know(self, *names: str) -> None:
         """Fault: there is a name besides these."""

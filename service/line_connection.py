@@ -7,7 +7,7 @@ from answers import Answer
 from connection import Connection, Place
 from errors import Fault
 from origin import UNNAMED, Origin
-from script import LONG, OF_LINES, OF_WRITER, Reader
+from script import LONG, OF_LINES, OF_WRITER, WATCH, Reader, seen_in
 from service import Service
 from task import Task
 
@@ -68,7 +68,7 @@ class LineConnection(Connection):
                 return self._submit(words, tag)
             if self.in_progress:
                 return False
-            if words[0] in LONG or self.service.takes_long(words, self.caller):
+            if words[0] in LONG or words[0] == WATCH or self.service.takes_long(words, self.caller):
                 self._start_long(words, tag)
                 return True
             answer = self.service.answer(words, self.caller, self._reader, self._origin(tag))
@@ -98,7 +98,7 @@ class LineConnection(Connection):
     def _start_long(self, words: list[str], tag: str) -> None:
         self._is_long = True
         self.in_progress += 1
-        self.start_long(self._answer_long(words, tag), words)
+        self.start_long(self._answer_long(words, tag), words, words[0] == WATCH)
 
     async def _answer_long(self, words: Sequence[str], tag: str) -> None:
         try:
@@ -106,6 +106,9 @@ class LineConnection(Connection):
                 answer = await self.service.long_answer(
                     words, self.caller, self._reader, lambda _, lines: _pieces(tag, lines), self.hold
                 )
+            elif words[0] == WATCH:
+                shown = await self.service.watched(seen_in(words), self.caller)
+                answer = f"{tag}told {shown.length}\n".encode()
             else:
                 _, said = await self.service.long_checks(
                     [words], self.caller, self._reader, self.hold, self._origin(tag)

@@ -37,7 +37,7 @@ def _deleted(words: Sequence[str]) -> Sequence[str]:
 
 #: By the first word of a line. A word that isn't here is about the whole store.
 _PATHS: dict[str, Callable[[Sequence[str]], Sequence[str]]] = {
-    **dict.fromkeys(("tell", "learn", "status", "publish"), lambda words: _NONE),
+    **dict.fromkeys(("tell", "learn", "status", "watch", "publish"), lambda words: _NONE),
     **dict.fromkeys(("check", "why", "show", "find"), _at(2)),
     **dict.fromkeys(("who", "compare", "addc", "addo", "owner", "group", "dacl", "remove", "protect"), _at(1)),
     **dict.fromkeys(("list", "review"), _top),

@@ -24,6 +24,8 @@ OF_WRITER = CHANGES | {"once"}
 OF_JOURNAL = frozenset({"snapshot", "lines"})
 #: What the writer's tree is asked: what a publish would change.
 REVIEW = "review"
+#: What waits for the next publish.
+WATCH = "watch"
 #: The most printable ASCII characters of a key.
 _KEY_LENGTH = 100
 #: The most paths of one request: its answer delays others by a few milliseconds.
@@ -94,6 +96,13 @@ def takes_long(words: Sequence[str], questions: Questions) -> bool:
     if words[0] == "checks":
         return len(words) - paths > FEW_WORDS or restrict_long(words[paths + 3 :], paths)
     return not (words[0] == "check" and tokens.has((words[3], *words[5:])))
+
+
+def seen_in(words: Sequence[str]) -> int:
+    """The length that a `watch` names."""
+    if len(words) != 2:
+        raise Fault.of("words")
+    return number_of(words[1])
 
 
 def reviewed_path(words: Sequence[str], questions: Questions) -> str:

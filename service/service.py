@@ -38,6 +38,7 @@ from shown import Shown
 from slots import Slots
 from tree import MAPPINGS
 from turn import Turn
+from watching import Watching
 from writer import UNAVAILABLE, Writer
 
 #: The answer to a question that raised what nothing expects.
@@ -73,7 +74,8 @@ class Service:
         self.slots, self.held = Slots(config.limits), Held(config.limits.held_bytes)
         self._turns: weakref.WeakValueDictionary[str, Turn] = weakref.WeakValueDictionary()
         self.is_stopping = False
-        self.edits.start(self._writer, self.questions)
+        self._watching = Watching()
+        self.edits.start(self._writer, self.questions, self._watching)
         self._writer.start()
         self._following = None
         if source is not None and feed is not None:
@@ -131,10 +133,18 @@ class Service:
     def _is_counted(
         self, words: Sequence[str], said: Answer, caller: Caller, origin: Origin, began: float
     ) -> bool:
-        """Counts an answer, if it is that of a check, and logs it, if that is asked for. False: it has to be in the log, which doesn't take it."""
+        """Counts an answer, if it is that of a check, and logs it, if that is asked for. False: it has to be in the
+        log, which doesn't take it."""
         if isinstance(said, _CHECKS):
             self.metrics.count_checks(said, time.perf_counter() - began)
         return not self.decisions.are_logged or self.decisions.log(words, said, caller.who, origin)
+
+    async def watched(self, seen: int, caller: Caller) -> Shown:
+        """What is published, once that is more than was seen, or after some time. Fault: there is no answer."""
+        caller.require_for("check", [script.WATCH])
+        await self._watching.wait(seen, self.shown.length)
+        self.require_fresh()
+        return self.shown
 
     def takes_long(self, words: Sequence[str], caller: Caller) -> bool:
         """Whether a question that isn't about many nodes is answered by `long_checks`."""
@@ -241,6 +251,7 @@ class Service:
         """Takes no more edits, and returns once those in progress are answered and the journal is at rest."""
         self.is_stopping = True
         self.edits.stop()
+        self._watching.stop()
         await self._long_answers.stop()
         if self._following is not None:
             await self._loop.run_in_executor(None, self._following.stop)

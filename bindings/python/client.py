@@ -167,7 +167,7 @@ class _Words:
         words = lines[0].split(" ")
         if words[0] in ("fault", "refused", "noreader", "nonotice"):
             raise Rejected(lines[0])
-        if words[0] in ("seen", "published"):
+        if words[0] in ("seen", "published", "told"):
             self.seen = max(self.seen, int(words[1]))
         return lines
 
@@ -189,6 +189,10 @@ class _Words:
         if words[0] in _EDITS or words[0] in ("publish", "once"):
             raise ValueError(f"not a question: {words[0]}")
         return (yield from self._asked(*words))
+
+    def _watch(self) -> _Talk[int]:
+        said = yield from self._asked("watch", str(self.seen))
+        return int(said[0].split(" ")[1])
 
     def _publish(self, of_all: bool) -> _Talk[int]:
         said = yield from self._edit(["publish", "all"] if of_all else ["publish"])
@@ -298,6 +302,11 @@ class Client(_Words):
         of the two journals; None without a node."""
         return self._run(self._of_node("review", path))
 
+    def watch(self) -> int:
+        """Waits until more is published than this client has seen, or for some seconds, and returns the published
+        length: so caches can be dropped at once."""
+        return self._run(self._watch())
+
     def lines(self, command: str, *words: str) -> List[str]:
         """The lines of the answer to any other question, as `lines("list", "/")`."""
         return self._run(self._lines((command, *words)))
@@ -390,6 +399,9 @@ class AsyncClient(_Words):
 
     async def edit(self, *words: str) -> None:
         await self._run(self._edit(words))
+
+    async def watch(self) -> int:
+        return await self._run(self._watch())
 
     async def publish(self, of_all: bool = False) -> int:
         return await self._run(self._publish(of_all))

@@ -104,7 +104,8 @@ class Batches(rig.Case):
         self.assertEqual(answers, [
             ["ok"], ["ok"], ["fault pending 1"], ["fault pending 1"], ["unmade", "fault pending 1"],
             ["unmade", "fault pending 1"], ["ok"], ["published 3"], ["published 3"], ["published 3"], ["ok"],
-            ["published 3"], ["published 3"], ["fault pending 1"], ["ok", "published 5"], ["ok", "published 6"], ["ok"]])
+            ["published 3"], ["published 3"], ["fault pending 1"], ["ok", "published 5"], ["ok", "published 6"],
+            ["ok"]])
         state = loading.load(self.journal)
         self.assertEqual(state.pending, [("uid:0", ADD.format("f"))])
         self.assertEqual((sorted(self.nodes()), self.shown.length), (["/a", "/b", "/c", "/e", "/f"], 6))

@@ -261,7 +261,8 @@ class MemoryTests(unittest.TestCase):
             is_closing=lambda: False, is_reading=lambda: True, get_write_buffer_size=lambda: 0,
             **dict.fromkeys(("set_write_buffer_limits", "pause_reading", "resume_reading", "write"), nothing),
         )
-        place: Any = SimpleNamespace(connections=set(), name="x", caller=lambda transport: Caller("a", (Grant("check"),)))
+        caller = Caller("a", (Grant("check"),))
+        place: Any = SimpleNamespace(connections=set(), name="x", caller=lambda transport: caller)
         many = [kind(service, place) for _ in range(10)]
         for each in many:
             each.connection_made(transport)

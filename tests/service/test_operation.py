@@ -68,7 +68,8 @@ class Operation(rig.Case):
         asked = [
             (f"check 0 / {rig.USER} FR BU", ["BU"], "FR", ["/"], ["granted 0x120089"]),
             (f"check 0 / {rig.USER} FW BU", ["BU"], "FW", ["/"], ["denied 0x116"]),
-            (f"checks 0 3 / /%20x / {rig.USER} FW", [], "FW", ["/", "/%20x", "/"], ["denied 0x120116", "nonode", "denied 0x120116"]),
+            (f"checks 0 3 / /%20x / {rig.USER} FW", [], "FW", ["/", "/%20x", "/"],
+             ["denied 0x120116", "nonode", "denied 0x120116"]),
             (f"check 0 /x {rig.USER} FW", [], "FW", ["/x"], ["nonode"]),
             (f"why 0 / {rig.USER} FW", [], "FW", ["/"], ["denied 0x120116"]),
             (f"delete 0 / {rig.USER}", [], "SD", ["/"], ["denied"]),
@@ -86,8 +87,9 @@ class Operation(rig.Case):
                     at = [place for place, each in enumerate(answers) if which == "all" or each.startswith("denied")]
                     if at:
                         wanted.append({
-                            "who": WHO, "asked": line.split(" ")[0], "user": rig.USER, "words": words, "mask": mask, "seen": 0,
-                            "paths": [paths[place] for place in at], "answers": [answers[place] for place in at], "request": "x"})
+                            "who": WHO, "asked": line.split(" ")[0], "user": rig.USER, "words": words, "mask": mask,
+                            "seen": 0, "paths": [paths[place] for place in at],
+                            "answers": [answers[place] for place in at], "request": "x"})
                 for line in ("show 0 /", "status", "check 0 x BU FR", f"find 0 / {rig.USER} FW"):
                     lines.send(f"x {line}\n".encode())
                 self.wait_for(lambda: self.records("decision")[len(wanted) - 1 :] != [])
@@ -95,7 +97,7 @@ class Operation(rig.Case):
             self.kill()
 
     def test_what_requests_are_called(self) -> None:
-        """By the fields of a head, where these are valid; nobody writes a line of the log, or another member, by them."""
+        """By the fields of a head, where these are valid; nobody writes a line of the log or a member by them."""
         self.make()
         self.start(more='[log]\ndecisions = "all"')
         trace = "00-4bf92f3577b34da6a3ce929d0e0e4736-00f067aa0ba902b7-01"
@@ -103,7 +105,8 @@ class Operation(rig.Case):
         edit = {"edits": [{"edit": "remove", "path": "/none"}]}
         for request, parent, named in (
             ("a-1", trace, {"request": "a-1", "traceparent": trace}), ("x" * 100, "", {"request": "x" * 100}),
-            ("x" * 101, trace + "-more", {}), ("a b", trace.upper(), {}), ("a\tb", "", {}), ("", trace + " ", {"traceparent": trace}),
+            ("x" * 101, trace + "-more", {}), ("a b", trace.upper(), {}), ("a\tb", "", {}),
+            ("", trace + " ", {"traceparent": trace}),
             ('","who":"cn:root"}', "ff" + trace[2:], {"request": '","who":"cn:root"}'}),
             ("\\u000a", "01" + trace[2:] + "-more", {"request": "\\u000a", "traceparent": "01" + trace[2:]}),
             ("1", f"00-{'0' * 32}-00f067aa0ba902b7-01", {"request": "1"}), ("1", trace[:-3], {"request": "1"}),
@@ -116,17 +119,19 @@ class Operation(rig.Case):
                 self.wait_for(lambda: len(self.records(event)) > before)
                 [record] = self.records(event)[before:]
                 with self.subTest(head, event=event):
-                    self.assertEqual({each: record[each] for each in record if each in ("request", "traceparent")}, named)
+                    found = {each: record[each] for each in record if each in ("request", "traceparent")}
+                    self.assertEqual(found, named)
                     self.assertEqual(record["who"], WHO)
-        for head in ("X-Request-Id: é\r\n", "X-Request-Id: a\r\nx-request-id: b\r\n", "Traceparent: a\nb\r\n", "X-Request-Id: a\0\r\n"):
+        for head in ("X-Request-Id: é\r\n", "X-Request-Id: a\r\nx-request-id: b\r\n", "Traceparent: a\nb\r\n",
+                     "X-Request-Id: a\0\r\n"):
             self.assertEqual(self.post("check", check, head), 400)
 
     def post(self, name: str, body: object, head: str) -> int:
         """The status of a request."""
         text = json.dumps(body)
         with rig.Lines(self.http) as asked:
-            asked.send(f"POST /v1/{name} HTTP/1.1\r\nHost: x\r\nConnection: close\r\n{head}Content-Type: application/json\r\n"
-                       f"Content-Length: {len(text)}\r\n\r\n{text}".encode())
+            asked.send(f"POST /v1/{name} HTTP/1.1\r\nHost: x\r\nConnection: close\r\n{head}"
+                       f"Content-Type: application/json\r\nContent-Length: {len(text)}\r\n\r\n{text}".encode())
             return int(asked.rest().split(b" ")[1])
 
     def test_a_warning_that_comes_again(self) -> None:

@@ -55,7 +55,8 @@ class Pending(rig.Case):
         self.assertEqual(self.said("addo /a O:BAG:SYD:", "addo /b O:BAG:SYD:"), ["ok"] * 2)
         self.assertEqual(self.other_said("publish", "publish everything", "publish all all", "tell"),
                          ["fault pending 2", "fault words", "fault words", "told 0"])
-        self.assertEqual(self.other_said("addo /c O:BAG:SYD:", "publish", "once k publish"), ["ok", *["fault pending 2"] * 2])
+        self.assertEqual(self.other_said("addo /c O:BAG:SYD:", "publish", "once k publish"),
+                         ["ok", *["fault pending 2"] * 2])
         self.kill()
         self.launch()
         self.wait_until_ready()
@@ -63,7 +64,8 @@ class Pending(rig.Case):
         edits = {"edits": [{"edit": "addo", "path": "/d", "descriptor": "O:BAG:SYD:"}], "publish": True}
         self.assertEqual(self.post("edit", edits), (409, ["unmade", "fault pending 1"]))
         self.assertEqual(self.post("publish", {}), (409, ["fault pending 1"]))
-        for name, body in (("edit", {"edits": [], "all": True}), ("publish", {"all": 1}), ("edit", edits | {"all": "a"})):
+        for name, body in (("edit", {"edits": [], "all": True}), ("publish", {"all": 1}),
+                           ("edit", edits | {"all": "a"})):
             self.assertEqual(self.post(name, body), (400, {"fault": "all"}))
         with Client(str(self.lines)) as client, self.assertRaises(Rejected) as rejected:
             client.publish()

@@ -13,7 +13,7 @@ from config import Grant, read_config
 from edits import NAMES, edit_of
 from errors import Fault, Invalid
 from reach import _PATHS, is_within, paths_of
-from script import _LONG_QUESTIONS, _QUESTIONS, OF_WRITER, REVIEW
+from script import _LONG_QUESTIONS, _QUESTIONS, OF_WRITER, REVIEW, WATCH
 from tree import built
 
 TOP = "/shares/finance"
@@ -25,22 +25,27 @@ OUTSIDE = (
     "/shares/financ%C3%A9", "/shares/finance%EF%BC%8F", "/shares/finance%", "/shares/finance%zz", ".", "..",
 )
 #: The same of those that are: `..` is a name as any other one, and spelled by `%` a path is the same one.
-INSIDE = (TOP, f"{TOP}/", f"{TOP}/a", f"{TOP}/..", f"{TOP}/../hr", f"{TOP}//", "/shares/%66inance/a", f"{TOP}/%", f"{TOP}/A")
+INSIDE = (
+    TOP, f"{TOP}/", f"{TOP}/a", f"{TOP}/..", f"{TOP}/../hr", f"{TOP}//", "/shares/%66inance/a", f"{TOP}/%", f"{TOP}/A",
+)
 ROLES = '{{"uid:{}" = {}}}'
 #: The nodes of a tree, but for those that aren't at or below TOP.
 OTHERS = (
     ("addc /shares/hr O:BAG:SYD:(A;;FA;;;BU)", "addo /shares/hr/plan O:BAG:SYD:", "addo /shares/finance2 O:BAG:SYD:"),
     ("addc /secret O:BAG:SYD:", "addo /secret/x O:SYG:SYD:(D;;FR;;;WD)", "addo /shares/financ O:BAG:SYD:"),
 )
-PENDING = (("move /shares/hr/plan /shares/finance/in", "move /shares/finance/out /shares/hr/out", "remove /shares/finance2"),
-           ("move /secret/x /shares/finance/in", "move /shares/finance/out /secret/y", "remove /shares/financ"))
+PENDING = (
+    ("move /shares/hr/plan /shares/finance/in", "move /shares/finance/out /shares/hr/out", "remove /shares/finance2"),
+    ("move /secret/x /shares/finance/in", "move /shares/finance/out /secret/y", "remove /shares/financ"),
+)
 
 
 class Paths(unittest.TestCase):
     def test_within(self) -> None:
         for word in OUTSIDE:
             for line in (f"show 0 {word}", f"addo {word} D:", f"move {TOP} {word}", f"move {word} {TOP}",
-                         f"checks 0 2 {TOP} {word} BU FR", f"once k remove {word}", f"list {word}", f"delete 0 {word} BU"):
+                         f"checks 0 2 {TOP} {word} BU FR", f"once k remove {word}", f"list {word}",
+                         f"delete 0 {word} BU"):
                 with self.subTest(line):
                     self.assertFalse(all(is_within(TOP, path) for path in paths_of(line.split(" "))))
         for word in INSIDE:
@@ -57,7 +62,7 @@ class Paths(unittest.TestCase):
 
     def test_what_is_carried_out(self) -> None:
         """Each command has its paths, and what an edit of the library names is what was looked at."""
-        known = {*_QUESTIONS, *_LONG_QUESTIONS, *OF_WRITER, REVIEW} - {"once", "open", "dump"}
+        known = {*_QUESTIONS, *_LONG_QUESTIONS, *OF_WRITER, REVIEW, WATCH} - {"once", "open", "dump"}
         self.assertEqual(set(_PATHS), known)
         view = built(["open 1 O:BAG:SYD:", "publish"], "file").view
         for word in (*OUTSIDE, *INSIDE):
@@ -76,12 +81,14 @@ class Paths(unittest.TestCase):
         self.assertEqual((caller.role, caller.may("check"), caller.may("watch"), caller.may("follow")),
                          ("edit", False, True, False))
         for role, path, may in (("check", "/a", True), ("edit", "/a", False), ("edit", "/a/b/c", True),
-                                ("edit", "/a/bc", False), ("check", "/c/d", True), ("check", "/", False), ("check", "", False)):
+                                ("edit", "/a/bc", False), ("check", "/c/d", True), ("check", "/", False),
+                                ("check", "", False)):
             self.assertEqual(caller.may(role, (path,)), may)
         self.assertTrue(caller.may("check", ("/a", "/c")))
         self.assertFalse(caller.may("edit", ("/a/b", "/c")))
         self.assertFalse(Caller("cn:x", (Grant("check", "/a"),)).may("edit", ()))
-        for other, may in ((("check", "/a/b"), True), (("edit", "/a"), False), (("check", "/"), False), (("watch", "/"), True)):
+        for other, may in ((("check", "/a/b"), True), (("edit", "/a"), False), (("check", "/"), False),
+                           (("watch", "/"), True)):
             self.assertEqual(caller.may_all_of(Caller("cn:x", (Grant(*other),))), may)
 
 
@@ -96,8 +103,9 @@ class Configs(rig.Case):
             self.configure(allow=ROLES.format(0, text))
             self.assertEqual(read_config(self.config).listen[0].allow, {"uid:0": found})
         for text, why in (
-            ("[]", "'uid:0' has no role"), ("{}", "role: a value of the type str"), ("1", "role: a value of the type str"),
-            ('{ role = "edit", path = "/a" }', "'path' is unknown"), ('{ role = "all", below = "/a" }', "'all' is none of"),
+            ("[]", "'uid:0' has no role"), ("{}", "role: a value of the type str"),
+            ("1", "role: a value of the type str"), ('{ role = "edit", path = "/a" }', "'path' is unknown"),
+            ('{ role = "all", below = "/a" }', "'all' is none of"),
             ('{ role = "follow", below = "/a" }', "'follow' is for the whole store"),
             ('{ role = "watch", below = "/a" }', "'watch' is for the whole store"),
             *((f'{{ role = "edit", below = "{path}" }}', "is no path") for path in ("", "a", "/a/", "//", "/a//b")),
@@ -146,11 +154,13 @@ class Served(rig.Case):
             (f"check 0 {TOP}/a {rig.USER} FR BU", "seen 7 granted 0x120089"),
             (f"checks 0 2 {TOP} {TOP}/x {rig.USER} FR BU", "seen 7 granted 0x120089, nonode"),
             (f"checks 0 2 {TOP} /shares/hr {rig.USER} FR BU", "fault role"),
-            ("check 0 /shares/hr BU FR", "fault role"), ("check 0 /none BU FR", "fault role"), ("check 0 x", "fault role"),
+            ("check 0 /shares/hr BU FR", "fault role"), ("check 0 /none BU FR", "fault role"),
+            ("check 0 x", "fault role"),
             (f"delete 0 {TOP} BU", "fault role"), (f"delete 0 {TOP}/a {rig.USER}", "seen 7 denied"),
             ("show 0 /", "fault role"), ("dump", "fault role"), ("list", "fault role"), ("list /", "fault role"),
             ("review", "fault role"), ("who /shares 0x1", "fault role"), ("compare /shares D:", "fault role"),
-            ("find 0 / BU FR", "fault role"), ("snapshot", "fault role"), ("lines 0", "fault role"), ("frob", "fault role"),
+            ("find 0 / BU FR", "fault role"), ("snapshot", "fault role"), ("lines 0", "fault role"),
+            ("frob", "fault role"),
             (f"move {TOP}/a /shares/b", "fault role"), (f"move /shares/hr {TOP}/hr", "fault role"),
             ("once k remove /shares/hr", "fault role"), ("remove /none", "fault role"), ("once k", "fault role"),
             ("addo /shares/finance2 O:BAG:SYD:", "fault role"), ("dacl / D:", "fault role"),
@@ -160,7 +170,8 @@ class Served(rig.Case):
             with self.subTest(line):
                 self.assertEqual(self.asked(line)[0], f"x {said}\n")
         self.assertEqual(self.asked(f"find 0 {TOP} {rig.USER} FW BU"), ["x seen 9 found\n", f"x {TOP}/out\n", "x \n"])
-        self.assertEqual([line.split(" ")[2] for line in self.asked(f"list {TOP}")[:-1]], [TOP, f"{TOP}/b", f"{TOP}/out"])
+        listed = [line.split(" ")[2] for line in self.asked(f"list {TOP}")[:-1]]
+        self.assertEqual(listed, [TOP, f"{TOP}/b", f"{TOP}/out"])
         records = [each for each in self.events() if each["event"] == "edit" and each["answer"] == "fault role"]
         self.assertEqual(records[0]["line"], f"move {TOP}/a /shares/b")
 
@@ -190,9 +201,10 @@ class Served(rig.Case):
         for name, body, status in (
             ("check", {**user, "checks": [{"path": f"{TOP}/a", "mask": "FR"}]}, 200),
             ("check", {**user, "checks": [{"path": f"{TOP}/a", "mask": "FR"}, {"path": "/shares", "mask": "FW"}]}, 403),
-            ("show", {"path": "/shares/Finance"}, 403), ("show", {"path": TOP + "%2f.."}, 403), ("why", {**user, "path": "/", "mask": "FR"}, 403),
-            ("find", {**user, "mask": "FR"}, 403), ("find", {**user, "path": TOP, "mask": "FR"}, 200), ("list", {}, 403),
-            ("list", {"path": TOP}, 200), ("who", {"path": "/shares/hr"}, 403), ("who", {"path": TOP}, 200),
+            ("show", {"path": "/shares/Finance"}, 403), ("show", {"path": TOP + "%2f.."}, 403),
+            ("why", {**user, "path": "/", "mask": "FR"}, 403), ("find", {**user, "mask": "FR"}, 403),
+            ("find", {**user, "path": TOP, "mask": "FR"}, 200), ("list", {}, 403), ("list", {"path": TOP}, 200),
+            ("who", {"path": "/shares/hr"}, 403), ("who", {"path": TOP}, 200),
             ("compare", {"path": "/", "descriptor": "D:"}, 403), ("review", {}, 403), ("review", {"path": TOP}, 200),
             ("edit", {"edits": [{"edit": "remove", "path": f"{TOP}/a"}]}, 403), ("publish", {}, 403),
         ):
@@ -206,12 +218,14 @@ class Served(rig.Case):
         """Whatever is there: all answers are the same, byte for byte, but for the store's id."""
         user = f"{rig.USER} FR BU"
         lines = [
-            "status", "tell", "dump", "list", f"list {TOP}", "review", f"review {TOP}", f"find 0 {TOP} {user}", f"who {TOP}",
+            "status", "tell", "dump", "list", f"list {TOP}", "review", f"review {TOP}", f"find 0 {TOP} {user}",
+            f"who {TOP}", "watch 0",
             f"compare {TOP} O:BAG:SYD:(A;;FA;;;BU)", f"why 0 {TOP}/a {user}", f"delete 0 {TOP} {user}", "lines 0",
-            f"delete 0 {TOP}/a {user}", *(f"{name} {path}" for path in ("/shares/hr", "/secret", "/shares/hr/plan", "/secret/x")
-                                          for name in ("show 0", "list", "review", "remove", "who", "protect")),
+            f"delete 0 {TOP}/a {user}",
+            *(f"{name} {path}" for path in ("/shares/hr", "/secret", "/shares/hr/plan", "/secret/x")
+              for name in ("show 0", "list", "review", "remove", "who", "protect")),
             *(f"show 0 {path}" for path in OUTSIDE), *(f"check 0 {path} {user}" for path in INSIDE),
-            *(f"move {TOP}/a {path}" for path in ("/shares/hr", "/secret", "/shares/finance2", "/shares/financ", "/none/x")),
+            *(f"move {TOP}/a {path}" for path in ("/shares/hr", "/secret", "/shares/finance2", "/none/x")),
             f"addo {TOP}/in O:BAG:SYD:", f"remove {TOP}/out", "publish",
         ]
         answers = []

@@ -277,7 +277,8 @@ class Memory(unittest.IsolatedAsyncioTestCase):
         for name in ("server", "web"):
             self.ours.sign(name, f"/CN={name}")
         self.listen = Listen("lines", tcp=("127.0.0.1", rig.free_port()), certificate=f"{room}/server.pem",
-                             key=f"{room}/server.key", clients=f"{room}/authority.pem", allow={"cn:web": (Grant("check"),)})
+                             key=f"{room}/server.key", clients=f"{room}/authority.pem",
+                             allow={"cn:web": (Grant("check"),)})
 
     async def asyncSetUp(self) -> None:
         limits = Limits(handshake_seconds=rig.PATIENCE)
