@@ -15,7 +15,7 @@ import time
 import unittest
 from collections.abc import Callable
 from pathlib import Path
-from typing import BinaryIO
+from typing import Any, BinaryIO
 
 TOP = Path(__file__).resolve().parents[2]
 SERVICE = TOP / "service"
@@ -241,6 +241,15 @@ class Case(unittest.TestCase):
             asked.send(f"GET {target} HTTP/1.1\r\nHost: x\r\nConnection: close\r\n\r\n".encode())
             head, _, body = asked.rest().decode().partition("\r\n\r\n")
         return int(head.split(" ")[1]), body
+
+    def post(self, name: str, body: object, head: str = "", where: Path | None = None) -> tuple[int, Any]:
+        """The status and the answer of a request below /v1/, with these lines of a head."""
+        text = json.dumps(body)
+        with Lines(where or self.http) as asked:
+            asked.send(f"POST /v1/{name} HTTP/1.1\r\nHost: x\r\nConnection: close\r\n{head}"
+                       f"Content-Type: application/json\r\nContent-Length: {len(text)}\r\n\r\n{text}".encode())
+            first, _, said = asked.rest().decode().partition("\r\n\r\n")
+        return int(first.split(" ")[1]), json.loads(said)
 
     def metrics(self) -> dict[str, float]:
         """What /metrics shows, in which promtool finds no fault, if it is there."""

@@ -1,6 +1,5 @@
 """What an operator sees: the records of the log, what systemd is sent, and when a service is ready."""
 
-import json
 import os
 import signal
 import socket
@@ -115,7 +114,7 @@ class Operation(rig.Case):
             head = f"X-Request-Id: {request}\r\nTraceParent: {parent}\r\n"
             for name, body, event in (("check", check, "decision"), ("edit", edit, "edit")):
                 before = len(self.records(event))
-                self.assertIn(self.post(name, body, head), (200, 409))
+                self.assertIn(self.post(name, body, head)[0], (200, 409))
                 self.wait_for(lambda: len(self.records(event)) > before)
                 [record] = self.records(event)[before:]
                 with self.subTest(head, event=event):
@@ -124,15 +123,7 @@ class Operation(rig.Case):
                     self.assertEqual(record["who"], WHO)
         for head in ("X-Request-Id: é\r\n", "X-Request-Id: a\r\nx-request-id: b\r\n", "Traceparent: a\nb\r\n",
                      "X-Request-Id: a\0\r\n"):
-            self.assertEqual(self.post("check", check, head), 400)
-
-    def post(self, name: str, body: object, head: str) -> int:
-        """The status of a request."""
-        text = json.dumps(body)
-        with rig.Lines(self.http) as asked:
-            asked.send(f"POST /v1/{name} HTTP/1.1\r\nHost: x\r\nConnection: close\r\n{head}"
-                       f"Content-Type: application/json\r\nContent-Length: {len(text)}\r\n\r\n{text}".encode())
-            return int(asked.rest().split(b" ")[1])
+            self.assertEqual(self.post("check", check, head)[0], 400)
 
     def test_a_warning_that_comes_again(self) -> None:
         """It is there once a minute, with how often it came."""

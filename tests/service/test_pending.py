@@ -1,6 +1,5 @@
 """Pending edits of two clients: whose a publish is of, over both protocols, after a kill and where replicas lead."""
 
-import json
 import os
 import subprocess
 import sys
@@ -40,14 +39,10 @@ class Pending(rig.Case):
         done = subprocess.run(command, capture_output=True, text=True, timeout=rig.PATIENCE, check=True)
         return done.stdout.splitlines()
 
-    def post(self, name: str, body: object) -> tuple[int, object]:
-        text = json.dumps(body)
-        head = f"POST /v1/{name} HTTP/1.1\r\nHost: x\r\nConnection: close\r\nContent-Type: application/json\r\n"
-        with rig.Lines(self.http) as asked:
-            asked.send(f"{head}Content-Length: {len(text)}\r\n\r\n{text}".encode())
-            head, _, said = asked.rest().decode().partition("\r\n\r\n")
-        found = json.loads(said)
-        return int(head.split(" ")[1]), [each["answer"] for each in found["answers"]] if "answers" in found else found
+    def posted(self, name: str, body: object) -> tuple[int, object]:
+        """The status of a request, and its answers, or its fault."""
+        status, found = self.post(name, body)
+        return status, [each["answer"] for each in found["answers"]] if "answers" in found else found
 
     def test_two_clients(self) -> None:
         self.make()
@@ -62,15 +57,15 @@ class Pending(rig.Case):
         self.wait_until_ready()
         self.assertEqual(self.said("publish", "tell"), ["fault pending 1", "told 0"])
         edits = {"edits": [{"edit": "addo", "path": "/d", "descriptor": "O:BAG:SYD:"}], "publish": True}
-        self.assertEqual(self.post("edit", edits), (409, ["unmade", "fault pending 1"]))
-        self.assertEqual(self.post("publish", {}), (409, ["fault pending 1"]))
+        self.assertEqual(self.posted("edit", edits), (409, ["unmade", "fault pending 1"]))
+        self.assertEqual(self.posted("publish", {}), (409, ["fault pending 1"]))
         for name, body in (("edit", {"edits": [], "all": True}), ("publish", {"all": 1}),
                            ("edit", edits | {"all": "a"})):
-            self.assertEqual(self.post(name, body), (400, {"fault": "all"}))
+            self.assertEqual(self.posted(name, body), (400, {"fault": "all"}))
         with Client(str(self.lines)) as client, self.assertRaises(Rejected) as rejected:
             client.publish()
         self.assertEqual(str(rejected.exception), "fault pending 1")
-        self.assertEqual(self.post("edit", edits | {"all": True}), (200, ["ok", "published 4"]))
+        self.assertEqual(self.posted("edit", edits | {"all": True}), (200, ["ok", "published 4"]))
         self.assertEqual(self.other_said("addo /e O:BAG:SYD:", "once k publish", "once k publish all"),
                          ["ok", "published 5", "published 5"])
         self.assertEqual(self.other_said("addo /f O:BAG:SYD:"), ["ok"])

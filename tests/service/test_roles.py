@@ -2,9 +2,9 @@
 
 import json
 import os
+import signal
 import unittest
 from collections.abc import Sequence
-from pathlib import Path
 
 import rig
 
@@ -140,14 +140,6 @@ class Served(rig.Case):
                 lines.append(said)
             return lines
 
-    def post(self, where: Path, name: str, body: object) -> tuple[int, dict[str, object]]:
-        text = json.dumps(body)
-        head = f"POST /v1/{name} HTTP/1.1\r\nHost: x\r\nConnection: close\r\nContent-Type: application/json\r\n"
-        with rig.Lines(where) as asked:
-            asked.send(f"{head}Content-Length: {len(text)}\r\n\r\n{text}".encode())
-            head, _, body = asked.rest().decode().partition("\r\n\r\n")
-        return int(head.split(" ")[1]), json.loads(body)
-
     def test_lines(self) -> None:
         self.serve('{ role = "edit", below = "/shares/finance" }', OTHERS[0])
         for line, said in (
@@ -184,14 +176,30 @@ class Served(rig.Case):
         self.assertEqual(self.asked("remove /shares/hr")[0], "x fault role\n")
         self.assertEqual(self.asked("status")[0], f"x {self.said('status')[0]}\n")
 
+    def test_a_role_that_is_narrowed(self) -> None:
+        """SIGHUP narrows it for connections that are there; and an answer in the making, to who may do less, is none."""
+        self.serve('"edit"', OTHERS[0])
+        narrow = self.config.read_text().replace('= "edit"}\n', '= { role = "edit", below = "/shares/finance" }}\n')
+        with rig.Lines(self.scoped) as asked, rig.Lines(self.scoped) as waiting:
+            self.assertEqual(asked.ask("remove /shares/hr/plan"), "ok")
+            waiting.send(b"x watch 7\n")
+            self.assertEqual(asked.ask("tell"), "told 7")
+            self.config.write_text(narrow)
+            self.process.send_signal(signal.SIGHUP)
+            self.wait_for(lambda: any(each["event"] == "reloaded" for each in self.events()))
+            self.assertEqual(asked.ask("show 0 /shares/hr"), "fault role")
+            self.assertEqual(asked.ask(f"remove {TOP}/a"), "ok")
+            self.assertEqual(asked.ask("publish all"), "fault role")
+            self.assertEqual(waiting.rest(), b"")
+
     def test_publish(self) -> None:
         """It publishes nothing of other paths, though the client made that while it might."""
         self.serve('{ role = "edit", below = "/shares/finance" }', OTHERS[0])
         self.assertEqual(self.said("remove /shares/hr/plan"), ["ok"])
         self.assertEqual(self.asked(f"remove {TOP}/a") + self.asked("publish"), ["x ok\n", "x fault role\n"])
         edits = {"edits": [{"edit": "remove", "path": f"{TOP}/out"}], "publish": True}
-        self.assertEqual(self.post(self.scoped_http, "edit", edits), (403, {"fault": "role"}))
-        self.assertEqual(self.post(self.scoped_http, "publish", {}), (403, {"fault": "role"}))
+        self.assertEqual(self.post("edit", edits, where=self.scoped_http), (403, {"fault": "role"}))
+        self.assertEqual(self.post("publish", {}, where=self.scoped_http), (403, {"fault": "role"}))
         self.assertEqual(self.said("tell", "publish"), ["told 7", "published 9"])
         self.assertEqual(self.asked(f"remove {TOP}/out") + self.asked("publish"), ["x ok\n", "x published 10\n"])
 
@@ -209,7 +217,7 @@ class Served(rig.Case):
             ("edit", {"edits": [{"edit": "remove", "path": f"{TOP}/a"}]}, 403), ("publish", {}, 403),
         ):
             with self.subTest(name, body=body):
-                said = self.post(self.scoped_http, name, body)
+                said = self.post(name, body, where=self.scoped_http)
                 self.assertEqual(said[0], status)
                 if status == 403:
                     self.assertEqual(said[1], {"fault": "role"})
