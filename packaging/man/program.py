@@ -81,9 +81,10 @@ class Program:
 
     def values_of(self, option: Described) -> list[str]:
         """The possible values of an option, where the help lists them: with the option, those of --logon in quotes, and
-        those of --mapping in the table of the generic rights."""
+        those of --mapping in the table of the generic rights, where a row names further ones in quotes."""
         if "--mapping" in option.names:
-            return re.findall(r"^  ([a-z]+) +GR 0x", self.commands["verdict"].notes, re.MULTILINE)
+            rows = re.findall(r"^  ([a-z]+) +GR 0x(.*)$", self.commands["verdict"].notes, re.MULTILINE)
+            return [kind for first, rest in rows for kind in (first, *re.findall("'([a-z]+)'", rest))]
         if "--logon" in option.names:
             return [each for each in re.findall("'([a-z]+)'", option.text) if each not in self.names]
         return option.values
