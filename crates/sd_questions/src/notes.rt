@@ -30,53 +30,17 @@ pub(crate) fn notes_on(
     text: &str,
 ) -> Result<String, AllocError> {
     let mut notes = String::new(alloc);
-    match (request.question, request.arguments) {
-        (
-            TextCommand::Descriptor(DescriptorCommand::Verdict | DescriptorCommand::Why),
-            [_user, mask, words @ ..],
-        ) => {
-            push_empty(alloc, text, &mut notes)?;
-            push_flag(alloc, settings, text, &mut notes)?;
-            push_limits(alloc, settings, false, text, &mut notes)?;
-            push_mask(alloc, mask, words, &mut notes)?;
-            push_view(alloc, settings, mask, true, &mut notes)?;
-            push_lacking(alloc, settings, text, request.arguments, &mut notes)?;
-            push_repeated(alloc, settings, request.arguments, &mut notes)?;
+    let arguments = request.arguments;
+    match (request.question, arguments) {
+        (TextCommand::Descriptor(question), _) => {
+            push_on_descriptor(alloc, settings, question, text, arguments, &mut notes)?;
         }
         (TextCommand::Types, [_tree, asked @ ..]) => {
-            push_empty(alloc, text, &mut notes)?;
-            push_limits(alloc, settings, false, text, &mut notes)?;
-            if let [_user, mask, words @ ..] = asked {
-                push_mask(alloc, mask, words, &mut notes)?;
-                push_view(alloc, settings, mask, true, &mut notes)?;
-            }
-            push_lacking_of_nodes(alloc, settings, text, request.arguments, &mut notes)?;
+            push_on_request(alloc, settings, text, asked, &mut notes)?;
+            push_lacking_of_nodes(alloc, settings, text, arguments, &mut notes)?;
             push_repeated(alloc, settings, asked, &mut notes)?;
         }
-        (TextCommand::Descriptor(DescriptorCommand::Who), [mask, words @ ..]) => {
-            push_empty(alloc, text, &mut notes)?;
-            push_limits(alloc, settings, true, text, &mut notes)?;
-            push_mask(alloc, mask, words, &mut notes)?;
-            push_view(alloc, settings, mask, false, &mut notes)?;
-            push_children(alloc, settings, text, &mut notes)?;
-        }
-        (TextCommand::Descriptor(DescriptorCommand::Compare), [new, ..]) => {
-            push_critical(alloc, settings, "OLD", text, &mut notes)?;
-            push_critical(alloc, settings, "NEW", new, &mut notes)?;
-        }
-        (TextCommand::Descriptor(DescriptorCommand::Lint), _) => {
-            push_critical(alloc, settings, "SDDL", text, &mut notes)?;
-            push_no_risk(alloc, settings, &mut notes)?;
-        }
-        (
-            TextCommand::Descriptor(
-                DescriptorCommand::Print | DescriptorCommand::Sort | DescriptorCommand::ToBinary,
-            )
-            | TextCommand::Change(_),
-            _,
-        ) => {
-            push_empty(alloc, text, &mut notes)?;
-        }
+        (TextCommand::Change(_), _) => push_empty(alloc, text, &mut notes)?,
         (TextCommand::FromBinary, _) if settings.without_bits && !settings.whole => {
             let note = told_line(alloc, "--without-bits", UNNAMED_BITS)?;
             notes.push_str(note.as_str())?;
@@ -84,6 +48,57 @@ pub(crate) fn notes_on(
         _ => {}
     }
     Ok(notes)
+}
+
+fn push_on_descriptor(
+    alloc: Global,
+    settings: &Settings,
+    question: DescriptorCommand,
+    text: &str,
+    arguments: &[&str],
+    notes: &mut String,
+) -> Result<(), AllocError> {
+    match (question, arguments) {
+        (DescriptorCommand::Verdict | DescriptorCommand::Why, _) => {
+            push_flag(alloc, settings, text, notes)?;
+            push_on_request(alloc, settings, text, arguments, notes)?;
+            push_lacking(alloc, settings, text, arguments, notes)?;
+            push_repeated(alloc, settings, arguments, notes)
+        }
+        (DescriptorCommand::Who, [mask, words @ ..]) => {
+            push_empty(alloc, text, notes)?;
+            push_limits(alloc, settings, true, text, notes)?;
+            push_mask(alloc, mask, words, notes)?;
+            push_view(alloc, settings, mask, false, notes)?;
+            push_children(alloc, settings, text, notes)
+        }
+        (DescriptorCommand::Compare, [new, ..]) => {
+            push_critical(alloc, settings, "OLD", text, notes)?;
+            push_critical(alloc, settings, "NEW", new, notes)
+        }
+        (DescriptorCommand::Lint, _) => {
+            push_critical(alloc, settings, "SDDL", text, notes)?;
+            push_no_risk(alloc, settings, notes)
+        }
+        _ => push_empty(alloc, text, notes),
+    }
+}
+
+/// What concerns a request for rights, where the arguments are a user, a mask and words.
+fn push_on_request(
+    alloc: Global,
+    settings: &Settings,
+    text: &str,
+    arguments: &[&str],
+    notes: &mut String,
+) -> Result<(), AllocError> {
+    push_empty(alloc, text, notes)?;
+    push_limits(alloc, settings, false, text, notes)?;
+    if let [_user, mask, words @ ..] = arguments {
+        push_mask(alloc, mask, words, notes)?;
+        push_view(alloc, settings, mask, true, notes)?;
+    }
+    Ok(())
 }
 
 /// Notes that the text is empty, as of an unset variable.
